@@ -1,0 +1,79 @@
+-- The twelve marked examples, P1 to P12, as one table under one claim.
+-- Assumes nothing.
+use Prim.Native.Nat.{ℕ}
+use mathlib.Core.Bool.{Bool, true, false, not, _&&_, _||_}
+use mathlib.Core.List.{List, [], _∷_, _++_, flatMap}
+use lib.ListN.{length, take, drop, replicate, set}
+use lib.Seq.{sets}
+use lib.Dec.{T}
+use Rattle.number.specs.Number.{bytesOf, numberOf}
+use Rattle.layout.specs.Recording.{fileMark, shortString, tableBytes, tagBytes, sizedBytes, frameHeadBytes, frameBytes, entryBytes, entriesBytes, firstTime, indexBytes, every, same, among, distinct, isNameByte, isTagByte, legalSectionName, legalTagName, legalTagValue, tagNames, follows, follow, inOrder}
+use Rattle.layout.specs.Reading.{onward, give, _then_, only, times, exactly, valueOr, taken, number, block, string, definition, definedNames, definitions, tag, table, sized, frame, stopped, longer, walk}
+use Rattle.layout.specs.Opening.{firstOf, field, headerCount, indexOffset, systemOffset, userOffset, readDefinitions, definedIn, readSystem, readUser, walkStart, walkOf, counted, notFstf, otherRevision, steps, offsetsLegal, lastOffset, badSections, badSystem, notClosed, badIndex, badUser, frontLines, openingLines, refusal, nextOffset, sectionsFrom, shown}
+use Rattle.layout.specs.Recorder.{tooLong}
+use Rattle.layout.specs.Repair.{walked, keptLength, keptCount, tail, repairLines, repairRefusal, Repair, repairAnswer, repair, withFields, repaired}
+use Rattle.layout.specs.Saving.{tagValue, malformed, entryOf, seenOf, change, changeNames, sheet, changesOf, lookUp, sameEntry, agrees, conflicts, someConflict, conflictPlace, newEntry, tagWith, kept, new, applied, userTags, newTable, saveLines, saveRefusal, Save, saveAnswer, save}
+
+-- "A whole file, 98 bytes"
+theFile : List ℕ
+theFile =
+    0x46 ∷ 0x53 ∷ 0x54 ∷ 0x46 ∷ 0x01 ∷ 0x01 ∷ 0x00 ∷ 0x00 ∷ 0x00 ∷ 0x4A ∷ 0x00 ∷ 0x00 ∷ 0x00 ∷ 0x00 ∷ 0x00 ∷ 0x00 ∷ 0x00
+    ∷ 0x30 ∷ 0x00 ∷ 0x00 ∷ 0x00 ∷ 0x00 ∷ 0x00 ∷ 0x00 ∷ 0x00 ∷ 0x5E ∷ 0x00 ∷ 0x00 ∷ 0x00 ∷ 0x00 ∷ 0x00 ∷ 0x00 ∷ 0x00
+    ∷ 0x01 ∷ 0x05 ∷ 0x49 ∷ 0x4D ∷ 0x41 ∷ 0x47 ∷ 0x45 ∷ 0x30 ∷ 0x00 ∷ 0x00 ∷ 0x00 ∷ 0x00 ∷ 0x00 ∷ 0x00 ∷ 0x00
+    ∷ 0x00 ∷ 0x00 ∷ 0x00 ∷ 0x00
+    ∷ 0xFF ∷ 0x22 ∷ 0x01 ∷ 0xEE ∷ 0xE8 ∷ 0x03 ∷ 0x00 ∷ 0x00 ∷ 0x00 ∷ 0x00 ∷ 0x00 ∷ 0x00 ∷ 0x28 ∷ 0x00 ∷ 0x00 ∷ 0x00 ∷ 0x02 ∷ 0x00 ∷ 0x00 ∷ 0x00 ∷ 0x34 ∷ 0x12
+    ∷ 0x01 ∷ 0x00 ∷ 0x00 ∷ 0x00 ∷ 0x00 ∷ 0x00 ∷ 0x00 ∷ 0x00 ∷ 0x34 ∷ 0x00 ∷ 0x00 ∷ 0x00 ∷ 0x00 ∷ 0x00 ∷ 0x00 ∷ 0x00 ∷ 0x16 ∷ 0x00 ∷ 0x00 ∷ 0x00
+    ∷ 0x00 ∷ 0x00 ∷ 0x00 ∷ 0x00
+    ∷ []
+
+-- "the same recording before closing": no count, no index offset, no user offset, and nothing behind the frame
+unclosed : List ℕ
+unclosed = take 74 (sets (sets (sets theFile 5 (replicate 4 0)) 9 (replicate 8 0)) 25 (replicate 8 0))
+
+-- P11's sheet: the tag SITE, seen absent, becomes A
+theSheet : List ℕ
+theSheet = 0x01 ∷ 0x04 ∷ 0x53 ∷ 0x49 ∷ 0x54 ∷ 0x45 ∷ 0x00 ∷ 0x01 ∷ 0x01 ∷ 0x41 ∷ []
+
+tableWithSite : List ℕ
+tableWithSite = 0x01 ∷ 0x00 ∷ 0x00 ∷ 0x00 ∷ 0x04 ∷ 0x53 ∷ 0x49 ∷ 0x54 ∷ 0x45 ∷ 0x01 ∷ 0x41 ∷ []
+
+-- a refusal number alone, a repair and a save as numbers in a row
+opens : List ℕ → List ℕ
+opens f = refusal f ∷ []
+
+repairs : List ℕ → List ℕ
+repairs f = let r = repair f 98 in r .refused ∷ r .kept ∷ r .index ∷ r .user ∷ r .tail
+
+saves : List ℕ → List ℕ
+saves f = let s = save f theSheet 98 in s .refused ∷ s .place ∷ s .table
+
+pub record Row : Type 0 where
+  given : List ℕ
+  expected : List ℕ
+
+row : List ℕ → List ℕ → Row
+row g e = record { given = g; expected = e }
+
+pub rows : List Row
+rows =
+    row (refusal theFile ∷ length (shown theFile .frames) ∷ []) (0 ∷ 1 ∷ [])
+    ∷ row (opens (take 97 theFile)) (7 ∷ [])
+    ∷ row (opens (set theFile 4 2)) (2 ∷ [])
+    ∷ row (opens (sets theFile 9 (bytesOf 8 0))) (5 ∷ [])
+    ∷ row (opens (sets theFile 9 (bytesOf 8 75))) (6 ∷ [])
+    ∷ row (opens (sets theFile 5 (bytesOf 4 2))) (6 ∷ [])
+    ∷ row (opens (take 33 theFile)) (1 ∷ [])
+    ∷ row (repairs (take 73 unclosed)) (0 ∷ 52 ∷ 52 ∷ 56 ∷ replicate 8 0)
+    ∷ row (repaired unclosed (repair unclosed 98)) theFile
+    ∷ row (repair (take 51 unclosed) 98 .refused ∷ opens (take 51 unclosed)) (4 ∷ 4 ∷ [])
+    ∷ row (saves theFile) (0 ∷ 0 ∷ tableWithSite)
+    ∷ row (saves (take 94 theFile ++ tableWithSite)) (11 ∷ 0 ∷ [])
+    ∷ []
+
+pub holdsAt : Row → Bool
+holdsAt r = same (r .given) (r .expected)
+
+-- P1 to P12 hold of the definitions
+pub examples : T (every holdsAt rows)
+unfolding theFile unclosed theSheet tableWithSite opens repairs saves row rows holdsAt bytesOf numberOf flatMap fileMark shortString tableBytes tagBytes sizedBytes frameHeadBytes frameBytes entryBytes entriesBytes firstTime indexBytes every same among distinct isNameByte isTagByte legalSectionName legalTagName legalTagValue tagNames follows follow inOrder onward give _then_ only times exactly valueOr taken number block string definition definedNames definitions tag table sized frame stopped longer walk firstOf field headerCount indexOffset systemOffset userOffset readDefinitions definedIn readSystem readUser walkStart walkOf counted notFstf otherRevision steps offsetsLegal lastOffset badSections badSystem notClosed badIndex badUser frontLines openingLines refusal nextOffset sectionsFrom shown tooLong walked keptLength keptCount tail repairLines repairRefusal repairAnswer repair withFields repaired tagValue malformed entryOf seenOf change changeNames sheet changesOf lookUp sameEntry agrees conflicts someConflict conflictPlace newEntry tagWith kept new applied userTags newTable saveLines saveRefusal saveAnswer save
+examples = tt

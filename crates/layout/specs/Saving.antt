@@ -1,0 +1,143 @@
+-- "Saving tags": sheets, and the save's order 1 to 7, 10, 11 with its place, 17, 9.
+use Prim.Native.Nat.{ℕ, zero, suc, _+_}
+use mathlib.Core.Bool.{Bool, true, false, not, _||_, cond}
+use mathlib.Core.List.{List, [], _∷_, _++_, map}
+use lib.ListN.{length}
+use lib.Dec.{ltb, eqb}
+use Rattle.layout.specs.Recording.{Tag, Recording, mostTags, within, same, among, distinct, legalTagName, legalTagValue, tagNames, tableBytes}
+use Rattle.layout.specs.Reading.{Parsed, Reader, bad, good, onward, _then_, only, give, exactly, times, number, string, isBad, valueOr}
+use Rattle.layout.specs.Opening.{Line, line, firstOf, openingLines, shown}
+use Rattle.layout.specs.Recorder.{noRoom}
+
+-- ── Sheets ──
+
+-- a tag's place in a table as one sees it: absent, or a value; the two differ where the value is empty
+pub data Entry : Type 0 where
+  absent : Entry
+  holds : List ℕ → Entry
+
+-- "0 absent, 1 a value, which follows, 2 nobody looked"
+pub data Seen : Type 0 where
+  saw : Entry → Seen
+  nobodyLooked : Seen
+
+pub record Change : Type 0 where
+  pub name : List ℕ
+  pub seen : Seen
+  pub new : Entry
+
+abbrev pub mostChanges : ℕ
+mostChanges = 64
+
+unfoldable pub tagValue : Reader (List ℕ)
+tagValue = only legalTagValue string
+
+unfoldable pub malformed : {A : Type 0} → Reader A
+malformed s = bad
+
+-- what a kind byte asks for
+unfoldable pub entryOf : (kind : ℕ) → Reader Entry
+entryOf kind = cond (eqb kind 0) (give absent) (cond (eqb kind 1) (tagValue then λ v. give (holds v)) malformed)
+
+unfoldable pub seenOf : (kind : ℕ) → Reader Seen
+seenOf kind = cond (eqb kind 2) (give nobodyLooked) (entryOf kind then λ e. give (saw e))
+
+unfoldable pub change : Reader Change
+change =
+    only legalTagName string then λ n. (number 1 then seenOf) then λ s. (number 1 then entryOf) then λ e.
+    give (record { name = n; seen = s; new = e })
+
+unfoldable pub changeNames : List Change → List (List ℕ)
+changeNames = map (λ c. c .name)
+
+unfoldable pub sheet : Reader (List Change)
+sheet = only (λ cs. distinct (changeNames cs)) (only (within 0 mostChanges) (number 1) then λ n. times n change)
+
+unfoldable pub changesOf : List ℕ → List Change
+changesOf bytes = valueOr [] (exactly sheet bytes)
+
+-- ── To look: all seen entries are compared with the table before the save ──
+
+-- what a table has under a name
+unfoldable pub lookUp : List ℕ → List Tag → Entry
+lookUp name [] = absent
+lookUp name (t ∷ ts) = cond (same name (t .name)) (holds (t .value)) (lookUp name ts)
+
+unfoldable pub sameEntry : Entry → Entry → Bool
+sameEntry absent absent = true
+sameEntry absent (holds v) = false
+sameEntry (holds v) absent = false
+sameEntry (holds v) (holds w) = same v w
+
+unfoldable pub agrees : Seen → Entry → Bool
+agrees (saw e) found = sameEntry e found
+agrees nobodyLooked found = true
+
+unfoldable pub conflicts : List Tag → Change → Bool
+conflicts ts c = not (agrees (c .seen) (lookUp (c .name) ts))
+
+unfoldable pub someConflict : List Tag → List Change → Bool
+someConflict ts [] = false
+someConflict ts (c ∷ cs) = conflicts ts c || someConflict ts cs
+
+-- "the lowest such place, from 0"
+unfoldable pub conflictPlace : List Tag → List Change → ℕ
+conflictPlace ts [] = 0
+conflictPlace ts (c ∷ cs) = cond (conflicts ts c) 0 (suc (conflictPlace ts cs))
+
+-- ── To apply ──
+
+-- what a sheet says of a name, or what is there
+unfoldable pub newEntry : List Change → Tag → Entry
+newEntry [] t = holds (t .value)
+newEntry (c ∷ cs) t = cond (same (c .name) (t .name)) (c .new) (newEntry cs t)
+
+unfoldable pub tagWith : List ℕ → Entry → List Tag
+tagWith name absent = []
+tagWith name (holds v) = record { name = name; value = v } ∷ []
+
+-- "Kept tags keep their order and a changed tag its place; removed tags vanish"
+unfoldable pub kept : List Change → List Tag → List Tag
+kept cs [] = []
+kept cs (t ∷ ts) = tagWith (t .name) (newEntry cs t) ++ kept cs ts
+
+-- "new ones come last in sheet order"
+unfoldable pub new : List Tag → List Change → List Tag
+new ts [] = []
+new ts (c ∷ cs) = cond (among (c .name) (tagNames ts)) [] (tagWith (c .name) (c .new)) ++ new ts cs
+
+unfoldable pub applied : List Change → List Tag → List Tag
+applied cs ts = kept cs ts ++ new ts cs
+
+-- ── The save ──
+
+unfoldable pub userTags : List ℕ → List Tag
+userTags f = shown f .user
+
+unfoldable pub newTable : (f sheet : List ℕ) → List Tag
+newTable f bytes = applied (changesOf bytes) (userTags f)
+
+unfoldable pub saveLines : (f sheet : List ℕ) → (room : ℕ) → List Line
+saveLines f bytes room =
+    openingLines f
+    ++ (line 10 (isBad (exactly sheet bytes))
+    ∷ line 11 (someConflict (userTags f) (changesOf bytes))
+    ∷ line 17 (ltb mostTags (length (newTable f bytes)))
+    ∷ line 9 (noRoom room (length (tableBytes (newTable f bytes))))
+    ∷ [])
+
+unfoldable pub saveRefusal : (f sheet : List ℕ) → (room : ℕ) → ℕ
+saveRefusal f bytes room = firstOf (saveLines f bytes room)
+
+-- the refusal number, 0 for none; 11's place; and the new user table in file form
+pub record Save : Type 0 where
+  pub refused : ℕ
+  pub place : ℕ
+  pub table : List ℕ
+
+unfoldable pub saveAnswer : (refused place : ℕ) → List Tag → Save
+saveAnswer zero place ts = record { refused = 0; place = 0; table = tableBytes ts }
+saveAnswer (suc n) place ts = record { refused = suc n; place = cond (eqb (suc n) 11) place 0; table = [] }
+
+unfoldable pub save : (f sheet : List ℕ) → (room : ℕ) → Save
+save f bytes room = saveAnswer (saveRefusal f bytes room) (conflictPlace (userTags f) (changesOf bytes)) (newTable f bytes)

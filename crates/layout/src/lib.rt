@@ -1,0 +1,1 @@
+// The layout as definitions, and what is true of them.
