@@ -108,8 +108,9 @@ frameRefusal f i = firstOf (openingLines f ++ (line 8 (noSuchFrame (shown f) i) 
 
 unfoldable pub frameShown : List ℕ → ℕ → FrameShown
 frameShown f i =
-    record
-      { place = frameStart (shown f) i
-      ; len = length (frameBytes (frameOf (shown f) i))
-      ; time = frameOf (shown f) i .time
-      ; exposure = frameOf (shown f) i .exposure }
+    record {
+      place = frameStart (shown f) i;
+      len = length (frameBytes (frameOf (shown f) i));
+      time = frameOf (shown f) i .time;
+      exposure = frameOf (shown f) i .exposure;
+    }

@@ -130,22 +130,24 @@ beginLines st setUp system notes room =
 
 unfoldable pub begun : (setUp system : List ℕ) → State
 begun setUp system =
-    record
-      { stage = running
-      ; sections = length (sectionsOf setUp)
-      ; frames = 0
-      ; first = 0
-      ; last = 0
-      ; end = length (firstPiece setUp system) }
+    record {
+      stage = running;
+      sections = length (sectionsOf setUp);
+      frames = 0;
+      first = 0;
+      last = 0;
+      end = length (firstPiece setUp system);
+    }
 
 unfoldable pub begin : State → (setUp system notes : List ℕ) → (room : ℕ) → Step
 begin st setUp system notes room =
     answer (firstOf (beginLines st setUp system notes room)) st notes
-    (record
-      { refused = 0
-      ; state = begun setUp system
-      ; piece = piece 0 (firstPiece setUp system)
-      ; notes = sets notes 0 (replicate 4 0) })
+    (record {
+      refused = 0;
+      state = begun setUp system;
+      piece = piece 0 (firstPiece setUp system);
+      notes = sets notes 0 (replicate 4 0);
+    })
 
 -- ── To add a frame: 12, 14, 15, 13, 9 ──
 
@@ -175,13 +177,14 @@ firstAfter st time = cond (eqb (st .frames) 0) time (st .first)
 
 unfoldable pub added : State → (time exposure : ℕ) → (sections : List ℕ) → State
 added st time exposure sections =
-    record
-      { stage = running
-      ; sections = st .sections
-      ; frames = st .frames + 1
-      ; first = firstAfter st time
-      ; last = time
-      ; end = st .end + length (framePiece time exposure sections) }
+    record {
+      stage = running;
+      sections = st .sections;
+      frames = st .frames + 1;
+      first = firstAfter st time;
+      last = time;
+      end = st .end + length (framePiece time exposure sections);
+    }
 
 -- "with n the count including it, n into the first four bytes of lent notes and the new entry at 16·n − 12; their other bytes stay"
 unfoldable pub noted : State → (time exposure : ℕ) → (sections notes : List ℕ) → List ℕ
@@ -192,11 +195,12 @@ noted st time exposure sections notes =
 unfoldable pub add : State → (time exposure : ℕ) → (sections notes : List ℕ) → (room : ℕ) → Step
 add st time exposure sections notes room =
     answer (firstOf (addLines st time exposure sections notes room)) st notes
-    (record
-      { refused = 0
-      ; state = added st time exposure sections
-      ; piece = piece (st .end) (framePiece time exposure sections)
-      ; notes = noted st time exposure sections notes })
+    (record {
+      refused = 0;
+      state = added st time exposure sections;
+      piece = piece (st .end) (framePiece time exposure sections);
+      notes = noted st time exposure sections notes;
+    })
 
 -- ── To close: 12, 9 ──
 
@@ -229,19 +233,21 @@ closeLines st notes room =
 
 unfoldable pub closedBy : State → State
 closedBy st =
-    record
-      { stage = stageAfter (pieceNumber (st .stage))
-      ; sections = st .sections
-      ; frames = st .frames
-      ; first = st .first
-      ; last = st .last
-      ; end = st .end }
+    record {
+      stage = stageAfter (pieceNumber (st .stage));
+      sections = st .sections;
+      frames = st .frames;
+      first = st .first;
+      last = st .last;
+      end = st .end;
+    }
 
 unfoldable pub close : State → (notes : List ℕ) → (room : ℕ) → Step
 close st notes room =
     answer (firstOf (closeLines st notes room)) st notes
-    (record
-      { refused = 0
-      ; state = closedBy st
-      ; piece = closingPiece st notes
-      ; notes = notes })
+    (record {
+      refused = 0;
+      state = closedBy st;
+      piece = closingPiece st notes;
+      notes = notes;
+    })

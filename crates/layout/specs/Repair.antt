@@ -54,13 +54,14 @@ repairAnswer (suc n) r = record { refused = suc n; kept = 0; count = 0; index = 
 unfoldable pub repair : List ℕ → (room : ℕ) → Repair
 repair f room =
     repairAnswer (repairRefusal f room)
-    (record
-      { refused = 0
-      ; kept = keptLength f
-      ; count = keptCount f
-      ; index = keptLength f
-      ; user = keptLength f + indexLength (keptCount f)
-      ; tail = tail f })
+    (record {
+      refused = 0;
+      kept = keptLength f;
+      count = keptCount f;
+      index = keptLength f;
+      user = keptLength f + indexLength (keptCount f);
+      tail = tail f;
+    })
 
 -- "The repaired file is the kept bytes with those fields set, then the tail."
 unfoldable pub withFields : (count index user : ℕ) → List ℕ → List ℕ

@@ -1,8 +1,13 @@
 -- A recording on storage that keeps the order of writes: its calls chained, its pieces stored byte by byte, and a cut after any of those bytes.
-use Prim.Native.Nat.{ℕ, zero, suc, _+_}
+use Prim.Native.Nat.{ℕ, zero, suc, _+_, _^_}
+use mathlib.Core.Bool.{Bool, true, false, _&&_, cond}
 use mathlib.Core.List.{List, [], _∷_, _++_}
 use lib.ListN.{length, take}
-use Rattle.layout.specs.Recorder.{Stage, fresh, State, Piece, Step, begin, add, close}
+use lib.Dec.{ltb, eqb}
+use lib.Pow.{areBytes}
+use Rattle.layout.specs.Recording.{Recording}
+use Rattle.layout.specs.Reading.{exactly, times, sized, table, valueOr}
+use Rattle.layout.specs.Recorder.{Stage, fresh, State, Piece, Step, sectionsOf, begin, add, close}
 
 -- ── A recording of ours ──
 
@@ -44,6 +49,43 @@ called ss (closes room) = passedOn ss (close (ss .state) (ss .notes) room)
 unfoldable pub session : Session → List Call → Session
 session ss [] = ss
 session ss (c ∷ cs) = session (called ss c) cs
+
+-- ── What it was given ──
+
+unfoldable pub nothingGiven : Recording
+nothingGiven = record { sections = []; system = []; frames = []; user = [] }
+
+unfoldable pub accepted : Step → Bool
+accepted step = eqb (step .refused) 0
+
+unfoldable pub givenBy : Session → Call → Recording → Recording
+givenBy ss (begins setUp system room) r =
+    cond (accepted (begin (ss .state) setUp system (ss .notes) room))
+    (record { sections = sectionsOf setUp; system = valueOr [] (exactly table system); frames = []; user = [] })
+    r
+givenBy ss (adds time exposure sections room) r =
+    cond (accepted (add (ss .state) time exposure sections (ss .notes) room))
+    (record {
+      sections = r .sections;
+      system = r .system;
+      frames =
+          r .frames
+          ++ (record { time = time; exposure = exposure; sections = valueOr [] (exactly (times (ss .state .sections) sized) sections) } ∷ []);
+      user = r .user;
+    })
+    r
+givenBy ss (closes room) r = r
+
+-- the sections, system tags and frames of the accepted calls
+unfoldable pub given : Session → List Call → Recording → Recording
+given ss [] r = r
+given ss (c ∷ cs) r = given (called ss c) cs (givenBy ss c r)
+
+-- what the types of a call's arguments say: bytes, a 64-bit pattern, a UInt32
+unfoldable pub callFits : Call → Bool
+callFits (begins setUp system room) = areBytes setUp && areBytes system
+callFits (adds time exposure sections room) = ltb time (2 ^ 64) && ltb exposure (2 ^ 32) && areBytes sections
+callFits (closes room) = true
 
 -- ── The card ──
 

@@ -1,0 +1,88 @@
+-- Laws of lists and tests that every part of the theory uses.
+-- Assumes nothing.
+use Prim.Native.Nat.{ℕ, zero, suc, _+_, _-_, _≤_, _<_}
+use native.Mathlib.Omega.{arith}
+use native.Mathlib.Nat.{le-of-suc-le-suc}
+use mathlib.Core.Path.{_≡_, refl, ap, sym, _∙_}
+use mathlib.Core.Bool.{Bool, true, false, not, _&&_, _||_, cond}
+use mathlib.Core.Logic.{_⊎_, inl, inr}
+use mathlib.Core.List.{List, [], _∷_, _++_, map, flatMap, append-assoc, append-nil}
+use lib.ListN.{length, take, drop, getD, length-append}
+use lib.Seq.{drop-nil, take-nil}
+use lib.Dec.{ltb, eqb}
+use lib.Pow.{areBytes}
+use borrow.Author.Tests.{eqb-true, eq-eqb}
+use Rattle.number.proofs.Bytes.{both-true, and-true}
+use Rattle.layout.specs.Recording.{every, same}
+
+-- ── Tests ──
+
+pub or-false : (a b : Bool) → a || b ≡ false → (a ≡ false) × (b ≡ false)
+or-false true b e = (e, cc)
+or-false false b e = (refl, e)
+
+pub not-or : (a b : Bool) → a ≡ false → b ≡ false → a || b ≡ false
+not-or true b p q = p
+not-or false b p q = q
+
+pub cond-true : {A : Type 0} (b : Bool) (x y : A) → b ≡ true → cond b x y ≡ x
+cond-true b x y e = simp e
+
+pub cond-false : {A : Type 0} (b : Bool) (x y : A) → b ≡ false → cond b x y ≡ y
+cond-false b x y e = simp e
+
+-- a test passes or fails
+pub decided : (b : Bool) → (b ≡ true) ⊎ (b ≡ false)
+decided true = inl refl
+decided false = inr refl
+
+-- ── The same bytes ──
+
+pub same-refl : (s : List ℕ) → same s s ≡ true
+unfolding same
+same-refl [] = refl
+same-refl (x ∷ xs) = and-true (eqb x x) (same xs xs) (eq-eqb x x refl) (same-refl xs)
+
+pub same-true : (s t : List ℕ) → same s t ≡ true → s ≡ t
+unfolding same
+same-true [] [] e = refl
+same-true [] (y ∷ ys) e = let z : _≡_ {A = ℕ} 0 1 = cc in absurd (omega arith)
+same-true (x ∷ xs) [] e = let z : _≡_ {A = ℕ} 0 1 = cc in absurd (omega arith)
+same-true (x ∷ xs) (y ∷ ys) e =
+    let h : x ≡ y = eqb-true x y (both-true (eqb x y) (same xs ys) e .0) in
+    let t : xs ≡ ys = same-true xs ys (both-true (eqb x y) (same xs ys) e .1) in
+    cc
+
+-- ── Every ──
+
+pub every-append : {A : Type 0} (ok : A → Bool) (xs ys : List A) → every ok (xs ++ ys) ≡ (every ok xs && every ok ys)
+unfolding every
+every-append ok [] ys = refl
+every-append ok (x ∷ xs) ys = go (ok x) (every-append ok xs ys)
+  where
+    go : (b : Bool) → every ok (xs ++ ys) ≡ (every ok xs && every ok ys) → (b && every ok (xs ++ ys)) ≡ ((b && every ok xs) && every ok ys)
+    go true e = e
+    go false e = refl
+
+-- ── Bytes ──
+
+pub bytes-append : (s t : List ℕ) → areBytes s ≡ true → areBytes t ≡ true → areBytes (s ++ t) ≡ true
+bytes-append [] t p q = q
+bytes-append (x ∷ xs) t p q = and-true (ltb x 256) (areBytes (xs ++ t)) (both-true (ltb x 256) (areBytes xs) p .0) (bytes-append xs t (both-true (ltb x 256) (areBytes xs) p .1) q)
+
+pub bytes-drop : (n : ℕ) (s : List ℕ) → areBytes s ≡ true → areBytes (drop n s) ≡ true
+bytes-drop n [] p = rw drop-nil
+bytes-drop zero (x ∷ xs) p = p
+bytes-drop (suc n) (x ∷ xs) p = bytes-drop n xs (both-true (ltb x 256) (areBytes xs) p .1)
+
+pub bytes-take : (n : ℕ) (s : List ℕ) → areBytes s ≡ true → areBytes (take n s) ≡ true
+bytes-take n [] p = rw take-nil
+bytes-take zero (x ∷ xs) p = refl
+bytes-take (suc n) (x ∷ xs) p = and-true (ltb x 256) (areBytes (take n xs)) (both-true (ltb x 256) (areBytes xs) p .0) (bytes-take n xs (both-true (ltb x 256) (areBytes xs) p .1))
+
+-- ── Encodings in a row ──
+
+pub flatMap-append : {A : Type 0} (f : A → List ℕ) (xs ys : List A) → flatMap f (xs ++ ys) ≡ flatMap f xs ++ flatMap f ys
+unfolding flatMap
+flatMap-append f [] ys = refl
+flatMap-append f (x ∷ xs) ys = ap (λ (l : List ℕ). f x ++ l) (flatMap-append f xs ys) ∙ sym (append-assoc (f x) (flatMap f xs) (flatMap f ys))
