@@ -1,1 +1,87 @@
-// Little-endian numbers.
+// Little-endian numbers of any width up to eight bytes, and Int64 by its 64-bit pattern.
+ghost use mathlib.Core.Path.{_≡_};
+ghost use Prim.Native.Nat.{_<_};
+ghost use mir.Syntax.{w64};
+ghost use mir.Val.{ofZ, toZ};
+ghost use Rattle.number.specs.Number.{readAt, writeAt, rank};
+
+// A byte as a number: so that only one place asks that it fits.
+fn wide(byte: u8) -> u64
+    ensures { λ r. ⌜ (r ≡ byte) × (r < 256) ⌝ }
+{
+    byte as u64
+}
+
+// The number of `w` bytes at a place; 0 where they are not all there, or more than eight.
+pub fn read(s: &[u8], at: usize, w: usize) -> u64
+    ensures { λ r. ⌜ r ≡ readAt (now (s .entry)) at w ⌝ }
+{
+    if 8 < w {
+        return 0;
+    }
+    if s.len() < w {
+        return 0;
+    }
+    if s.len() - w < at {
+        return 0;
+    }
+    let mut n: u64 = 0;
+    let mut left = w;
+    while 0 < left {
+        left -= 1;
+        n = n * 256 + wide(s[at + left]);
+    }
+    n
+}
+
+// Stores the low `w` bytes of `n` at a place, where there is room for them.
+pub fn write(out: &mut [u8], at: usize, w: usize, n: u64)
+    ensures { λ r. ⌜ now (out .exit) ≡ writeAt (now (out .entry)) at w n ⌝ }
+{
+    if out.len() < w {
+        return;
+    }
+    if out.len() - w < at {
+        return;
+    }
+    let mut rest = n;
+    let mut i = 0;
+    while i < w {
+        out[at + i] = (rest % 256) as u8;
+        rest = rest / 256;
+        i += 1;
+    }
+}
+
+// The 64-bit pattern of an Int64.
+pub fn pattern_of(time: i64) -> u64
+    ensures { λ r. ⌜ r ≡ ofZ w64 time ⌝ }
+{
+    if 0 <= time {
+        time as u64
+    } else {
+        !((!time) as u64)
+    }
+}
+
+// The Int64 of a 64-bit pattern.
+pub fn time_of(pattern: u64) -> i64
+    ensures { λ r. ⌜ r ≡ toZ w64 pattern ⌝ }
+{
+    if pattern < 0x8000_0000_0000_0000 {
+        pattern as i64
+    } else {
+        !((!pattern) as i64)
+    }
+}
+
+// How far a time stands from the least Int64: times are compared and subtracted as these.
+pub fn rank_of(pattern: u64) -> u64
+    ensures { λ r. ⌜ r ≡ rank pattern ⌝ }
+{
+    if pattern < 0x8000_0000_0000_0000 {
+        pattern + 0x8000_0000_0000_0000
+    } else {
+        pattern - 0x8000_0000_0000_0000
+    }
+}
