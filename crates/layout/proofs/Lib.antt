@@ -1,2 +1,4 @@
 pub mod Examples
 pub mod Lists
+pub mod Readers
+pub mod Exact
