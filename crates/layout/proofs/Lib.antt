@@ -2,3 +2,14 @@ pub mod Examples
 pub mod Lists
 pub mod Readers
 pub mod Exact
+pub mod Walks
+pub mod Lines
+pub mod Orders
+pub mod Fronts
+pub mod Encoded
+pub mod Places
+pub mod Condition2
+pub mod Sheets
+pub mod Applied
+pub mod Saved
+pub mod Repaired

@@ -1,0 +1,229 @@
+-- Saving: no member's change is lost.
+-- Assumes nothing.
+use Prim.Native.Nat.{ℕ, zero, suc, _≤_, _<_}
+use mathlib.Core.Path.{_≡_, refl, ap, sym, _∙_}
+use mathlib.Core.Bool.{Bool, true, false, cond, _&&_, _||_}
+use mathlib.Core.Logic.{_↔_}
+use mathlib.Core.List.{List, [], _∷_, _++_, flatMap, append-cancel-right}
+use native.Mathlib.Omega.{arith}
+use lib.ListN.{length, take, drop, getD, take-append-drop}
+use lib.Dec.{ltb, leb}
+use lib.Pow.{areBytes}
+use borrow.Author.Tests.{ltb-false, leb-true, le-ltb}
+use Rattle.number.proofs.Bytes.{both-true}
+use Rattle.number.specs.Number.{numberOf}
+use Rattle.layout.specs.Recording.{Tag, Recording, Legal, mostTags, every, distinct, tagNames, legalTag, legalTable, tableBytes, frontBytes, frameBytes, indexBytes, framesStart, framesEnd, userStart, encode}
+use Rattle.layout.specs.Reading.{Parsed, bad, good, onward, _then_, only, times, number, exactly, table, isBad, valueOr}
+use Rattle.layout.specs.Opening.{Line, line, firstOf, frontLines, openingLines, refusal, shown, userOffset, readUser, badUser}
+use Rattle.layout.specs.Recorder.{noRoom}
+use Rattle.layout.specs.Saving.{nobodyLooked, Change, sheet, changeNames, changesOf, lookUp, agrees, conflicts, someConflict, conflictPlace, userTags, newTable, saveLines, saveRefusal, saveAnswer, save}
+use Rattle.layout.proofs.Lists.{or-false, not-or, bytes-drop}
+use Rattle.layout.proofs.Exact.{table-exact, exactly-gives}
+use Rattle.layout.proofs.Lines.{line-pass, opening-pass, opens-passes}
+use Rattle.layout.proofs.Condition2.{legal-opens, legal-shown, opens-legal}
+use Rattle.layout.proofs.Applied.{noChange, unnamed, applied-named, applied-others, applied-none, applied-legal}
+use Rattle.layout.proofs.Sheets.{sheet-legal}
+use Rattle.layout.proofs.Orders.{without, no-lines, line-other, line-own, lines-other}
+
+-- the recording with another user table
+unfoldable pub withUser : Recording → List Tag → Recording
+withUser r ts = record { sections = r .sections; system = r .system; frames = r .frames; user = ts }
+
+-- ── The save's order ──
+
+-- the number that a save answers is the first of its lines that holds
+refused-is : (n place : ℕ) (ts : List Tag) → saveAnswer n place ts .refused ≡ n
+unfolding saveAnswer
+refused-is zero place ts = refl
+refused-is (suc n) place ts = refl
+
+table-is : (n place : ℕ) (ts : List Tag) → saveAnswer n place ts .refused ≡ 0 → saveAnswer n place ts .table ≡ tableBytes ts
+unfolding saveAnswer
+table-is zero place ts e = refl
+table-is (suc n) place ts e = absurd (omega arith)
+
+place-is : (n place : ℕ) (ts : List Tag) → saveAnswer n place ts .refused ≡ 11 → saveAnswer n place ts .place ≡ place
+unfolding saveAnswer
+place-is zero place ts e = absurd (omega arith)
+place-is (suc n) place ts e = rw e
+
+-- the four lines that a save has past those of opening
+unfoldable pub sheetLines : (f sheet : List ℕ) → (room : ℕ) → List Line
+sheetLines f bytes room =
+    line 10 (isBad (exactly sheet bytes))
+    ∷ line 11 (someConflict (userTags f) (changesOf bytes))
+    ∷ line 17 (ltb mostTags (length (newTable f bytes)))
+    ∷ line 9 (noRoom room (length (tableBytes (newTable f bytes))))
+    ∷ []
+
+pub save-order : (f bytes : List ℕ) (room k : ℕ) → without k (openingLines f) ≡ true → save f bytes room .refused ≡ k → (refusal f ≡ 0) × (firstOf (sheetLines f bytes room) ≡ k)
+unfolding save saveRefusal saveLines sheetLines refusal
+save-order f bytes room k w e = lines-other (openingLines f) (sheetLines f bytes room) k w (sym (refused-is _ _ _) ∙ e)
+
+pub save-lines : (f bytes : List ℕ) (room : ℕ) → save f bytes room .refused ≡ 0 → (refusal f ≡ 0) × (isBad (exactly sheet bytes) ≡ false) × (someConflict (userTags f) (changesOf bytes) ≡ false) × (length (newTable f bytes) ≤ mostTags) × (length (tableBytes (newTable f bytes)) ≤ room)
+unfolding sheetLines openingLines frontLines without
+save-lines f bytes room a =
+    let o = save-order f bytes room 0 refl a in
+    let p = line-other 10 _ _ 0 (omega arith) (o .1) in
+    let q = line-other 11 _ _ 0 (omega arith) (p .1) in
+    let r = line-other 17 _ _ 0 (omega arith) (q .1) in
+    let s = line-other 9 _ _ 0 (omega arith) (r .1) in
+    (o .0, p .0, q .0, ltb-false _ _ (r .0), ltb-false _ _ (s .0))
+
+pub lines-save : (f bytes : List ℕ) (room : ℕ) → refusal f ≡ 0 → isBad (exactly sheet bytes) ≡ false → someConflict (userTags f) (changesOf bytes) ≡ false → length (newTable f bytes) ≤ mostTags → length (tableBytes (newTable f bytes)) ≤ room → save f bytes room .refused ≡ 0
+unfolding save saveRefusal saveLines
+lines-save f bytes room o p q r s =
+    refused-is (saveRefusal f bytes room) _ _
+    ∙ opening-pass f _ (opens-passes f o)
+    ∙ line-pass 10 (isBad (exactly sheet bytes)) _ p
+    ∙ line-pass 11 (someConflict (userTags f) (changesOf bytes)) _ q
+    ∙ line-pass 17 (ltb mostTags (length (newTable f bytes))) _ (le-ltb _ _ r)
+    ∙ line-pass 9 (ltb room (length (tableBytes (newTable f bytes)))) _ (le-ltb _ _ s)
+    ∙ no-lines
+
+-- ── Conflicts ──
+
+no-conflict : (ts : List Tag) (cs : List Change) → someConflict ts cs ≡ false → (i : ℕ) → i < length cs → conflicts ts (getD cs i noChange) ≡ false
+unfolding someConflict
+no-conflict ts [] e i h = absurd (omega arith)
+no-conflict ts (c ∷ cs) e zero h = or-false (conflicts ts c) (someConflict ts cs) e .0
+no-conflict ts (c ∷ cs) e (suc i) h = no-conflict ts cs (or-false (conflicts ts c) (someConflict ts cs) e .1) i (omega arith)
+
+none-conflicts : (ts : List Tag) (cs : List Change) → ((i : ℕ) → i < length cs → conflicts ts (getD cs i noChange) ≡ false) → someConflict ts cs ≡ false
+unfolding someConflict
+none-conflicts ts [] p = refl
+none-conflicts ts (c ∷ cs) p = not-or (conflicts ts c) (someConflict ts cs) (p zero (omega arith)) (none-conflicts ts cs (λ i h. p (suc i) (omega arith)))
+
+-- the lowest place that conflicts
+lowest-conflict : (ts : List Tag) (cs : List Change) → someConflict ts cs ≡ true → (conflictPlace ts cs < length cs) × (conflicts ts (getD cs (conflictPlace ts cs) noChange) ≡ true) × ((i : ℕ) → i < conflictPlace ts cs → conflicts ts (getD cs i noChange) ≡ false)
+unfolding someConflict conflictPlace
+lowest-conflict ts [] e = let z : _≡_ {A = ℕ} 0 1 = cc in absurd (omega arith)
+lowest-conflict ts (c ∷ cs) e = go (conflicts ts c) refl e (lowest-conflict ts cs)
+  where
+    Lowest : ℕ → List Change → Type 0
+    Lowest p ds = (p < length ds) × (conflicts ts (getD ds p noChange) ≡ true) × ((i : ℕ) → i < p → conflicts ts (getD ds i noChange) ≡ false)
+
+    below : (p : ℕ) → conflicts ts c ≡ false → ((i : ℕ) → i < p → conflicts ts (getD cs i noChange) ≡ false) → (i : ℕ) → i < suc p → conflicts ts (getD (c ∷ cs) i noChange) ≡ false
+    below p n q zero h = n
+    below p n q (suc i) h = q i (omega arith)
+
+    go : (b : Bool) → conflicts ts c ≡ b → b || someConflict ts cs ≡ true → (someConflict ts cs ≡ true → Lowest (conflictPlace ts cs) cs) → Lowest (cond b 0 (suc (conflictPlace ts cs))) (c ∷ cs)
+    go true p q l = (omega arith, p, λ i h. absurd (omega arith))
+    go false p q l = (omega (arith, l q .0), l q .1, below (conflictPlace ts cs) p (l q .2))
+
+-- A save is accepted exactly when the file opens, the sheet is well formed, no seen entry disagrees with the table, the new table has at most 1,000 tags,
+-- and there is room for it.
+pub save-accepted : (f bytes : List ℕ) (room : ℕ) → (save f bytes room .refused ≡ 0) ↔ ((refusal f ≡ 0) × (isBad (exactly sheet bytes) ≡ false) × ((i : ℕ) → i < length (changesOf bytes) → conflicts (userTags f) (getD (changesOf bytes) i noChange) ≡ false) × (length (newTable f bytes) ≤ mostTags) × (length (tableBytes (newTable f bytes)) ≤ room))
+save-accepted f bytes room = (
+  λ a.
+      let l = save-lines f bytes room a in
+      (l .0, l .1, no-conflict (userTags f) (changesOf bytes) (l .2), l .3, l .4),
+  λ c. lines-save f bytes room (c .0) (c .1) (none-conflicts (userTags f) (changesOf bytes) (c .2)) (c .3) (c .4),
+)
+
+-- Then the answer is the new table in file form, and each tag that the sheet names is what the sheet says of it,
+pub saved-named : (f bytes : List ℕ) (room : ℕ) (i : ℕ) → save f bytes room .refused ≡ 0 → i < length (changesOf bytes) → (save f bytes room .table ≡ tableBytes (newTable f bytes)) × (lookUp (getD (changesOf bytes) i noChange .name) (newTable f bytes) ≡ getD (changesOf bytes) i noChange .new)
+unfolding newTable save
+saved-named f bytes room i a h = (table-is _ _ _ a, applied-named (changesOf bytes) (userTags f) i (sheet-legal bytes (save-lines f bytes room a .1) .1) h)
+
+-- and no other tag changed, in value or in order.
+pub saved-others : (f bytes : List ℕ) (room : ℕ) → save f bytes room .refused ≡ 0 → unnamed (changesOf bytes) (newTable f bytes) ≡ unnamed (changesOf bytes) (userTags f)
+unfolding newTable
+saved-others f bytes room a = applied-others (changesOf bytes) (userTags f)
+
+-- Refused 11, a save names the lowest place whose seen entry disagrees with the table.
+pub save-conflict : (f bytes : List ℕ) (room : ℕ) → save f bytes room .refused ≡ 11 → (save f bytes room .place < length (changesOf bytes)) × (conflicts (userTags f) (getD (changesOf bytes) (save f bytes room .place) noChange) ≡ true) × ((i : ℕ) → i < save f bytes room .place → conflicts (userTags f) (getD (changesOf bytes) i noChange) ≡ false)
+unfolding save sheetLines openingLines frontLines without
+save-conflict f bytes room r =
+    let o = save-order f bytes room 11 refl r in
+    let p = line-other 10 _ _ 11 (omega arith) (o .1) in
+    rw (place-is (saveRefusal f bytes room) _ _ r) (lowest-conflict (userTags f) (changesOf bytes) (line-own 11 _ _ (omega arith) refl (p .1)))
+
+-- ── The file of a save ──
+
+-- the user table of a file that opens is legal, and the file ends with it
+user-stands : (f : List ℕ) → areBytes f ≡ true → refusal f ≡ 0 → (legalTable (userTags f) ≡ true) × (drop (userOffset f) f ≡ tableBytes (userTags f))
+unfolding userTags shown badUser readUser valueOr
+user-stands f h o = go (exactly table (drop (userOffset f) f)) refl (opens-passes f o .user)
+  where
+    go : (p : Parsed (List Tag)) → exactly table (drop (userOffset f) f) ≡ p → isBad p ≡ false → (legalTable (valueOr [] p) ≡ true) × (drop (userOffset f) f ≡ tableBytes (valueOr [] p))
+    go bad e b = let z : _≡_ {A = ℕ} 0 1 = cc in absurd (omega arith)
+    go (good ts n) e b = exactly-gives legalTable tableBytes table table-exact (drop (userOffset f) f) ts n (bytes-drop (userOffset f) f h) e
+
+-- another legal user table makes another legal recording, whose file differs only there
+withUser-legal : (r : Recording) (ts : List Tag) → Legal r → legalTable ts ≡ true → Legal (withUser r ts)
+unfolding withUser userStart framesEnd framesStart
+withUser-legal r ts l h =
+    record {
+      atLeastOneSection = l .atLeastOneSection;
+      atMostEightSections = l .atMostEightSections;
+      sectionsLegal = l .sectionsLegal;
+      sectionsDiffer = l .sectionsDiffer;
+      systemLegal = l .systemLegal;
+      framesFew = l .framesFew;
+      framesLegal = l .framesLegal;
+      framesOrdered = l .framesOrdered;
+      userLegal = h;
+      userOffsetFits = l .userOffsetFits;
+    }
+
+-- everything ahead of the user table
+unfoldable upToUser : Recording → List ℕ
+upToUser r =
+    frontBytes (length (r .frames)) (framesEnd r) (userStart r) (r .sections) (tableBytes (r .system))
+    ++ flatMap frameBytes (r .frames)
+    ++ indexBytes (framesStart r) (r .frames)
+
+withUser-bytes : (f front : List ℕ) (r : Recording) (ts : List Tag) → encode r ≡ f → front ++ tableBytes (r .user) ≡ f → encode (withUser r ts) ≡ front ++ tableBytes ts
+unfolding withUser encode upToUser userStart framesEnd framesStart
+withUser-bytes f front r ts e d = ap (λ (l : List ℕ). l ++ tableBytes ts) (append-cancel-right (upToUser r) front (tableBytes (r .user)) (e ∙ sym d))
+
+-- The file with the new table in the old one's place opens, with the same sections, system tags and frames.
+pub saved-opens : (f bytes : List ℕ) (room : ℕ) → areBytes f ≡ true → save f bytes room .refused ≡ 0 → (refusal (take (userOffset f) f ++ save f bytes room .table) ≡ 0) × (shown (take (userOffset f) f ++ save f bytes room .table) ≡ withUser (shown f) (newTable f bytes))
+unfolding save newTable userTags
+saved-opens f bytes room h a = rw (table-is _ _ _ a, ← e) (legal-opens (withUser (shown f) ts) l, legal-shown (withUser (shown f) ts) l)
+  where
+    ts : List Tag
+    ts = newTable f bytes
+
+    o : refusal f ≡ 0
+    o = save-lines f bytes room a .0
+
+    l : Legal (withUser (shown f) ts)
+    l =
+        let p = sheet-legal bytes (save-lines f bytes room a .1) in
+        withUser-legal (shown f) ts (opens-legal f h o .0) (applied-legal (changesOf bytes) (userTags f) (p .0) (p .1) (user-stands f h o .0) (save-lines f bytes room a .3))
+
+    e : encode (withUser (shown f) ts) ≡ take (userOffset f) f ++ tableBytes ts
+    e = withUser-bytes f (take (userOffset f) f) (shown f) ts (opens-legal f h o .1) (rw (← user-stands f h o .1) (take-append-drop (userOffset f) f))
+
+-- a sheet of no changes is well formed
+sheet-none : exactly sheet (0 ∷ []) ≡ good [] 1
+unfolding exactly sheet only _then_ onward times number numberOf distinct changeNames
+sheet-none = refl
+
+table-few : (ts : List Tag) → legalTable ts ≡ true → length ts ≤ mostTags
+unfolding legalTable
+table-few ts h = leb-true _ _ (both-true _ _ (both-true (leb (length ts) mostTags && every legalTag ts) (distinct (tagNames ts)) h .0) .0)
+
+-- An empty sheet gives the same table.
+pub save-nothing : (f : List ℕ) (room : ℕ) → areBytes f ≡ true → refusal f ≡ 0 → length (drop (userOffset f) f) ≤ room → (save f (0 ∷ []) room .refused ≡ 0) × (save f (0 ∷ []) room .table ≡ drop (userOffset f) f)
+unfolding changesOf valueOr newTable save
+save-nothing f room h o r = (a, table-is _ _ _ a ∙ ap tableBytes t ∙ sym (u .1))
+  where
+    u : (legalTable (userTags f) ≡ true) × (drop (userOffset f) f ≡ tableBytes (userTags f))
+    u = user-stands f h o
+
+    c : changesOf (0 ∷ []) ≡ []
+    c = rw sheet-none
+
+    t : newTable f (0 ∷ []) ≡ userTags f
+    t = rw c (applied-none (userTags f))
+
+    a : save f (0 ∷ []) room .refused ≡ 0
+    a = save-accepted f (0 ∷ []) room .1 (o, rw sheet-none, rw c (λ i q. absurd (omega arith)), rw t (table-few (userTags f) (u .0)), rw (t, ← u .1) r)
+
+-- "Nobody looked" never conflicts.
+pub nobody-looked : (ts : List Tag) (c : Change) → c .seen ≡ nobodyLooked → conflicts ts c ≡ false
+unfolding conflicts agrees
+nobody-looked ts c e = rw e
