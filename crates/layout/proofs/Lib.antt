@@ -13,3 +13,10 @@ pub mod Sheets
 pub mod Applied
 pub mod Saved
 pub mod Repaired
+pub mod Stores
+pub mod Sizes
+pub mod Answers
+pub mod Trace
+pub mod Filed
+pub mod Closing
+pub mod Recorded

@@ -1,0 +1,28 @@
+-- What the recorder hands out, stored and closed, opens again to what it was given.
+-- Assumes nothing.
+use Prim.Native.Nat.{ℕ}
+use native.Mathlib.Omega.{arith}
+use mathlib.Core.Path.{_≡_}
+use mathlib.Core.Bool.{true}
+use mathlib.Core.Logic.{inl, inr}
+use mathlib.Core.List.{List}
+use Rattle.layout.specs.Recording.{Legal, encode, every}
+use Rattle.layout.specs.Opening.{refusal, shown}
+use Rattle.layout.specs.Recorder.{closed}
+use Rattle.layout.specs.Storage.{Call, started, session, fileOf, given, nothingGiven, callFits}
+use Rattle.layout.proofs.Condition2.{legal-opens, legal-shown}
+use Rattle.layout.proofs.Trace.{Reached, traced}
+use Rattle.layout.proofs.Closing.{closed-file}
+
+-- A recording that was begun, added to and closed, whatever else was tried and refused in between, is a legal recording of what its accepted calls were
+-- given; its file is that recording's bytes, opens, and shows it. Premise: what the calls were lent are bytes, a time has 64 bits and an exposure 32,
+-- which is what their types say.
+pub recorded : (notes : List ℕ) (calls : List Call) → every callFits calls ≡ true → session (started notes) calls .state .stage ≡ closed → Legal (given (started notes) calls nothingGiven) × (fileOf (session (started notes) calls) ≡ encode (given (started notes) calls nothingGiven)) × (refusal (fileOf (session (started notes) calls)) ≡ 0) × (shown (fileOf (session (started notes) calls)) ≡ given (started notes) calls nothingGiven)
+recorded notes calls h c = go (traced notes calls h)
+  where
+    go : Reached (session (started notes) calls) (given (started notes) calls nothingGiven) → Legal (given (started notes) calls nothingGiven) × (fileOf (session (started notes) calls) ≡ encode (given (started notes) calls nothingGiven)) × (refusal (fileOf (session (started notes) calls)) ≡ 0) × (shown (fileOf (session (started notes) calls)) ≡ given (started notes) calls nothingGiven)
+    go (inl t) = let z : _≡_ {A = ℕ} 0 1 = cc in absurd (omega arith)
+    go (inr t) =
+        let l = t .1 .legal in
+        let f = closed-file (session (started notes) calls) (given (started notes) calls nothingGiven) (t .0) (t .1) c in
+        (l, f, rw f (legal-opens (given (started notes) calls nothingGiven) l), rw f (legal-shown (given (started notes) calls nothingGiven) l))
