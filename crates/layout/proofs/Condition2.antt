@@ -10,7 +10,7 @@ use lib.Pow.{areBytes}
 use Rattle.layout.specs.Recording.{Recording, Legal, encode, frameBytes}
 use Rattle.layout.specs.Reading.{valueOr}
 use Rattle.layout.specs.Opening.{firstOf, refusal, shown}
-use Rattle.layout.specs.Items.{Item, noSuchItem, noSuchFrame, itemBytes, itemRefusal, itemPart, frameRefusal, frameShown, frameOf, partOf}
+use Rattle.layout.specs.Items.{Item, noSuchItem, noSuchFrame, itemBytes, itemRefusal, itemPart, frameRefusal, frameShown, frameAnswer, frameOf, partOf}
 use Rattle.layout.proofs.Walks.{took}
 use Rattle.layout.proofs.Lines.{line-pass, line-holds, opening-pass, passes-opens, opens-passes}
 use Rattle.layout.proofs.Encoded.{legal-front, legal-counted, legal-user, legal-passes, opens-is-legal, opens-bytes}
@@ -56,12 +56,14 @@ pub frame-refused : (r : Recording) (i : ℕ) → Legal r → noSuchFrame r i �
 unfolding frameRefusal
 frame-refused r i l h = opening-pass (encode r) _ (legal-passes r l) ∙ line-holds 8 _ [] (rw (legal-shown r l) h)
 
+-- a frame that there is is not refused
+frame-accepted : (r : Recording) (i : ℕ) → Legal r → noSuchFrame r i ≡ false → frameRefusal (encode r) i ≡ 0
+unfolding frameRefusal firstOf
+frame-accepted r i l h = opening-pass (encode r) _ (legal-passes r l) ∙ line-pass 8 (noSuchFrame (shown (encode r)) i) [] (rw (legal-shown r l) h)
+
 -- A frame's place and length are where its bytes stand; its time and exposure are its own.
 pub frame-read : (r : Recording) (i : ℕ) → Legal r → noSuchFrame r i ≡ false → (frameRefusal (encode r) i ≡ 0) × (take (frameShown (encode r) i .len) (drop (frameShown (encode r) i .place) (encode r)) ≡ frameBytes (frameOf r i)) × (frameShown (encode r) i .time ≡ frameOf r i .time) × (frameShown (encode r) i .exposure ≡ frameOf r i .exposure)
-unfolding frameRefusal frameShown noSuchFrame firstOf
-frame-read r i l h = (
-  opening-pass (encode r) _ (legal-passes r l) ∙ line-pass 8 (noSuchFrame (shown (encode r)) i) [] (rw (legal-shown r l) h),
-  rw (legal-shown r l) (stands-take (frame-stands r i (below i (length (r .frames)) h))),
-  rw (legal-shown r l),
-  rw (legal-shown r l),
-)
+unfolding frameShown frameAnswer noSuchFrame
+frame-read r i l h =
+    let e : frameRefusal (encode r) i ≡ 0 = frame-accepted r i l h in
+    (e, rw (e, legal-shown r l) (stands-take (frame-stands r i (below i (length (r .frames)) h))), rw (e, legal-shown r l), rw (e, legal-shown r l))

@@ -42,7 +42,7 @@ opens : List ℕ → List ℕ
 opens f = refusal f ∷ []
 
 repairs : List ℕ → List ℕ
-repairs f = let r = repair f 98 in r .refused ∷ r .kept ∷ r .index ∷ r .user ∷ r .tail
+repairs f = let r = repair f 98 in r .refused ∷ r .kept ∷ r .count ∷ r .index ∷ r .user ∷ r .tail
 
 saves : List ℕ → List ℕ
 saves f = let s = save f theSheet 98 in s .refused ∷ s .place ∷ s .table
@@ -56,17 +56,29 @@ row g e = record { given = g; expected = e }
 
 pub rows : List Row
 rows =
+    -- P1
     row (refusal theFile ∷ length (shown theFile .frames) ∷ []) (0 ∷ 1 ∷ [])
+    -- P2
     ∷ row (opens (take 97 theFile)) (7 ∷ [])
+    -- P3
     ∷ row (opens (set theFile 4 2)) (2 ∷ [])
+    -- P4
     ∷ row (opens (sets theFile 9 (bytesOf 8 0))) (5 ∷ [])
+    -- P5
     ∷ row (opens (sets theFile 9 (bytesOf 8 75))) (6 ∷ [])
+    -- P6
     ∷ row (opens (sets theFile 5 (bytesOf 4 2))) (6 ∷ [])
+    -- P7
     ∷ row (opens (take 33 theFile)) (1 ∷ [])
-    ∷ row (repairs (take 73 unclosed)) (0 ∷ 52 ∷ 52 ∷ 56 ∷ replicate 8 0)
+    -- P8
+    ∷ row (repairs (take 73 unclosed)) (0 ∷ 52 ∷ 0 ∷ 52 ∷ 56 ∷ replicate 8 0)
+    -- P9
     ∷ row (repaired unclosed (repair unclosed 98)) theFile
+    -- P10
     ∷ row (repair (take 51 unclosed) 98 .refused ∷ opens (take 51 unclosed)) (4 ∷ 4 ∷ [])
+    -- P11
     ∷ row (saves theFile) (0 ∷ 0 ∷ tableWithSite)
+    -- P12
     ∷ row (saves (take 94 theFile ++ tableWithSite)) (11 ∷ 0 ∷ [])
     ∷ []
 

@@ -1,4 +1,4 @@
--- The tag browser, and a tag by its name: "Over bytes that are not exactly a legal table it is refused 7."
+-- The tag browser, "Over bytes that are not exactly a legal table it is refused 7"; and, as a form needs it, a tag by its name.
 use Prim.Native.Nat.{ℕ, zero, suc, _+_}
 use mathlib.Core.Bool.{Bool, true, false, cond}
 use mathlib.Core.List.{List, [], _∷_}
@@ -35,7 +35,7 @@ unfoldable pub numberOfTag : List ℕ → List Tag → ℕ
 numberOfTag name [] = 0
 numberOfTag name (t ∷ ts) = cond (same name (t .name)) 0 (suc (numberOfTag name ts))
 
--- the tag of a name, or the end
+-- the tag of a name, or the end where there is none
 unfoldable pub tagNamed : (bytes name : List ℕ) → Browsed
 tagNamed bytes name =
     elim (exactly table bytes) [ bad ↦ refused 7 | good ts n ↦ cond (ltb (numberOfTag name ts) (length ts)) (tagAt ts (numberOfTag name ts)) end ]

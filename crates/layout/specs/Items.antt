@@ -96,7 +96,7 @@ itemRefusal f item = firstOf (openingLines f ++ (line 8 (noSuchItem (shown f) it
 unfoldable pub itemPart : List ℕ → Item → Part
 itemPart f item = partOf (itemRefusal f item) (record { start = itemStart (shown f) item; len = length (itemBytes (shown f) item) })
 
--- what reading a frame answers
+-- what reading a frame answers; its time is a 64-bit pattern
 pub record FrameShown : Type 0 where
   pub place : ℕ
   pub len : ℕ
@@ -106,11 +106,16 @@ pub record FrameShown : Type 0 where
 unfoldable pub frameRefusal : List ℕ → ℕ → ℕ
 frameRefusal f i = firstOf (openingLines f ++ (line 8 (noSuchFrame (shown f) i) ∷ []))
 
+unfoldable pub frameAnswer : ℕ → FrameShown → FrameShown
+frameAnswer zero s = s
+frameAnswer (ℕ.suc n) s = record { place = 0; len = 0; time = 0; exposure = 0 }
+
 unfoldable pub frameShown : List ℕ → ℕ → FrameShown
 frameShown f i =
-    record {
+    frameAnswer (frameRefusal f i)
+    (record {
       place = frameStart (shown f) i;
       len = length (frameBytes (frameOf (shown f) i));
       time = frameOf (shown f) i .time;
       exposure = frameOf (shown f) i .exposure;
-    }
+    })

@@ -1,4 +1,4 @@
--- "Refusal numbers": the lines of the table, each under its name, and opening's order, 1 to 7; and what a file shows.
+-- "Refusal numbers": an order of them, lines 1 to 7 each under its name, and what a file that opens shows. The other lines stand with their calls.
 use Prim.Native.Nat.{ℕ, _+_, _-_}
 use mathlib.Core.Bool.{Bool, true, false, not, _||_, _&&_}
 use mathlib.Core.List.{List, [], _∷_, _++_}

@@ -53,12 +53,12 @@ pieceNumber running = 0
 pieceNumber (closing p) = p
 pieceNumber closed = 0
 
--- 15 "end + index + 512,004, with every frame kept or added, would pass 2^40"
+-- 15, its second half: "end + index + 512,004, with every frame kept or added, would pass 2^40"
 unfoldable pub tooLong : (end frames : ℕ) → Bool
 tooLong end frames = ltb (2 ^ 40) (end + indexLength frames + largestTable)
 
 -- 12 "past fresh, the state's numbers break a limit (sections 1 to 8, frames at most 1,000,000, piece at most 4, last time by the time rule, end by
--- 15's limit)"
+-- 15's limit)". The last time is held against the first whatever the frame count: no earlier frame is known.
 unfoldable pub brokenState : State → Bool
 brokenState st =
     not (within 1 mostSections (st .sections))
@@ -110,10 +110,22 @@ setUpList = number 1 then λ k. times k setUpSection
 unfoldable pub sectionsOf : List ℕ → List Section
 sectionsOf setUp = valueOr [] (exactly setUpList setUp)
 
+-- 12 "the recorder's stage does not take this call": fresh alone takes it, and its numbers are not looked at
+abbrev pub wrongStageToBegin : State → Bool
+wrongStageToBegin st = not (isFresh (st .stage))
+
+-- 10 "a set-up list runs out of bytes or has bytes left over"
+abbrev pub badSetUpList : (setUp : List ℕ) → Bool
+badSetUpList setUp = isBad (exactly setUpList setUp)
+
 -- 3 "In a complete set-up list, a count or name that breaks the definitions rule"
 unfoldable pub badSetUp : List Section → Bool
 badSetUp ss =
     not (within 1 mostSections (length ss)) || not (every legalSectionName (sectionNames ss)) || not (distinct (sectionNames ss))
+
+-- 4 "Nothing may follow either; after the table that is 4."
+abbrev pub badSystemGiven : (system : List ℕ) → Bool
+badSystemGiven system = isBad (exactly table system)
 
 -- "The first piece is everything up to the first frame, with count, index offset and user offset zero"
 unfoldable pub firstPiece : (setUp system : List ℕ) → List ℕ
@@ -121,10 +133,10 @@ firstPiece setUp system = frontBytes 0 0 0 (sectionsOf setUp) system
 
 unfoldable pub beginLines : State → (setUp system notes : List ℕ) → (room : ℕ) → List Line
 beginLines st setUp system notes room =
-    line 12 (not (isFresh (st .stage)))
-    ∷ line 10 (isBad (exactly setUpList setUp))
+    line 12 (wrongStageToBegin st)
+    ∷ line 10 (badSetUpList setUp)
     ∷ line 3 (badSetUp (sectionsOf setUp))
-    ∷ line 4 (isBad (exactly table system))
+    ∷ line 4 (badSystemGiven system)
     ∷ line 9 (noRoom room (length (firstPiece setUp system)) || noRoom (length notes) 4)
     ∷ []
 
@@ -155,9 +167,17 @@ begin st setUp system notes room =
 unfoldable pub framePiece : (time exposure : ℕ) → (sections : List ℕ) → List ℕ
 framePiece time exposure sections = frameHeadBytes time exposure ++ sections
 
+-- 12 for a frame call
+abbrev pub wrongStageToAdd : State → Bool
+wrongStageToAdd st = not (isRunning (st .stage)) || brokenState st
+
 -- 14 "the sections given are not exactly the recorder's number of sizes and bytes, or a size is over its limit"
 unfoldable pub badShape : State → (sections : List ℕ) → Bool
 badShape st sections = isBad (exactly (times (st .sections) sized) sections)
+
+-- 15 "1,000,000 frames already", or too long with this one
+abbrev pub full : State → (time exposure : ℕ) → (sections : List ℕ) → Bool
+full st time exposure sections = leb mostFrames (st .frames) || tooLong (st .end + length (framePiece time exposure sections)) (st .frames + 1)
 
 -- 13 "a frame's time breaks its rule"; the first frame takes any
 unfoldable pub badClock : State → (time : ℕ) → Bool
@@ -165,9 +185,9 @@ badClock st time = not (eqb (st .frames) 0) && not (follows (st .first) (st .las
 
 unfoldable pub addLines : State → (time exposure : ℕ) → (sections notes : List ℕ) → (room : ℕ) → List Line
 addLines st time exposure sections notes room =
-    line 12 (not (isRunning (st .stage)) || brokenState st)
+    line 12 (wrongStageToAdd st)
     ∷ line 14 (badShape st sections)
-    ∷ line 15 (leb mostFrames (st .frames) || tooLong (st .end + length (framePiece time exposure sections)) (st .frames + 1))
+    ∷ line 15 (full st time exposure sections)
     ∷ line 13 (badClock st time)
     ∷ line 9 (noRoom room (length (framePiece time exposure sections)) || noRoom (length notes) (indexLength (st .frames + 1)))
     ∷ []
@@ -225,9 +245,13 @@ notesShort st notes = eqb (pieceNumber (st .stage)) 0 && noRoom (length notes) (
 unfoldable pub stageAfter : (piece : ℕ) → Stage
 stageAfter p = cond (ltb p 4) (closing (p + 1)) closed
 
+-- 12 for a close call
+abbrev pub wrongStageToClose : State → Bool
+wrongStageToClose st = not (takesClose (st .stage)) || brokenState st
+
 unfoldable pub closeLines : State → (notes : List ℕ) → (room : ℕ) → List Line
 closeLines st notes room =
-    line 12 (not (takesClose (st .stage)) || brokenState st)
+    line 12 (wrongStageToClose st)
     ∷ line 9 (noRoom room (length (closingPiece st notes .bytes)) || notesShort st notes)
     ∷ []
 

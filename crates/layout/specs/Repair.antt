@@ -26,11 +26,19 @@ keptCount f = length (walked f .frames)
 unfoldable pub tail : List ℕ → List ℕ
 tail f = indexBytes (walkStart f) (walked f .frames) ++ tableBytes []
 
+-- 16 "repair of a file that opens"
+abbrev pub whole : List ℕ → Bool
+whole f = eqb (refusal f) 0
+
+-- 13 "a frame's time breaks its rule"
+abbrev pub brokenTimes : List ℕ → Bool
+brokenTimes f = not (inOrder (walked f .frames))
+
 unfoldable pub repairLines : List ℕ → (room : ℕ) → List Line
 repairLines f room =
     frontLines f
-    ++ (line 16 (eqb (refusal f) 0)
-    ∷ line 13 (not (inOrder (walked f .frames)))
+    ++ (line 16 (whole f)
+    ∷ line 13 (brokenTimes f)
     ∷ line 15 (tooLong (keptLength f) (keptCount f))
     ∷ line 9 (noRoom room (length (tail f)))
     ∷ [])

@@ -11,7 +11,7 @@ use Rattle.layout.specs.Recorder.{noRoom}
 
 -- ── Sheets ──
 
--- a tag's place in a table as one sees it: absent, or a value; the two differ where the value is empty
+-- what a table has under a name: nothing, or a value, which may be empty
 pub data Entry : Type 0 where
   absent : Entry
   holds : List ℕ → Entry
@@ -117,12 +117,24 @@ userTags f = shown f .user
 unfoldable pub newTable : (f sheet : List ℕ) → List Tag
 newTable f bytes = applied (changesOf bytes) (userTags f)
 
+-- 10 "a change sheet is malformed"
+abbrev pub badSheet : (sheet : List ℕ) → Bool
+badSheet bytes = isBad (exactly sheet bytes)
+
+-- 11 "a seen entry disagrees"
+abbrev pub conflict : (f sheet : List ℕ) → Bool
+conflict f bytes = someConflict (userTags f) (changesOf bytes)
+
+-- 17 "more than 1,000 tags after a save"
+abbrev pub tableFull : (f sheet : List ℕ) → Bool
+tableFull f bytes = ltb mostTags (length (newTable f bytes))
+
 unfoldable pub saveLines : (f sheet : List ℕ) → (room : ℕ) → List Line
 saveLines f bytes room =
     openingLines f
-    ++ (line 10 (isBad (exactly sheet bytes))
-    ∷ line 11 (someConflict (userTags f) (changesOf bytes))
-    ∷ line 17 (ltb mostTags (length (newTable f bytes)))
+    ++ (line 10 (badSheet bytes)
+    ∷ line 11 (conflict f bytes)
+    ∷ line 17 (tableFull f bytes)
     ∷ line 9 (noRoom room (length (tableBytes (newTable f bytes))))
     ∷ [])
 

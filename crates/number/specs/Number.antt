@@ -1,4 +1,4 @@
--- Numbers as a file holds them, over any width, and times as 64-bit patterns.
+-- Numbers as a file holds them, over any width, and times as 64-bit patterns. The code reads up to eight bytes, and writes any width.
 use Prim.Native.Nat.{ℕ, zero, suc, _+_, _*_, _/_, _%_, _^_}
 use mathlib.Core.Bool.{Bool, true, false, _&&_, cond}
 use mathlib.Core.List.{List, [], _∷_}
