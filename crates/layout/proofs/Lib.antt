@@ -20,3 +20,8 @@ pub mod Trace
 pub mod Filed
 pub mod Closing
 pub mod Recorded
+pub mod Cuts
+pub mod CutWalks
+pub mod CutRepairs
+pub mod Moments
+pub mod Condition3

@@ -1,17 +1,17 @@
 -- Laws of lists and tests that every part of the theory uses.
 -- Assumes nothing.
-use Prim.Native.Nat.{ℕ, zero, suc, _+_, _-_, _≤_, _<_}
+use Prim.Native.Nat.{ℕ, zero, suc, _+_, _-_, _≤_, _<_, min}
 use native.Mathlib.Omega.{arith}
-use native.Mathlib.Nat.{le-of-suc-le-suc}
+use native.Mathlib.Nat.{zero-min, suc-min-suc, le-of-suc-le-suc}
 use mathlib.Core.Path.{_≡_, refl, ap, sym, _∙_}
 use mathlib.Core.Bool.{Bool, true, false, not, _&&_, _||_, cond}
 use mathlib.Core.Logic.{_⊎_, inl, inr}
 use mathlib.Core.List.{List, [], _∷_, _++_, map, flatMap, append-assoc, append-nil}
-use lib.ListN.{length, take, drop, getD, length-append}
+use lib.ListN.{length, take, drop, getD, length-append, take-append-drop}
 use lib.Seq.{drop-nil, take-nil}
-use lib.Dec.{ltb, eqb}
+use lib.Dec.{leb, ltb, eqb}
 use lib.Pow.{areBytes}
-use borrow.Author.Tests.{eqb-true, eq-eqb}
+use borrow.Author.Tests.{leb-true, leb-false, eqb-true, eq-eqb}
 use Rattle.number.proofs.Bytes.{both-true, and-true}
 use Rattle.layout.specs.Recording.{every, same}
 
@@ -35,6 +35,14 @@ cond-false b x y e = simp e
 pub decided : (b : Bool) → (b ≡ true) ⊎ (b ≡ false)
 decided true = inl refl
 decided false = inr refl
+
+-- at most, or more
+pub le-or-lt : (n m : ℕ) → (n ≤ m) ⊎ (m < n)
+le-or-lt n m = go (decided (leb n m))
+  where
+    go : (leb n m ≡ true) ⊎ (leb n m ≡ false) → (n ≤ m) ⊎ (m < n)
+    go (inl e) = inl (leb-true n m e)
+    go (inr e) = inr (leb-false n m e)
 
 -- ── The same bytes ──
 
@@ -64,6 +72,19 @@ every-append ok (x ∷ xs) ys = go (ok x) (every-append ok xs ys)
     go true e = e
     go false e = refl
 
+-- what holds of every element holds of the first ones
+pub every-take : {A : Type 0} (ok : A → Bool) (n : ℕ) (xs : List A) → every ok xs ≡ true → every ok (take n xs) ≡ true
+unfolding every
+every-take ok zero xs h = refl
+every-take ok (suc n) [] h = refl
+every-take ok (suc n) (x ∷ xs) h = and-true (ok x) (every ok (take n xs)) (both-true (ok x) (every ok xs) h .0) (every-take ok n xs (both-true (ok x) (every ok xs) h .1))
+
+-- no more than there are
+pub take-min : {A : Type 0} (n : ℕ) (xs : List A) → take (min n (length xs)) xs ≡ take n xs
+take-min zero xs = rw zero-min
+take-min (suc n) [] = rw take-nil
+take-min (suc n) (x ∷ xs) = rw suc-min-suc (ap (λ (l : List _). x ∷ l) (take-min n xs))
+
 -- ── Bytes ──
 
 pub bytes-append : (s t : List ℕ) → areBytes s ≡ true → areBytes t ≡ true → areBytes (s ++ t) ≡ true
@@ -86,3 +107,9 @@ pub flatMap-append : {A : Type 0} (f : A → List ℕ) (xs ys : List A) → flat
 unfolding flatMap
 flatMap-append f [] ys = refl
 flatMap-append f (x ∷ xs) ys = ap (λ (l : List ℕ). f x ++ l) (flatMap-append f xs ys) ∙ sym (append-assoc (f x) (flatMap f xs) (flatMap f ys))
+
+-- the first ones take no more than all
+pub flatMap-take : {A : Type 0} (f : A → List ℕ) (n : ℕ) (xs : List A) → length (flatMap f (take n xs)) ≤ length (flatMap f xs)
+flatMap-take f n xs =
+    let e : flatMap f xs ≡ flatMap f (take n xs) ++ flatMap f (drop n xs) = ap (flatMap f) (sym (take-append-drop n xs)) ∙ flatMap-append f (take n xs) (drop n xs) in
+    rw (e, length-append) (omega arith)

@@ -117,7 +117,7 @@ kept-ends : (f : List ℕ) → FrontGiven f → walked f .bytes ≡ length (flat
 unfolding keptOf framesEnd keptLength
 kept-ends f g e = rw (kept-starts f g, e)
 
-kept-user : (f : List ℕ) → FrontGiven f → walked f .bytes ≡ length (flatMap frameBytes (walked f .frames)) → userStart (keptOf f) ≡ keptLength f + indexLength (keptCount f)
+pub kept-user : (f : List ℕ) → FrontGiven f → walked f .bytes ≡ length (flatMap frameBytes (walked f .frames)) → userStart (keptOf f) ≡ keptLength f + indexLength (keptCount f)
 unfolding keptOf userStart keptCount
 kept-user f g e = rw (kept-ends f g e)
 
@@ -153,7 +153,7 @@ kept-bytes f g w =
     let starts : length front ≡ walkStart f = length-front (headerCount f) (indexOffset f) (userOffset f) (sectionsIn f) (tableBytes (systemIn f)) ∙ sym (g .start) in
     take-parts f front (drop (walkStart f) f) (flatMap frameBytes (walked f .frames)) (drop (walked f .bytes) (drop (walkStart f) f)) (walkStart f) (walked f .bytes) (g .bytes) (w .front) starts (sym (w .size))
 
-repaired-bytes : (f : List ℕ) → FrontGiven f → Walked mostFrames (length (definedIn f)) (drop (walkStart f) f) (walked f) → repaired f (repairing f) ≡ encode (keptOf f)
+pub repaired-bytes : (f : List ℕ) → FrontGiven f → Walked mostFrames (length (definedIn f)) (drop (walkStart f) f) (walked f) → repaired f (repairing f) ≡ encode (keptOf f)
 unfolding repaired repairing encode tail keptOf keptCount
 repaired-bytes f g w =
     rw (kept-bytes f g w, fields-set (headerCount f) (indexOffset f) (userOffset f) (keptCount f) (keptLength f) (keptLength f + indexLength (keptCount f)) (sectionsIn f) (tableBytes (systemIn f)) (flatMap frameBytes (walked f .frames)), kept-starts f g, kept-ends f g (w .size), kept-user f g (w .size))

@@ -137,7 +137,7 @@ notes-more notes old new entries entry q e p r h =
 true-not-false : true ≡ false → ⊥
 true-not-false e = let z : _≡_ {A = ℕ} 0 1 = cc in omega arith
 
-not-fresh : (c : ℕ) → isFresh (stageOf c) ≡ false
+pub not-fresh : (c : ℕ) → isFresh (stageOf c) ≡ false
 unfolding stageOf isFresh
 not-fresh c = go (eqb c 0) (ltb c 5)
   where
@@ -146,7 +146,7 @@ not-fresh c = go (eqb c 0) (ltb c 5)
     go false true = refl
     go false false = refl
 
-running-none : (c : ℕ) → isRunning (stageOf c) ≡ true → c ≡ 0
+pub running-none : (c : ℕ) → isRunning (stageOf c) ≡ true → c ≡ 0
 unfolding stageOf isRunning
 running-none zero h = refl
 running-none (suc c) h = go (ltb (suc c) 5) (rw (eqb·suc-zero c) at h)
@@ -201,7 +201,7 @@ reach ss r more n step e h k = go (answered ss n step e)
     go (inl t) = subst₂ Reached (sym (t .1)) (sym (cond-true _ more r (t .2))) (k (t .0))
     go (inr t) = subst₂ Reached (sym (t .0)) (sym (cond-false _ more r (t .1))) h
 
-abbrev beginStep : (setUp system notes : List ℕ) → Step
+abbrev pub beginStep : (setUp system notes : List ℕ) → Step
 beginStep setUp system notes = record { refused = 0; state = begun setUp system; piece = piece 0 (firstPiece setUp system); notes = sets notes 0 (replicate 4 0) }
 
 abbrev beginning : (setUp system : List ℕ) → Recording
@@ -309,13 +309,13 @@ begin-runs ss setUp system e b =
 
 -- ── To add ──
 
-abbrev addStep : State → (time exposure : ℕ) → (sections notes : List ℕ) → Step
+abbrev pub addStep : State → (time exposure : ℕ) → (sections notes : List ℕ) → Step
 addStep st time exposure sections notes = record { refused = 0; state = added st time exposure sections; piece = piece (st .end) (framePiece time exposure sections); notes = noted st time exposure sections notes }
 
-abbrev frameGiven : State → (time exposure : ℕ) → (sections : List ℕ) → Frame
+abbrev pub frameGiven : State → (time exposure : ℕ) → (sections : List ℕ) → Frame
 frameGiven st time exposure sections = record { time = time; exposure = exposure; sections = valueOr [] (exactly (times (st .sections) sized) sections) }
 
-abbrev withFrame : Recording → Frame → Recording
+abbrev pub withFrame : Recording → Frame → Recording
 withFrame r f = record { sections = r .sections; system = r .system; frames = r .frames ++ (f ∷ []); user = r .user }
 
 -- what the state and the arguments say where a frame is accepted
@@ -516,7 +516,7 @@ close-runs ss r c l h =
 
 -- ── One call ──
 
-cond-same : {A : Type 0} (b : Bool) (x : A) → cond b x x ≡ x
+pub cond-same : {A : Type 0} (b : Bool) (x : A) → cond b x x ≡ x
 cond-same true x = refl
 cond-same false x = refl
 
