@@ -1,0 +1,1 @@
+// What it means that a contract determines a call's outcome: definitions alone.
