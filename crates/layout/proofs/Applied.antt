@@ -11,7 +11,7 @@ use borrow.Author.Tests.{le-leb, not-true}
 use Rattle.number.proofs.Bytes.{both-true, and-true}
 use Rattle.layout.specs.Recording.{Tag, mostTags, every, same, among, distinct, legalTagName, legalTagValue, legalTag, tagNames, legalTable}
 use Rattle.layout.specs.Saving.{Entry, absent, holds, nobodyLooked, Change, changeNames, lookUp, newEntry, tagWith, kept, new, applied}
-use Rattle.layout.proofs.Lists.{or-false, cond-true, cond-false, same-refl, same-true}
+use Rattle.layout.proofs.Lists.{or-false, or-right, cond-true, cond-false, same-refl, same-true}
 
 abbrev pub noChange : Change
 noChange = record { name = []; seen = nobodyLooked; new = absent }
@@ -22,10 +22,6 @@ unnamed cs [] = []
 unnamed cs (t ∷ ts) = cond (among (t .name) (changeNames cs)) (unnamed cs ts) (t ∷ unnamed cs ts)
 
 -- ── Names ──
-
-pub or-right : (a b : Bool) → b ≡ true → a || b ≡ true
-or-right true b e = refl
-or-right false b e = e
 
 -- a name that is not there differs from every name that is
 pub among-other : (n m : List ℕ) (ns : List (List ℕ)) → among n ns ≡ false → among m ns ≡ true → same n m ≡ false
@@ -210,6 +206,76 @@ unnamed-new cs ts (d ∷ ds) p =
 pub applied-others : (cs : List Change) (ts : List Tag) → unnamed cs (applied cs ts) ≡ unnamed cs ts
 unfolding applied
 applied-others cs ts = unnamed-append cs (kept cs ts) (new ts cs) ∙ rw (unnamed-kept cs ts, unnamed-new cs ts cs (among-at cs)) (append-nil (unnamed cs ts))
+
+-- ── The order of the names ──
+
+-- those that pass a test, in their order
+unfoldable pub those : {A : Type 0} → (A → Bool) → List A → List A
+those ok [] = []
+those ok (x ∷ xs) = cond (ok x) (x ∷ those ok xs) (those ok xs)
+
+unfoldable pub isAbsent : Entry → Bool
+isAbsent absent = true
+isAbsent (holds v) = false
+
+-- whether the sheet's change of a name removes it
+unfoldable pub removes : List Change → List ℕ → Bool
+removes [] n = false
+removes (c ∷ cs) n = cond (same (c .name) n) (isAbsent (c .new)) (removes cs n)
+
+-- whether a change gives a value to a name that the table has not
+unfoldable pub brings : List Tag → Change → Bool
+brings ts c = not (among (c .name) (tagNames ts)) && not (isAbsent (c .new))
+
+-- a tag is removed where the sheet makes it absent
+removes-is : (cs : List Change) (t : Tag) → isAbsent (newEntry cs t) ≡ removes cs (t .name)
+unfolding newEntry removes isAbsent
+removes-is [] t = refl
+removes-is (c ∷ cs) t = go (same (c .name) (t .name)) (removes-is cs t)
+  where
+    go : (b : Bool) → isAbsent (newEntry cs t) ≡ removes cs (t .name) → isAbsent (cond b (c .new) (newEntry cs t)) ≡ cond b (isAbsent (c .new)) (removes cs (t .name))
+    go true i = refl
+    go false i = i
+
+-- the names with one tag more, or none
+names-with : (n : List ℕ) (e : Entry) (ts : List Tag) → tagNames (tagWith n e ++ ts) ≡ cond (not (isAbsent e)) (n ∷ tagNames ts) (tagNames ts)
+unfolding tagNames tagWith isAbsent
+names-with n absent ts = refl
+names-with n (holds v) ts = refl
+
+-- the kept tags' names, and those behind them
+names-kept : (cs : List Change) (ts rest : List Tag) → tagNames (kept cs ts ++ rest) ≡ those (λ n. not (removes cs n)) (tagNames ts) ++ tagNames rest
+unfolding kept tagNames those
+names-kept cs [] rest = refl
+names-kept cs (t ∷ ts) rest =
+    rw (append-assoc (tagWith (t .name) (newEntry cs t)) (kept cs ts) rest) (names-with (t .name) (newEntry cs t) (kept cs ts ++ rest)
+    ∙ rw (removes-is cs t) (go (not (removes cs (t .name))) (names-kept cs ts rest)))
+  where
+    olds : List (List ℕ)
+    olds = those (λ n. not (removes cs n)) (tagNames ts)
+
+    go : (b : Bool) → tagNames (kept cs ts ++ rest) ≡ olds ++ tagNames rest → cond b (t .name ∷ tagNames (kept cs ts ++ rest)) (tagNames (kept cs ts ++ rest)) ≡ cond b (t .name ∷ olds) olds ++ tagNames rest
+    go true i = ap (λ (l : List (List ℕ)). t .name ∷ l) i
+    go false i = i
+
+-- the new tags' names
+names-new : (ts : List Tag) (cs : List Change) → tagNames (new ts cs) ≡ changeNames (those (brings ts) cs)
+unfolding new tagNames changeNames those brings
+names-new ts [] = refl
+names-new ts (c ∷ cs) = go (among (c .name) (tagNames ts)) (names-new ts cs)
+  where
+    has : (b : Bool) → tagNames (new ts cs) ≡ changeNames (those (brings ts) cs) → cond b (c .name ∷ tagNames (new ts cs)) (tagNames (new ts cs)) ≡ changeNames (cond b (c ∷ those (brings ts) cs) (those (brings ts) cs))
+    has true i = ap (λ (l : List (List ℕ)). c .name ∷ l) i
+    has false i = i
+
+    go : (b : Bool) → tagNames (new ts cs) ≡ changeNames (those (brings ts) cs) → tagNames (cond b [] (tagWith (c .name) (c .new)) ++ new ts cs) ≡ changeNames (cond (not b && not (isAbsent (c .new))) (c ∷ those (brings ts) cs) (those (brings ts) cs))
+    go true i = i
+    go false i = names-with (c .name) (c .new) (new ts cs) ∙ has (not (isAbsent (c .new))) i
+
+-- The names of the new table: the old ones that stay, in their order, then the new ones, in sheet order.
+pub applied-names : (cs : List Change) (ts : List Tag) → tagNames (applied cs ts) ≡ those (λ n. not (removes cs n)) (tagNames ts) ++ changeNames (those (brings ts) cs)
+unfolding applied
+applied-names cs ts = names-kept cs ts (new ts cs) ∙ rw (names-new ts cs)
 
 -- A sheet of no changes leaves the table as it is.
 pub applied-none : (ts : List Tag) → applied [] ts ≡ ts

@@ -9,16 +9,19 @@ use mathlib.Core.List.{List, [], _∷_, flatMap, nil≢cons, head-eq-of-cons-eq}
 use lib.ListN.{length, take, drop, length-append, take-append-drop}
 use lib.Seq.{take-at, take-nil}
 use Rattle.layout.specs.Recording.{Recording, Frame, Legal, every, indexLength, framesStart, frameBytes, encode}
-use Rattle.layout.specs.Opening.{refusal}
+use Rattle.layout.specs.Opening.{refusal, shown}
 use Rattle.layout.specs.Recorder.{Stage, fresh, running, closing, closed, isFresh, isRunning, Piece}
 use Rattle.layout.specs.Repair.{repair, repaired, tail}
 use Rattle.layout.specs.Storage.{Call, closes, Session, freshState, started, session, given, nothingGiven, writes, stored, fileOf, cutFile, callFits}
 use Rattle.layout.proofs.Lists.{le-or-lt, every-take, flatMap-take}
 use Rattle.layout.proofs.Trace.{piecesOf, stageOf, Runs, not-fresh, running-none, traced}
+use Rattle.layout.proofs.Condition2.{legal-opens, legal-shown}
+use Rattle.layout.proofs.Repaired.{repair-room}
 use Rattle.layout.proofs.Closing.{closed-file, five-file}
+use Rattle.layout.proofs.Recorded.{recorded}
 use Rattle.layout.proofs.Cuts.{cut-shape, bodyLength, cut-opening, cut-fewer, length-pieces, length-running, length-early}
 use Rattle.layout.proofs.CutWalks.{complete, complete-few, complete-within, complete-most}
-use Rattle.layout.proofs.CutRepairs.{firstFrames, Recovers, opens-long, opening-refused, cut-opens, cut-repairs}
+use Rattle.layout.proofs.CutRepairs.{firstFrames, Recovers, opens-long, opening-refused, opening-repair, empty-repair, cut-opens, cut-repairs}
 use Rattle.layout.proofs.Moments.{given-append, withFrames, only-frames, had}
 
 -- the recording as it was after the first q calls
@@ -34,6 +37,10 @@ pub record LastComplete (notes : List ℕ) (calls : List Call) (m q : ℕ) : Typ
   pub isRunning : atCall notes calls q .state .stage ≡ running
   pub inTheCut : length (writes (atCall notes calls q .pieces)) ≤ m
   pub isLast : (q′ : ℕ) → atCall notes calls q′ .state .stage ≡ running → length (writes (atCall notes calls q′ .pieces)) ≤ m → atCall notes calls q′ .state .frames ≤ atCall notes calls q .state .frames
+
+-- the file opens and shows that recording
+abbrev pub Shows : List ℕ → Recording → Type 0
+Shows f r = (refusal f ≡ 0) × (shown f ≡ r)
 
 -- ── Moments ──
 
@@ -192,6 +199,24 @@ module _ (notes : List ℕ) (calls : List Call) (m c : ℕ) (h : every callFits 
           (z, cut-file ∙ w .1 ∙ sym (closed-file (session (started notes) calls) all c t z))
       go (inr k) = absurd (opening-refused all cutAt (t .legal) (ap refusal (sym (cut-opening all cutAt (omega arith))) ∙ opens))
 
+  -- a cut inside the opening piece
+  early : (out : ℕ) → m < framesStart (given (started notes) calls nothingGiven) → (repair (cutFile m (session (started notes) calls)) out .refused ≡ 1) ⊎ (repair (cutFile m (session (started notes) calls)) out .refused ≡ 3) ⊎ (repair (cutFile m (session (started notes) calls)) out .refused ≡ 4)
+  unfolding all cutAt
+  early out o = rw (cut-file, cut-opening all cutAt (omega arith)) (opening-repair all cutAt out (t .legal) (omega arith))
+
+-- where no piece was handed out, the file is empty
+cut-none : (notes : List ℕ) (calls : List Call) (m : ℕ) → session (started notes) calls .pieces ≡ [] → cutFile m (session (started notes) calls) ≡ []
+unfolding cutFile writes stored
+cut-none notes calls m e = ap (λ (ps : List Piece). stored [] (take m (writes ps))) e ∙ rw take-nil
+
+-- a cut file that opens is the whole file of a closed recording
+opens-whole : (notes : List ℕ) (calls : List Call) (m : ℕ) → every callFits calls ≡ true → refusal (cutFile m (session (started notes) calls)) ≡ 0 → (session (started notes) calls .state .stage ≡ closed) × (cutFile m (session (started notes) calls) ≡ fileOf (session (started notes) calls))
+opens-whole notes calls m h o = go (traced notes calls h)
+  where
+    go : ((session (started notes) calls .state ≡ freshState) × (session (started notes) calls .pieces ≡ [])) ⊎ ((k : ℕ) × Runs (session (started notes) calls) (given (started notes) calls nothingGiven) k) → (session (started notes) calls .state .stage ≡ closed) × (cutFile m (session (started notes) calls) ≡ fileOf (session (started notes) calls))
+    go (inl f) = absurd (omega (arith, opens-long [] (ap refusal (sym (cut-none notes calls m (f .1))) ∙ o)))
+    go (inr (k, t)) = whole notes calls m k h t o
+
 -- Cut after any byte m of all that was handed out, the opening piece being complete: there is such a moment, closing there ends in a closed recording,
 -- and the cut file is already that closed file and repair says 16, or, given room, repair gives that file byte for byte.
 -- Premises: what the calls were lent are bytes and numbers of their types; the room of the five close calls holds each piece.
@@ -202,13 +227,66 @@ cut-recovers notes calls m opening others h p c = go (traced notes calls h)
     go (inl f) = absurd (nil≢cons (sym (f .1) ∙ p))
     go (inr (k, t)) = recovered notes calls m k h t (omega (arith, first-piece (given (started notes) calls nothingGiven) k opening others (sym (t .piecesAre) ∙ p)))
 
--- Opening a cut file, wherever it was cut, never shows anything but the whole recording: if it opens, the recording was closed and the file is the whole one.
-pub cut-shows-whole : (notes : List ℕ) (calls : List Call) (m : ℕ) → every callFits calls ≡ true → refusal (cutFile m (session (started notes) calls)) ≡ 0 → (session (started notes) calls .state .stage ≡ closed) × (cutFile m (session (started notes) calls) ≡ fileOf (session (started notes) calls))
-unfolding cutFile writes stored
-cut-shows-whole notes calls m h o = go (traced notes calls h)
+-- ── What the recovered file holds ──
+
+-- all moments right after the last complete frame had been given the same
+last-same : (notes : List ℕ) (calls : List Call) (m q q′ : ℕ) → every callFits calls ≡ true → LastComplete notes calls m q → LastComplete notes calls m q′ → givenAt notes calls q ≡ givenAt notes calls q′
+unfolding isRunning
+last-same notes calls m q q′ h a b =
+    let d = moment notes calls q h (ap isRunning (a .isRunning)) in
+    let e = moment notes calls q′ h (ap isRunning (b .isRunning)) in
+    let n : length (givenAt notes calls q .frames) ≡ length (givenAt notes calls q′ .frames) = omega (arith, a .isLast q′ (b .isRunning) (b .inTheCut), b .isLast q (a .isRunning) (a .inTheCut), d .runs .framesAre, e .runs .framesAre) in
+    d .first ∙ ap (λ (k : ℕ). firstFrames k (given (started notes) calls nothingGiven)) n ∙ sym (e .first)
+
+-- closed there, the file opens and shows that
+closed-shows : (notes : List ℕ) (calls : List Call) (m q room : ℕ) → every callFits calls ≡ true → LastComplete notes calls m q → 8 ≤ room → indexLength (atCall notes calls q .state .frames) ≤ room → Shows (fileOf (closedThere room (atCall notes calls q))) (givenAt notes calls q)
+unfolding closedThere isRunning
+closed-shows notes calls m q room h a k i =
+    let d = moment notes calls q h (ap isRunning (a .isRunning)) in
+    let z = five-file (atCall notes calls q) (givenAt notes calls q) room (d .runs) k (omega (arith, d .runs .framesAre)) in
+    rw (z .1) (legal-opens (givenAt notes calls q) (d .runs .legal), legal-shown (givenAt notes calls q) (d .runs .legal))
+
+recovered-shows : (f whole : List ℕ) (r : Recording) → Recovers f whole → Shows whole r → Shows f r ⊎ ((out : ℕ) → length (tail f) ≤ out → Shows (repaired f (repair f out)) r)
+recovered-shows f whole r (inl (e, w)) s = inl (rw e s)
+recovered-shows f whole r (inr k) s = inr (λ out o. rw (k out o .1) s)
+
+recovered-room : (f whole : List ℕ) (out : ℕ) → Recovers f whole → refusal whole ≡ 0 → (refusal f ≡ 0 → ⊥) → out < length (tail f) → repair f out .refused ≡ 9
+recovered-room f whole out (inl (e, w)) s n o = absurd (n (ap refusal e ∙ s))
+recovered-room f whole out (inr k) s n o = repair-room f (length (tail f)) out (k (length (tail f)) (omega arith) .0) o
+
+-- What the recovered file holds: for the moment right after the last complete frame, either the cut file opens and shows, or, given room, the repaired file
+-- opens and shows, exactly what the calls up to that moment gave: every frame accepted by then, and nothing else.
+pub cut-holds : (notes : List ℕ) (calls : List Call) (m q : ℕ) (opening : Piece) (others : List Piece) → every callFits calls ≡ true → session (started notes) calls .pieces ≡ opening ∷ others → length (opening .bytes) ≤ m → LastComplete notes calls m q → Shows (cutFile m (session (started notes) calls)) (given (started notes) (take q calls) nothingGiven) ⊎ ((out : ℕ) → length (tail (cutFile m (session (started notes) calls))) ≤ out → Shows (repaired (cutFile m (session (started notes) calls)) (repair (cutFile m (session (started notes) calls)) out)) (given (started notes) (take q calls) nothingGiven))
+unfolding givenAt
+cut-holds notes calls m q opening others h p l last =
+    let c = cut-recovers notes calls m opening others h p l in
+    let room = 8 + indexLength (atCall notes calls (c .0) .state .frames) in
+    let s = closed-shows notes calls m (c .0) room h (c .1) (omega arith) (omega arith) in
+    recovered-shows (cutFile m (session (started notes) calls)) (fileOf (closedThere room (atCall notes calls (c .0)))) (given (started notes) (take q calls) nothingGiven) (c .2 room (omega arith) (omega arith) .1) (rw (last-same notes calls m (c .0) q h (c .1) last) at s)
+
+-- Too little room for the tail: a cut file that does not open is then refused 9 by repair.
+pub cut-room : (notes : List ℕ) (calls : List Call) (m out : ℕ) (opening : Piece) (others : List Piece) → every callFits calls ≡ true → session (started notes) calls .pieces ≡ opening ∷ others → length (opening .bytes) ≤ m → (refusal (cutFile m (session (started notes) calls)) ≡ 0 → ⊥) → out < length (tail (cutFile m (session (started notes) calls))) → repair (cutFile m (session (started notes) calls)) out .refused ≡ 9
+cut-room notes calls m out opening others h p l n o =
+    let c = cut-recovers notes calls m opening others h p l in
+    let room = 8 + indexLength (atCall notes calls (c .0) .state .frames) in
+    let s = closed-shows notes calls m (c .0) room h (c .1) (omega arith) (omega arith) in
+    recovered-room (cutFile m (session (started notes) calls)) (fileOf (closedThere room (atCall notes calls (c .0)))) out (c .2 room (omega arith) (omega arith) .1) (s .0) n o
+
+-- Cut before the opening piece is complete, there is nothing to recover: repair answers 1, 3 or 4, whatever the room.
+pub cut-early : (notes : List ℕ) (calls : List Call) (m out : ℕ) (opening : Piece) (others : List Piece) → every callFits calls ≡ true → session (started notes) calls .pieces ≡ opening ∷ others → m < length (opening .bytes) → (repair (cutFile m (session (started notes) calls)) out .refused ≡ 1) ⊎ (repair (cutFile m (session (started notes) calls)) out .refused ≡ 3) ⊎ (repair (cutFile m (session (started notes) calls)) out .refused ≡ 4)
+cut-early notes calls m out opening others h p l = go (traced notes calls h)
   where
-    go : ((session (started notes) calls .state ≡ freshState) × (session (started notes) calls .pieces ≡ [])) ⊎ ((k : ℕ) × Runs (session (started notes) calls) (given (started notes) calls nothingGiven) k) → (session (started notes) calls .state .stage ≡ closed) × (cutFile m (session (started notes) calls) ≡ fileOf (session (started notes) calls))
-    go (inl f) =
-        let e : cutFile m (session (started notes) calls) ≡ [] = ap (λ (ps : List Piece). stored [] (take m (writes ps))) (f .1) ∙ rw take-nil in
-        absurd (omega (arith, opens-long [] (ap refusal (sym e) ∙ o)))
-    go (inr (k, t)) = whole notes calls m k h t o
+    go : ((session (started notes) calls .state ≡ freshState) × (session (started notes) calls .pieces ≡ [])) ⊎ ((k : ℕ) × Runs (session (started notes) calls) (given (started notes) calls nothingGiven) k) → (repair (cutFile m (session (started notes) calls)) out .refused ≡ 1) ⊎ (repair (cutFile m (session (started notes) calls)) out .refused ≡ 3) ⊎ (repair (cutFile m (session (started notes) calls)) out .refused ≡ 4)
+    go (inl f) = absurd (nil≢cons (sym (f .1) ∙ p))
+    go (inr (k, t)) = early notes calls m k h t out (omega (arith, first-piece (given (started notes) calls nothingGiven) k opening others (sym (t .piecesAre) ∙ p)))
+
+-- So too where no piece was handed out at all: the file is empty, and repair answers 1.
+pub cut-nothing : (notes : List ℕ) (calls : List Call) (m out : ℕ) → session (started notes) calls .pieces ≡ [] → repair (cutFile m (session (started notes) calls)) out .refused ≡ 1
+cut-nothing notes calls m out e = rw (cut-none notes calls m e) (empty-repair out)
+
+-- Opening a cut file, wherever it was cut, never shows anything but the whole recording: if it opens, the recording was closed, the file is the whole one,
+-- and it shows all that the calls were given.
+pub cut-shows-whole : (notes : List ℕ) (calls : List Call) (m : ℕ) → every callFits calls ≡ true → refusal (cutFile m (session (started notes) calls)) ≡ 0 → (session (started notes) calls .state .stage ≡ closed) × (cutFile m (session (started notes) calls) ≡ fileOf (session (started notes) calls)) × (shown (cutFile m (session (started notes) calls)) ≡ given (started notes) calls nothingGiven)
+cut-shows-whole notes calls m h o =
+    let w = opens-whole notes calls m h o in
+    (w .0, w .1, ap shown (w .1) ∙ recorded notes calls h (w .0) .3)

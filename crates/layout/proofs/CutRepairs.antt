@@ -1,29 +1,30 @@
 -- What opening and repair make of a cut file.
 -- Assumes nothing.
-use Prim.Native.Nat.{ℕ, _+_, _-_, _^_, _≤_, _<_}
+use Prim.Native.Nat.{ℕ, suc, _+_, _-_, _^_, _≤_, _<_}
 use native.Mathlib.Omega.{arith}
 use mathlib.Core.Path.{_≡_, refl, ap, sym, _∙_, subst}
-use mathlib.Core.Bool.{true, false, not}
+use mathlib.Core.Bool.{Bool, true, false, not, _||_}
 use mathlib.Core.Logic.{_⊎_, inl, inr}
-use mathlib.Core.List.{List, [], _++_, append-assoc}
-use lib.ListN.{length, take, drop, length-take}
-use lib.Seq.{take-all}
+use mathlib.Core.List.{List, [], _++_, append-assoc, append-nil}
+use lib.ListN.{length, take, drop, length-append, length-take, length-drop}
+use lib.Seq.{take-all, drop-at, length-take-le}
 use lib.Dec.{ltb, eqb}
-use borrow.Author.Tests.{ltb-false, eqb-true, eq-eqb, le-ltb}
-use Rattle.layout.specs.Recording.{Recording, Legal, headerLength, headerBytes, definitionsBytes, configurationsBytes, mostFrames, largestTable, tableBytes, frontBytes, indexBytes, indexLength, framesStart, encode, inOrder}
-use Rattle.layout.specs.Reading.{valueOr}
-use Rattle.layout.specs.Opening.{firstOf, indexOffset, definedIn, walkStart, walkOf, counted, notFstf, refusal}
+use borrow.Author.Tests.{ltb-false, eqb-true, eq-eqb, le-ltb, lt-ltb}
+use Rattle.layout.specs.Recording.{Tag, Recording, Legal, headerLength, longestConfiguration, headerBytes, definitionsBytes, configurationsBytes, mostFrames, largestTable, tableBytes, frontBytes, indexBytes, indexLength, framesStart, encode, fileMark, same, inOrder}
+use Rattle.layout.specs.Reading.{Parsed, bad, good, table, isBad, valueOr}
+use Rattle.layout.specs.Opening.{Line, firstOf, indexOffset, systemOffset, definedIn, lastOffset, readSystem, walkStart, walkOf, counted, notFstf, otherRevision, badSections, badSystem, frontLines, refusal}
 use Rattle.layout.specs.Recorder.{tooLong}
 use Rattle.layout.specs.Repair.{walked, keptLength, keptCount, tail, repairLines, repairRefusal, repairAnswer, repair, repaired}
-use Rattle.layout.proofs.Lists.{or-false, decided, le-or-lt}
-use Rattle.layout.proofs.Lines.{FrontPasses, line-holds, front-pass, opens-passes}
-use Rattle.layout.proofs.Fronts.{systemAt, length-header, header-read, FrontRead, front-read, FrontGiven}
+use Rattle.layout.proofs.Lists.{or-false, or-right, decided, le-or-lt, drop-cut}
+use Rattle.layout.proofs.Lines.{FrontPasses, line-pass, line-holds, front-pass, opens-passes}
+use Rattle.layout.proofs.Fronts.{systemAt, length-header, length-front, HeaderRead, header-read, FrontRead, not-fstf, first-revision, front-read, FrontGiven, table-some}
+use Rattle.layout.proofs.Exact.{table-exact}
 use Rattle.layout.proofs.Walks.{took, walk-exactly, Walked}
 use Rattle.layout.proofs.Encoded.{closed-given, index-given, frames-start, frames-end, user-start, legal-sections}
 use Rattle.layout.proofs.Repaired.{keptOf, repairing, kept-user, repaired-bytes}
 use Rattle.layout.proofs.Stores.{take-append}
-use Rattle.layout.proofs.Cuts.{behind, opening, bodyLength, CutShape, length-behind, shape-whole}
-use Rattle.layout.proofs.CutWalks.{index-none, complete, complete-most, walk-cut}
+use Rattle.layout.proofs.Cuts.{behind, opening, length-opening, bodyLength, CutShape, length-behind, shape-whole}
+use Rattle.layout.proofs.CutWalks.{table-local, index-none, complete, complete-most, walk-cut}
 
 -- ── What a file that opens has ──
 
@@ -40,17 +41,92 @@ opens-index f o = closed-given f (opens-passes f o .closed) .indexSome
 system-fits : (r : Recording) → Legal r → systemAt (r .sections) < 256 ^ 8
 system-fits r l = omega (arith, frames-start r, frames-end r, user-start r, l .userOffsetFits)
 
--- A cut in the opening piece does not open.
-pub opening-refused : (r : Recording) (m : ℕ) → Legal r → refusal (take m (opening r)) ≡ 0 → ⊥
+-- ── A cut in the opening piece ──
+
+-- the header is read, where it is there
+opening-header : (r : Recording) (m : ℕ) → Legal r → headerLength < m → HeaderRead 0 0 (systemAt (r .sections)) 0 (take m (opening r))
 unfolding frontBytes
-opening-refused r m l o =
-    let n : headerLength < m = omega (arith, opens-long (take m (opening r)) o, length-take m (opening r)) in
+opening-header r m l n =
     let h : List ℕ = headerBytes 0 0 (systemAt (r .sections)) 0 in
     let t : List ℕ = definitionsBytes (r .sections) ++ (configurationsBytes (r .sections) ++ tableBytes (r .system)) in
     let a : opening r ≡ h ++ t = simp append-assoc in
     let e : take m (opening r) ≡ h ++ take (m - length h) t = rw (a, take-append, take-all m h (omega (arith, length-header 0 0 (systemAt (r .sections)) 0))) in
-    let i : indexOffset (h ++ take (m - length h) t) ≡ 0 = header-read 0 0 (systemAt (r .sections)) 0 (take (m - length h) t) (omega arith) (omega arith) (system-fits r l) (omega arith) .index in
-    omega (arith, opens-index (take m (opening r)) o, ap indexOffset e ∙ i)
+    rw e (header-read 0 0 (systemAt (r .sections)) 0 (take (m - length h) t) (omega arith) (omega arith) (system-fits r l) (omega arith))
+
+-- It does not open.
+pub opening-refused : (r : Recording) (m : ℕ) → Legal r → refusal (take m (opening r)) ≡ 0 → ⊥
+opening-refused r m l o =
+    let n : headerLength < m = omega (arith, opens-long (take m (opening r)) o, length-take m (opening r)) in
+    omega (arith, opens-index (take m (opening r)) o, opening-header r m l n .index)
+
+-- the table that stands in the whole opening is not whole in the cut one
+opening-table : (r : Recording) (m : ℕ) → Legal r → m < framesStart r → isBad (table (drop (systemAt (r .sections)) (take m (opening r)))) ≡ true
+unfolding frontBytes
+opening-table r m l h = go (table (drop at (take m (opening r)))) refl (drop-cut at m (opening r))
+  where
+    at : ℕ
+    at = systemAt (r .sections)
+
+    before : List ℕ
+    before = headerBytes 0 0 at 0 ++ definitionsBytes (r .sections) ++ configurationsBytes (r .sections)
+
+    whole : table (drop at (opening r)) ≡ good (r .system) (length (tableBytes (r .system)))
+    whole =
+        let e : length before ≡ at = omega (arith, length-append before (tableBytes (r .system)), length-front 0 0 0 (r .sections) (tableBytes (r .system))) in
+        ap table (drop-at before (tableBytes (r .system)) at e) ∙ rw append-nil at (table-exact .takes (r .system) [] (l .systemLegal))
+
+    go : (v : Parsed (List Tag)) → table (drop at (take m (opening r))) ≡ v → (t : List ℕ) × (drop at (take m (opening r)) ++ t ≡ drop at (opening r)) → isBad v ≡ true
+    go bad e c = refl
+    go (good ts n) e (t, c) =
+        let w = table-local (drop at (take m (opening r))) t ts n e in
+        let a : table (drop at (opening r)) ≡ good ts n = rw c at (w .1) in
+        let b : n ≡ length (tableBytes (r .system)) = cc whole in
+        absurd (omega (arith, w .0, length-drop at (take m (opening r)), length-take m (opening r), frames-start r, table-some (r .system)))
+
+opening-system : (r : Recording) (m : ℕ) → Legal r → headerLength < m → m < framesStart r → badSystem (take m (opening r)) ≡ true
+unfolding badSystem readSystem
+opening-system r m l n h =
+    let f = take m (opening r) in
+    let far = ltb (systemOffset f) (lastOffset 0 (definedIn f)) || ltb (lastOffset 0 (definedIn f) + longestConfiguration) (systemOffset f) in
+    or-right far (isBad (readSystem f)) (rw (opening-header r m l n .system) (opening-table r m l h))
+
+-- a front with a bad system table is refused 3 or 4
+front-three-four : (f : List ℕ) (ls : List Line) → notFstf f ≡ false → otherRevision f ≡ false → badSystem f ≡ true → (firstOf (frontLines f ++ ls) ≡ 3) ⊎ (firstOf (frontLines f ++ ls) ≡ 4)
+unfolding frontLines
+front-three-four f ls a b c = go (decided (badSections f))
+  where
+    go : (badSections f ≡ true) ⊎ (badSections f ≡ false) → (firstOf (frontLines f ++ ls) ≡ 3) ⊎ (firstOf (frontLines f ++ ls) ≡ 4)
+    go (inl d) = inl (line-pass 1 (notFstf f) _ a ∙ line-pass 2 (otherRevision f) _ b ∙ line-holds 3 (badSections f) _ d)
+    go (inr d) = inr (line-pass 1 (notFstf f) _ a ∙ line-pass 2 (otherRevision f) _ b ∙ line-pass 3 (badSections f) _ d ∙ line-holds 4 (badSystem f) _ c)
+
+-- Repair of it answers 1, 3 or 4.
+pub opening-repair : (r : Recording) (m out : ℕ) → Legal r → m < framesStart r → (repair (take m (opening r)) out .refused ≡ 1) ⊎ (repair (take m (opening r)) out .refused ≡ 3) ⊎ (repair (take m (opening r)) out .refused ≡ 4)
+unfolding repair repairAnswer repairRefusal repairLines frontLines notFstf
+opening-repair r m out l h = go (le-or-lt (headerLength + 1) m)
+  where
+    f : List ℕ
+    f = take m (opening r)
+
+    size : length f ≡ m
+    size = length-take-le m (opening r) (omega (arith, length-opening r))
+
+    answers : (n : ℕ) → repairRefusal f out ≡ suc n → repair f out .refused ≡ suc n
+    answers n e = rw e
+
+    later : (repairRefusal f out ≡ 3) ⊎ (repairRefusal f out ≡ 4) → (repair f out .refused ≡ 1) ⊎ (repair f out .refused ≡ 3) ⊎ (repair f out .refused ≡ 4)
+    later (inl e) = inr (inl (answers 2 e))
+    later (inr e) = inr (inr (answers 3 e))
+
+    go : (headerLength + 1 ≤ m) ⊎ (m < headerLength + 1) → (repair f out .refused ≡ 1) ⊎ (repair f out .refused ≡ 3) ⊎ (repair f out .refused ≡ 4)
+    go (inl n) =
+        let g = opening-header r m l (omega arith) in
+        later (front-three-four f _ (not-fstf f (omega (arith, size)) (g .mark)) (first-revision f (g .version)) (opening-system r m l (omega arith) h))
+    go (inr n) = inl (answers 0 (line-holds 1 (notFstf f) _ (ap (λ (b : Bool). b || not (same (take 4 f) fileMark)) (lt-ltb (length f) (headerLength + 1) (omega (arith, size))))))
+
+-- an empty file
+pub empty-repair : (out : ℕ) → repair [] out .refused ≡ 1
+unfolding repair repairAnswer repairRefusal repairLines frontLines notFstf firstOf
+empty-repair out = refl
 
 -- ── What repair accepts ──
 

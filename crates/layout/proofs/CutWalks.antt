@@ -13,7 +13,7 @@ use borrow.Author.Tests.{le-leb, lt-leb, lt-ltb, ne-eqb}
 use Rattle.number.specs.Number.{bytesOf, numberOf}
 use Rattle.number.proofs.Bytes.{both-true}
 use Rattle.layout.specs.Recording.{Frame, frameBytes, frameMark, indexBytes, entriesBytes, firstTime, mostFrames, every, legalFrame}
-use Rattle.layout.specs.Reading.{Parsed, bad, good, Reader, onward, give, _then_, only, times, number, block, sized, frame, walk}
+use Rattle.layout.specs.Reading.{Parsed, bad, good, Reader, onward, give, _then_, only, times, number, block, string, tag, table, sized, frame, walk}
 use Rattle.layout.proofs.Lists.{cond-true, cond-false, le-or-lt, every-take}
 use Rattle.layout.proofs.Readers.{onward-good, onward-takes, cond-good, then-good, then-takes, number-is, number-good, block-is, block-good, times-suc-good, times-suc-takes}
 use Rattle.layout.proofs.Exact.{number-exact, frame-exact}
@@ -86,6 +86,19 @@ frame-local k =
     then-local _ _ (number-local 4) λ e.
     then-local _ _ (times-local k _ (then-local _ _ (only-local _ _ (number-local 4)) block-local)) λ ss.
     give-local _
+
+string-local : Local string
+unfolding string
+string-local = then-local _ _ (number-local 1) block-local
+
+-- a table that is read stays the same with more bytes behind it
+pub table-local : Local table
+unfolding table tag
+table-local =
+    only-local _ _ (then-local _ _ (only-local _ _ (number-local 4)) λ n.
+    times-local n _ (then-local _ _ (only-local _ _ string-local) λ name.
+    then-local _ _ (only-local _ _ string-local) λ value.
+    give-local _))
 
 -- no frame at the front, and none after a cut
 pub cut-none : (k i : ℕ) (s : List ℕ) → frame k s ≡ bad → frame k (take i s) ≡ bad

@@ -1,4 +1,4 @@
--- The twelve marked examples, P1 to P12, as one table under one claim.
+-- The twelve marked examples, P1 to P12, as one table under one claim; and the recorder's calls for the same recording.
 -- Assumes nothing.
 use Prim.Native.Nat.{ℕ}
 use mathlib.Core.Bool.{Bool, true, false, not, _&&_, _||_}
@@ -7,10 +7,11 @@ use lib.ListN.{length, take, drop, replicate, set}
 use lib.Seq.{sets}
 use lib.Dec.{T}
 use Rattle.number.specs.Number.{bytesOf, numberOf}
-use Rattle.layout.specs.Recording.{fileMark, shortString, tableBytes, tagBytes, sizedBytes, frameHeadBytes, frameBytes, entryBytes, entriesBytes, firstTime, indexBytes, every, same, among, distinct, isNameByte, isTagByte, legalSectionName, legalTagName, legalTagValue, tagNames, follows, follow, inOrder}
+use Rattle.layout.specs.Recording.{fileMark, shortString, headerBytes, definitionListBytes, definitionsEnd, definitionsBytes, configurationsBytes, frontBytes, tableBytes, tagBytes, sizedBytes, frameHeadBytes, frameBytes, entryBytes, entriesBytes, firstTime, indexBytes, every, same, among, distinct, isNameByte, isTagByte, legalSectionName, legalTagName, legalTagValue, tagNames, sectionNames, follows, follow, inOrder}
 use Rattle.layout.specs.Reading.{onward, give, _then_, only, times, exactly, valueOr, taken, number, block, string, definition, definedNames, definitions, tag, table, sized, frame, stopped, longer, walk}
 use Rattle.layout.specs.Opening.{firstOf, field, headerCount, indexOffset, systemOffset, userOffset, readDefinitions, definedIn, readSystem, readUser, walkStart, walkOf, counted, notFstf, otherRevision, steps, offsetsLegal, lastOffset, badSections, badSystem, notClosed, badIndex, badUser, frontLines, openingLines, refusal, nextOffset, sectionsFrom, shown}
-use Rattle.layout.specs.Recorder.{tooLong}
+use Rattle.layout.specs.Recorder.{isFresh, isRunning, takesClose, pieceNumber, tooLong, brokenState, answer, setUpSection, setUpList, sectionsOf, badSetUp, firstPiece, beginLines, begun, begin, framePiece, badShape, badClock, addLines, firstAfter, added, noted, add, closingPieces, closingPiece, notesShort, stageAfter, closeLines, closedBy, close}
+use Rattle.layout.specs.Storage.{Call, begins, adds, closes, started, pieceOf, passedOn, called, session, write, writesAt, writes, stored, fileOf}
 use Rattle.layout.specs.Repair.{walked, keptLength, keptCount, tail, repairLines, repairRefusal, Repair, repairAnswer, repair, withFields, repaired}
 use Rattle.layout.specs.Saving.{tagValue, malformed, entryOf, seenOf, change, changeNames, sheet, changesOf, lookUp, sameEntry, agrees, conflicts, someConflict, conflictPlace, newEntry, tagWith, kept, new, applied, userTags, newTable, saveLines, saveRefusal, Save, saveAnswer, save}
 
@@ -89,3 +90,31 @@ holdsAt r = same (r .given) (r .expected)
 pub examples : T (every holdsAt rows)
 unfolding theFile unclosed theSheet tableWithSite opens repairs saves row rows holdsAt bytesOf numberOf flatMap fileMark shortString tableBytes tagBytes sizedBytes frameHeadBytes frameBytes entryBytes entriesBytes firstTime indexBytes every same among distinct isNameByte isTagByte legalSectionName legalTagName legalTagValue tagNames follows follow inOrder onward give _then_ only times exactly valueOr taken number block string definition definedNames definitions tag table sized frame stopped longer walk firstOf field headerCount indexOffset systemOffset userOffset readDefinitions definedIn readSystem readUser walkStart walkOf counted notFstf otherRevision steps offsetsLegal lastOffset badSections badSystem notClosed badIndex badUser frontLines openingLines refusal nextOffset sectionsFrom shown tooLong walked keptLength keptCount tail repairLines repairRefusal repairAnswer repair withFields repaired tagValue malformed entryOf seenOf change changeNames sheet changesOf lookUp sameEntry agrees conflicts someConflict conflictPlace newEntry tagWith kept new applied userTags newTable saveLines saveRefusal saveAnswer save
 examples = tt
+
+-- ── The worked recording, by the recorder's own calls ──
+
+-- one section IMAGE with no configuration, no system tags, and one frame at time 1000, exposure 40, pixels 34 12
+toRecord : List Call
+toRecord =
+    begins (0x01 ∷ 0x05 ∷ 0x49 ∷ 0x4D ∷ 0x41 ∷ 0x47 ∷ 0x45 ∷ 0x00 ∷ 0x00 ∷ []) (replicate 4 0) 98
+    ∷ adds 1000 40 (0x02 ∷ 0x00 ∷ 0x00 ∷ 0x00 ∷ 0x34 ∷ 0x12 ∷ []) 98
+    ∷ []
+
+-- what lies on the card after these calls; the notes hold 20 bytes of no meaning
+onCard : List Call → List ℕ
+onCard calls = fileOf (session (started (replicate 20 0xAA)) calls)
+
+pub workedRows : List Row
+workedRows =
+    -- begun and one frame added: the recording before closing
+    row (onCard toRecord) unclosed
+    -- and the index, the user table, the count and the user offset handed out, but no index offset
+    ∷ row (onCard (toRecord ++ replicate 4 (closes 98))) (sets theFile 9 (replicate 8 0))
+    -- and closed: the 98 bytes
+    ∷ row (onCard (toRecord ++ replicate 5 (closes 98))) theFile
+    ∷ []
+
+-- begin, one frame and five close calls give the file of the document
+pub worked : T (every holdsAt workedRows)
+unfolding theFile unclosed row holdsAt toRecord onCard workedRows bytesOf numberOf flatMap fileMark shortString headerBytes definitionListBytes definitionsEnd definitionsBytes configurationsBytes frontBytes tableBytes tagBytes sizedBytes frameHeadBytes entryBytes every same among distinct isNameByte isTagByte legalSectionName legalTagName legalTagValue tagNames sectionNames follows onward give _then_ only times exactly valueOr number block string tag table sized firstOf isFresh isRunning takesClose pieceNumber tooLong brokenState answer setUpSection setUpList sectionsOf badSetUp firstPiece beginLines begun begin framePiece badShape badClock addLines firstAfter added noted add closingPieces closingPiece notesShort stageAfter closeLines closedBy close started pieceOf passedOn called session write writesAt writes stored fileOf
+worked = tt

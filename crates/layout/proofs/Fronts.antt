@@ -225,11 +225,11 @@ pub record FrontRead (c i u : ℕ) (ss : List Section) (ts : List Tag) (rest f :
   pub start : walkStart f ≡ systemAt ss + length (tableBytes ts)
   pub behind : drop (walkStart f) f ≡ rest
 
-not-fstf : (f : List ℕ) → headerLength < length f → take 4 f ≡ fileMark → notFstf f ≡ false
+pub not-fstf : (f : List ℕ) → headerLength < length f → take 4 f ≡ fileMark → notFstf f ≡ false
 unfolding notFstf
 not-fstf f l m = not-or _ _ (le-ltb (length f) (headerLength + 1) (omega arith)) (rw (m, same-refl))
 
-first-revision : (f : List ℕ) → getD f 4 0 ≡ revision → otherRevision f ≡ false
+pub first-revision : (f : List ℕ) → getD f 4 0 ≡ revision → otherRevision f ≡ false
 unfolding otherRevision
 first-revision f v = rw v
 

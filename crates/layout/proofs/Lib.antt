@@ -19,6 +19,7 @@ pub mod Answers
 pub mod Trace
 pub mod Filed
 pub mod Closing
+pub mod Calls
 pub mod Recorded
 pub mod Cuts
 pub mod CutWalks

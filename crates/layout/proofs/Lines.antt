@@ -23,6 +23,16 @@ unfolding firstOf
 line-clear n true ls e = absurd (omega arith)
 line-clear n false ls e = (refl, e)
 
+-- the first lines answer for all, where one of them holds
+pub lines-first : (front bs : List Line) (n : ℕ) → firstOf front ≡ suc n → firstOf (front ++ bs) ≡ suc n
+unfolding firstOf
+lines-first [] bs n e = absurd (omega arith)
+lines-first (l ∷ ls) bs n e = go (l .holds) e (lines-first ls bs n)
+  where
+    go : (b : Bool) → firstOf (line (l .number) b ∷ ls) ≡ suc n → (firstOf ls ≡ suc n → firstOf (ls ++ bs) ≡ suc n) → firstOf (line (l .number) b ∷ ls ++ bs) ≡ suc n
+    go true q i = q
+    go false q i = i q
+
 -- none of the lines that opening and repair begin with holds
 pub record FrontPasses (f : List ℕ) : Type 0 where
   pub mark : notFstf f ≡ false

@@ -7,8 +7,8 @@ use mathlib.Core.Path.{_≡_, refl, ap, sym, _∙_}
 use mathlib.Core.Bool.{Bool, true, false, not, _&&_, _||_, cond}
 use mathlib.Core.Logic.{_⊎_, inl, inr}
 use mathlib.Core.List.{List, [], _∷_, _++_, map, flatMap, append-assoc, append-nil}
-use lib.ListN.{length, take, drop, getD, length-append, take-append-drop}
-use lib.Seq.{drop-nil, take-nil}
+use lib.ListN.{length, take, drop, getD, length-append, take-append-drop, drop-of-length-le}
+use lib.Seq.{drop-nil, take-nil, drop-append-le}
 use lib.Dec.{leb, ltb, eqb}
 use lib.Pow.{areBytes}
 use borrow.Author.Tests.{leb-true, leb-false, eqb-true, eq-eqb}
@@ -20,6 +20,10 @@ use Rattle.layout.specs.Recording.{every, same}
 pub or-false : (a b : Bool) → a || b ≡ false → (a ≡ false) × (b ≡ false)
 or-false true b e = (e, cc)
 or-false false b e = (refl, e)
+
+pub or-right : (a b : Bool) → b ≡ true → a || b ≡ true
+or-right true b e = refl
+or-right false b e = e
 
 pub not-or : (a b : Bool) → a ≡ false → b ≡ false → a || b ≡ false
 not-or true b p q = p
@@ -43,6 +47,14 @@ le-or-lt n m = go (decided (leb n m))
     go : (leb n m ≡ true) ⊎ (leb n m ≡ false) → (n ≤ m) ⊎ (m < n)
     go (inl e) = inl (leb-true n m e)
     go (inr e) = inr (leb-false n m e)
+
+-- what stands in a cut list from a place on is the front of what stands there in the whole one
+pub drop-cut : {A : Type 0} (at m : ℕ) (s : List A) → (t : List A) × (drop at (take m s) ++ t ≡ drop at s)
+drop-cut {A} at m s = go (le-or-lt at (length (take m s)))
+  where
+    go : (at ≤ length (take m s)) ⊎ (length (take m s) < at) → (t : List A) × (drop at (take m s) ++ t ≡ drop at s)
+    go (inl h) = (drop m s, sym (drop-append-le at (take m s) (drop m s) h) ∙ ap (drop at) (take-append-drop m s))
+    go (inr h) = (drop at s, ap (λ (l : List A). l ++ drop at s) (drop-of-length-le (take m s) {i = at} (omega arith)))
 
 -- ── The same bytes ──
 
@@ -72,6 +84,14 @@ every-append ok (x ∷ xs) ys = go (ok x) (every-append ok xs ys)
     go true e = e
     go false e = refl
 
+-- what all pass, all pass a weaker test
+pub every-weaker : {A : Type 0} (ok weaker : A → Bool) → ((x : A) → ok x ≡ true → weaker x ≡ true) → (xs : List A) → every ok xs ≡ true → every weaker xs ≡ true
+unfolding every
+every-weaker ok weaker h [] e = refl
+every-weaker ok weaker h (x ∷ xs) e =
+    let b = both-true (ok x) (every ok xs) e in
+    and-true (weaker x) (every weaker xs) (h x (b .0)) (every-weaker ok weaker h xs (b .1))
+
 -- what holds of every element holds of the first ones
 pub every-take : {A : Type 0} (ok : A → Bool) (n : ℕ) (xs : List A) → every ok xs ≡ true → every ok (take n xs) ≡ true
 unfolding every
@@ -90,6 +110,13 @@ take-min (suc n) (x ∷ xs) = rw suc-min-suc (ap (λ (l : List _). x ∷ l) (tak
 pub bytes-append : (s t : List ℕ) → areBytes s ≡ true → areBytes t ≡ true → areBytes (s ++ t) ≡ true
 bytes-append [] t p q = q
 bytes-append (x ∷ xs) t p q = and-true (ltb x 256) (areBytes (xs ++ t)) (both-true (ltb x 256) (areBytes xs) p .0) (bytes-append xs t (both-true (ltb x 256) (areBytes xs) p .1) q)
+
+pub bytes-split : (s t : List ℕ) → areBytes (s ++ t) ≡ true → (areBytes s ≡ true) × (areBytes t ≡ true)
+bytes-split [] t h = (refl, h)
+bytes-split (x ∷ xs) t h =
+    let b = both-true (ltb x 256) (areBytes (xs ++ t)) h in
+    let i = bytes-split xs t (b .1) in
+    (and-true (ltb x 256) (areBytes xs) (b .0) (i .0), i .1)
 
 pub bytes-drop : (n : ℕ) (s : List ℕ) → areBytes s ≡ true → areBytes (drop n s) ≡ true
 bytes-drop n [] p = rw drop-nil

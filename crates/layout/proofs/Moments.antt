@@ -25,6 +25,11 @@ unfolding session given
 given-append ss [] ds r = refl
 given-append ss (c ∷ cs) ds r = given-append (called ss c) cs ds (givenBy ss c r)
 
+pub session-append : (ss : Session) (cs ds : List Call) → session ss (cs ++ ds) ≡ session (session ss cs) ds
+unfolding session
+session-append ss [] ds = refl
+session-append ss (c ∷ cs) ds = session-append (called ss c) cs ds
+
 -- ── One call ──
 
 -- r with more frames
@@ -86,7 +91,7 @@ closes-not-fresh running h = refl
 closes-not-fresh (closing p) h = refl
 closes-not-fresh closed h = refl
 
-one-more : (r : Recording) (f : Frame) (fs : List Frame) → withFrames (withFrame r f) fs ≡ withFrames r (f ∷ fs)
+pub one-more : (r : Recording) (f : Frame) (fs : List Frame) → withFrames (withFrame r f) fs ≡ withFrames r (f ∷ fs)
 unfolding withFrames
 one-more r f fs = rw append-assoc
 

@@ -1,6 +1,6 @@
 -- Where each item of a recording stands in its bytes.
 -- Assumes nothing.
-use Prim.Native.Nat.{ℕ, zero, suc, _+_, _^_, _<_}
+use Prim.Native.Nat.{ℕ, zero, suc, _+_, _^_, _≤_, _<_}
 use native.Mathlib.Omega.{arith}
 use mathlib.Core.Path.{_≡_, ap, sym, _∙_}
 use mathlib.Core.Bool.{Bool, true, false, not, _&&_}
@@ -8,31 +8,42 @@ use mathlib.Core.List.{List, [], _∷_, _++_, flatMap, append-assoc, append-nil}
 use lib.ListN.{length, take, drop, getD, length-append}
 use lib.Seq.{drop-drop, take-append-seam, drop-append-seam, split-at}
 use lib.Dec.{ltb, leb, eqb}
+use lib.Pow.{areBytes}
 use borrow.Author.Tests.{ltb-true, eqb-true, not-false}
 use Rattle.number.specs.Number.{bytesOf}
 use Rattle.number.proofs.Bytes.{both-true, length-bytesOf}
 use Rattle.layout.specs.Recording.{Section, Tag, Frame, Recording, Legal, headerLength, headerBytes, shortString, definitionListBytes, definitionsEnd, definitionsBytes, configurationsBytes, tagBytes, tableBytes, frontBytes, sizedBytes, frameHeadBytes, frameBytes, framesStart, framesEnd, userStart, encode, every, legalFrame, longestSection}
 use Rattle.layout.specs.Items.{Item, frameSection, sectionName, configuration, systemName, systemValue, userName, userValue, noFrame, noSection, noTag, frameOf, noSuchItem, itemBytes, frameStart, systemStart, nameStart, valueStart, itemStart}
-use Rattle.layout.proofs.Lists.{flatMap-append}
+use Rattle.layout.proofs.Lists.{bytes-drop, bytes-take, flatMap-append}
 use Rattle.layout.proofs.Fronts.{length-header, length-definitions, length-definitionsBytes}
-use Rattle.layout.proofs.Encoded.{frontOf, encode-parts, behindFrames, drop-frames, drop-user}
+use Rattle.layout.proofs.Encoded.{frames-end, user-start, frontOf, length-frontOf, encode-parts, behindFrames, drop-frames, drop-user, length-encode}
 
 -- ── What stands at a place ──
 
--- some bytes stand in a file from `at` on
+-- some bytes stand in a file from `at` on, all of them before its end
 pub record Stands (f : List ℕ) (at : ℕ) (s : List ℕ) : Type 0 where
   pub rest : List ℕ
   pub stands : drop at f ≡ s ++ rest
+  pub inside : at + length s ≤ length f
 
 pub stands-take : {f : List ℕ} {at : ℕ} {s : List ℕ} → Stands f at s → take (length s) (drop at f) ≡ s
 stands-take {f} {at} {s} p = rw (p .stands) (take-append-seam s (p .rest))
 
+-- what stands in a file of bytes is bytes
+pub stands-bytes : {f : List ℕ} {at : ℕ} {s : List ℕ} → Stands f at s → areBytes f ≡ true → areBytes s ≡ true
+stands-bytes {f} {at} {s} p h = ap areBytes (sym (stands-take p)) ∙ bytes-take (length s) (drop at f) (bytes-drop at f h)
+
 pub stands-front : {f : List ℕ} {at : ℕ} (s t : List ℕ) → Stands f at (s ++ t) → Stands f at s
-stands-front {f} {at} s t p = record { rest = t ++ p .rest; stands = p .stands ∙ append-assoc s t (p .rest) }
+stands-front {f} {at} s t p =
+    record { rest = t ++ p .rest; stands = p .stands ∙ append-assoc s t (p .rest); inside = omega (arith, length-append s t) }
 
 pub stands-back : {f : List ℕ} {at : ℕ} (s t : List ℕ) → Stands f at (s ++ t) → Stands f (at + length s) t
 stands-back {f} {at} s t p =
-    record { rest = p .rest; stands = sym (drop-drop (length s) at f) ∙ ap (drop (length s)) (p .stands ∙ append-assoc s t (p .rest)) ∙ drop-append-seam s (t ++ p .rest) }
+    record {
+      rest = p .rest;
+      stands = sym (drop-drop (length s) at f) ∙ ap (drop (length s)) (p .stands ∙ append-assoc s t (p .rest)) ∙ drop-append-seam s (t ++ p .rest);
+      inside = omega (arith, length-append s t);
+    }
 
 -- the same place, written otherwise
 pub stands-at : {f : List ℕ} {at : ℕ} {s : List ℕ} (to : ℕ) → at ≡ to → Stands f at s → Stands f to s
@@ -48,13 +59,18 @@ stands-one {A} {f} {at} bytes xs i d h p =
 -- ── The parts of a recording's file ──
 
 pub frames-stand : (r : Recording) → Stands (encode r) (framesStart r) (flatMap frameBytes (r .frames))
-frames-stand r = record { rest = behindFrames r; stands = drop-frames r }
+frames-stand r = record { rest = behindFrames r; stands = drop-frames r; inside = omega (arith, length-encode r, user-start r, frames-end r) }
 
 pub user-stands : (r : Recording) → Stands (encode r) (userStart r) (tableBytes (r .user))
-user-stands r = record { rest = []; stands = drop-user r ∙ sym (append-nil (tableBytes (r .user))) }
+user-stands r = record { rest = []; stands = drop-user r ∙ sym (append-nil (tableBytes (r .user))); inside = omega (arith, length-encode r) }
 
 front-stands : (r : Recording) → Stands (encode r) 0 (frontOf r)
-front-stands r = record { rest = flatMap frameBytes (r .frames) ++ behindFrames r; stands = encode-parts r }
+front-stands r =
+    record {
+      rest = flatMap frameBytes (r .frames) ++ behindFrames r;
+      stands = encode-parts r;
+      inside = omega (arith, length-frontOf r, length-encode r, user-start r, frames-end r);
+    }
 
 -- the header, the definitions, the configurations and the system table, one behind the other
 header : Recording → List ℕ

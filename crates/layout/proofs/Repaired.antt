@@ -1,14 +1,15 @@
 -- Repair of any input that it accepts opens and holds exactly the walked frames.
 -- Assumes nothing.
-use Prim.Native.Nat.{ℕ, zero, suc, _+_, _^_, _≤_}
+use Prim.Native.Nat.{ℕ, zero, suc, _+_, _^_, _≤_, _<_}
 use native.Mathlib.Omega.{arith}
 use mathlib.Core.Path.{_≡_, refl, ap, sym, _∙_}
-use mathlib.Core.Bool.{true}
+use mathlib.Core.Bool.{true, not}
 use mathlib.Core.List.{List, [], _∷_, _++_, flatMap, append-assoc}
 use lib.ListN.{length, take, drop, length-append}
 use lib.Seq.{sets, sets-eq, take-at, drop-at}
+use lib.Dec.{ltb, eqb}
 use lib.Pow.{areBytes}
-use borrow.Author.Tests.{ltb-false, not-false}
+use borrow.Author.Tests.{ltb-false, lt-ltb, not-false}
 use Rattle.number.specs.Number.{bytesOf}
 use Rattle.number.proofs.Bytes.{length-bytesOf}
 use Rattle.layout.specs.Recording.{Section, Recording, Legal, countPlace, indexPlace, userPlace, mostFrames, largestTable, fileMark, revision, every, distinct, tagNames, legalTable, inOrder, headerBytes, definitionsBytes, configurationsBytes, tableBytes, frontBytes, frameBytes, indexBytes, indexLength, framesStart, framesEnd, userStart, encode}
@@ -18,7 +19,7 @@ use Rattle.layout.specs.Recorder.{tooLong}
 use Rattle.layout.specs.Repair.{walked, keptLength, keptCount, tail, repairLines, repairRefusal, Repair, repairAnswer, repair, withFields, repaired}
 use Rattle.layout.proofs.Lists.{bytes-drop}
 use Rattle.layout.proofs.Walks.{Walked, walk-gives}
-use Rattle.layout.proofs.Lines.{FrontPasses, line-clear, front-clear}
+use Rattle.layout.proofs.Lines.{FrontPasses, line-pass, line-holds, line-clear, front-pass, front-clear}
 use Rattle.layout.proofs.Fronts.{systemAt, sectionsIn, systemIn, length-front, FrontGiven, front-given}
 use Rattle.layout.proofs.Condition2.{legal-opens, legal-shown}
 
@@ -167,3 +168,14 @@ repair-opens f room h a =
     let w = kept-given f h in
     let l = kept-legal f g w (r .1) (r .2) in
     rw (r .3, repaired-bytes f g w) (legal-opens (keptOf f) l, legal-shown (keptOf f) l)
+
+-- A file that repair accepts, given room: with less room than the tail it is refused 9.
+pub repair-room : (f : List ℕ) (room out : ℕ) → repair f room .refused ≡ 0 → out < length (tail f) → repair f out .refused ≡ 9
+unfolding repair repairRefusal repairLines repairAnswer
+repair-room f room out a o =
+    let p = front-clear f _ (answer-is (repairRefusal f room) _ a .0) in
+    let q = line-clear 15 _ _ (p .1) in
+    let r = line-clear 12 _ _ (q .1) in
+    let s = line-clear 14 _ _ (r .1) in
+    let z : repairRefusal f out ≡ 9 = front-pass f _ (p .0) ∙ line-pass 16 (eqb (refusal f) 0) _ (q .0) ∙ line-pass 13 (not (inOrder (walked f .frames))) _ (r .0) ∙ line-pass 15 (tooLong (keptLength f) (keptCount f)) _ (s .0) ∙ line-holds 9 (ltb out (length (tail f))) _ (lt-ltb out (length (tail f)) o) in
+    rw z

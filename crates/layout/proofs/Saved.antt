@@ -2,7 +2,7 @@
 -- Assumes nothing.
 use Prim.Native.Nat.{ℕ, zero, suc, _≤_, _<_}
 use mathlib.Core.Path.{_≡_, refl, ap, sym, _∙_}
-use mathlib.Core.Bool.{Bool, true, false, cond, _&&_, _||_}
+use mathlib.Core.Bool.{Bool, true, false, not, cond, _&&_, _||_}
 use mathlib.Core.Logic.{_↔_}
 use mathlib.Core.List.{List, [], _∷_, _++_, flatMap, append-cancel-right}
 use native.Mathlib.Omega.{arith}
@@ -17,11 +17,11 @@ use Rattle.layout.specs.Reading.{Parsed, bad, good, onward, _then_, only
 use Rattle.layout.specs.Opening.{Line, line, firstOf, frontLines, openingLines, refusal, shown, userOffset, readUser, badUser}
 use Rattle.layout.specs.Recorder.{noRoom}
 use Rattle.layout.specs.Saving.{nobodyLooked, Change, sheet, changeNames, changesOf, lookUp, agrees, conflicts, someConflict, conflictPlace, userTags, newTable, saveLines, saveRefusal, saveAnswer, save}
-use Rattle.layout.proofs.Lists.{or-false, not-or, bytes-drop}
+use Rattle.layout.proofs.Lists.{or-false, or-right, not-or, bytes-drop}
 use Rattle.layout.proofs.Exact.{table-exact, exactly-gives}
-use Rattle.layout.proofs.Lines.{line-pass, opening-pass, opens-passes}
+use Rattle.layout.proofs.Lines.{line-pass, line-holds, opening-pass, opens-passes}
 use Rattle.layout.proofs.Condition2.{legal-opens, legal-shown, opens-legal}
-use Rattle.layout.proofs.Applied.{noChange, unnamed, applied-named, applied-others, applied-none, applied-legal}
+use Rattle.layout.proofs.Applied.{noChange, unnamed, those, removes, brings, applied-named, applied-others, applied-names, applied-none, applied-legal}
 use Rattle.layout.proofs.Sheets.{sheet-legal}
 use Rattle.layout.proofs.Orders.{without, no-lines, line-other, line-own, lines-other}
 
@@ -94,6 +94,13 @@ unfolding someConflict
 none-conflicts ts [] p = refl
 none-conflicts ts (c ∷ cs) p = not-or (conflicts ts c) (someConflict ts cs) (p zero (omega arith)) (none-conflicts ts cs (λ i h. p (suc i) (omega arith)))
 
+-- one that conflicts is enough
+some-conflict : (ts : List Tag) (cs : List Change) (i : ℕ) → i < length cs → conflicts ts (getD cs i noChange) ≡ true → someConflict ts cs ≡ true
+unfolding someConflict
+some-conflict ts [] i h e = absurd (omega arith)
+some-conflict ts (c ∷ cs) zero h e = ap (λ (b : Bool). b || someConflict ts cs) e
+some-conflict ts (c ∷ cs) (suc i) h e = or-right (conflicts ts c) (someConflict ts cs) (some-conflict ts cs i (omega arith) e)
+
 -- the lowest place that conflicts
 lowest-conflict : (ts : List Tag) (cs : List Change) → someConflict ts cs ≡ true → (conflictPlace ts cs < length cs) × (conflicts ts (getD cs (conflictPlace ts cs) noChange) ≡ true) × ((i : ℕ) → i < conflictPlace ts cs → conflicts ts (getD cs i noChange) ≡ false)
 unfolding someConflict conflictPlace
@@ -121,17 +128,37 @@ save-accepted f bytes room = (
   λ c. lines-save f bytes room (c .0) (c .1) (none-conflicts (userTags f) (changesOf bytes) (c .2)) (c .3) (c .4),
 )
 
--- Then the answer is the new table in file form, and each tag that the sheet names is what the sheet says of it,
-pub saved-named : (f bytes : List ℕ) (room : ℕ) (i : ℕ) → save f bytes room .refused ≡ 0 → i < length (changesOf bytes) → (save f bytes room .table ≡ tableBytes (newTable f bytes)) × (lookUp (getD (changesOf bytes) i noChange .name) (newTable f bytes) ≡ getD (changesOf bytes) i noChange .new)
-unfolding newTable save
-saved-named f bytes room i a h = (table-is _ _ _ a, applied-named (changesOf bytes) (userTags f) i (sheet-legal bytes (save-lines f bytes room a .1) .1) h)
+-- Then the answer is the new table in file form:
+pub saved-table : (f bytes : List ℕ) (room : ℕ) → save f bytes room .refused ≡ 0 → save f bytes room .table ≡ tableBytes (newTable f bytes)
+unfolding save
+saved-table f bytes room a = table-is _ _ _ a
 
--- and no other tag changed, in value or in order.
+-- each tag that the sheet names is what the sheet says of it,
+pub saved-named : (f bytes : List ℕ) (room : ℕ) (i : ℕ) → save f bytes room .refused ≡ 0 → i < length (changesOf bytes) → lookUp (getD (changesOf bytes) i noChange .name) (newTable f bytes) ≡ getD (changesOf bytes) i noChange .new
+unfolding newTable
+saved-named f bytes room i a h = applied-named (changesOf bytes) (userTags f) i (sheet-legal bytes (save-lines f bytes room a .1) .1) h
+
+-- no other tag changed, in value or in order,
 pub saved-others : (f bytes : List ℕ) (room : ℕ) → save f bytes room .refused ≡ 0 → unnamed (changesOf bytes) (newTable f bytes) ≡ unnamed (changesOf bytes) (userTags f)
 unfolding newTable
 saved-others f bytes room a = applied-others (changesOf bytes) (userTags f)
 
--- Refused 11, a save names the lowest place whose seen entry disagrees with the table.
+-- and the new table's names are the old ones that the sheet does not remove, in their order, and then, in sheet order, those that the sheet gives a value
+-- and the old table had not. So a changed tag keeps its place, removed tags vanish, and new ones come last.
+pub saved-places : (f bytes : List ℕ) → tagNames (newTable f bytes) ≡ those (λ n. not (removes (changesOf bytes) n)) (tagNames (userTags f)) ++ changeNames (those (brings (userTags f)) (changesOf bytes))
+unfolding newTable
+saved-places f bytes = applied-names (changesOf bytes) (userTags f)
+
+-- Where the file opens, the sheet is well formed and any seen entry disagrees with the table, a save is refused 11,
+pub save-conflicts : (f bytes : List ℕ) (room : ℕ) (i : ℕ) → refusal f ≡ 0 → isBad (exactly sheet bytes) ≡ false → i < length (changesOf bytes) → conflicts (userTags f) (getD (changesOf bytes) i noChange) ≡ true → save f bytes room .refused ≡ 11
+unfolding save saveRefusal saveLines
+save-conflicts f bytes room i o p h c =
+    refused-is (saveRefusal f bytes room) _ _
+    ∙ opening-pass f _ (opens-passes f o)
+    ∙ line-pass 10 (isBad (exactly sheet bytes)) _ p
+    ∙ line-holds 11 (someConflict (userTags f) (changesOf bytes)) _ (some-conflict (userTags f) (changesOf bytes) i h c)
+
+-- and names the lowest place whose seen entry disagrees with the table.
 pub save-conflict : (f bytes : List ℕ) (room : ℕ) → save f bytes room .refused ≡ 11 → (save f bytes room .place < length (changesOf bytes)) × (conflicts (userTags f) (getD (changesOf bytes) (save f bytes room .place) noChange) ≡ true) × ((i : ℕ) → i < save f bytes room .place → conflicts (userTags f) (getD (changesOf bytes) i noChange) ≡ false)
 unfolding save sheetLines openingLines frontLines without
 save-conflict f bytes room r =

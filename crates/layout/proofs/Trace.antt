@@ -204,7 +204,7 @@ reach ss r more n step e h k = go (answered ss n step e)
 abbrev pub beginStep : (setUp system notes : List ℕ) → Step
 beginStep setUp system notes = record { refused = 0; state = begun setUp system; piece = piece 0 (firstPiece setUp system); notes = sets notes 0 (replicate 4 0) }
 
-abbrev beginning : (setUp system : List ℕ) → Recording
+abbrev pub beginning : (setUp system : List ℕ) → Recording
 beginning setUp system = record { sections = sectionsOf setUp; system = valueOr [] (exactly table system); frames = []; user = [] }
 
 -- sections of a set-up list whose names are legal
@@ -218,7 +218,7 @@ sections-legal (s ∷ ss) h k =
     and-true (legalSection s) (every legalSection ss) (and-true (legalSectionName (s .name)) (leb (length (s .configuration)) 65535) (a .0) (c .1)) (sections-legal ss (a .1) (b .1))
 
 -- what the calls' arguments say where a beginning is accepted
-record Begins (setUp system notes : List ℕ) : Type 0 where
+pub record Begins (setUp system notes : List ℕ) : Type 0 where
   oneSection : 1 ≤ length (sectionsOf setUp)
   eightSections : length (sectionsOf setUp) ≤ mostSections
   legalSections : every legalSection (sectionsOf setUp) ≡ true
@@ -251,7 +251,7 @@ begins-with setUp system notes p q h k l m =
       notesFour = m;
     }
 
-begins-are : (st : State) (setUp system notes : List ℕ) (room : ℕ) → areBytes setUp ≡ true → areBytes system ≡ true → firstOf (beginLines st setUp system notes room) ≡ 0 → (isFresh (st .stage) ≡ true) × Begins setUp system notes
+pub begins-are : (st : State) (setUp system notes : List ℕ) (room : ℕ) → areBytes setUp ≡ true → areBytes system ≡ true → firstOf (beginLines st setUp system notes room) ≡ 0 → (isFresh (st .stage) ≡ true) × Begins setUp system notes
 unfolding beginLines
 begins-are st setUp system notes room p q h =
     let a = line-clear 11 _ _ h in
@@ -261,7 +261,7 @@ begins-are st setUp system notes room p q h =
     let e = line-clear 8 _ _ (d .1) in
     (not-false (isFresh (st .stage)) (a .0), begins-with setUp system notes p q (b .0) (c .0) (d .0) (ltb-false (length notes) 4 (or-false (noRoom room (length (firstPiece setUp system))) (noRoom (length notes) 4) (e .0) .1)))
 
-begin-runs : (ss : Session) (setUp system : List ℕ) → ss .pieces ≡ [] → Begins setUp system (ss .notes) → Runs (goesOn ss (beginStep setUp system (ss .notes))) (beginning setUp system) 0
+pub begin-runs : (ss : Session) (setUp system : List ℕ) → ss .pieces ≡ [] → Begins setUp system (ss .notes) → Runs (goesOn ss (beginStep setUp system (ss .notes))) (beginning setUp system) 0
 unfolding begun firstPiece pieceNumber follows stageOf firstTime lastTime piecesOf framePieces indexBytes entriesBytes bytesOf every inOrder legalTable distinct tagNames
 begin-runs ss setUp system e b =
     let r = beginning setUp system in
@@ -319,7 +319,7 @@ abbrev pub withFrame : Recording → Frame → Recording
 withFrame r f = record { sections = r .sections; system = r .system; frames = r .frames ++ (f ∷ []); user = r .user }
 
 -- what the state and the arguments say where a frame is accepted
-record Adds (st : State) (time exposure : ℕ) (sections notes : List ℕ) : Type 0 where
+pub record Adds (st : State) (time exposure : ℕ) (sections notes : List ℕ) : Type 0 where
   sound : Sound st
   frameLegal : legalFrame (st .sections) (frameGiven st time exposure sections) ≡ true
   bytesAre : framePiece time exposure sections ≡ frameBytes (frameGiven st time exposure sections)
@@ -342,7 +342,7 @@ frame-given st time exposure sections p q h k =
     let n = eqb (length ss) (st .sections) in
     (and-true (t && e && n) (every small ss) (and-true (t && e) n (and-true t e (le-leb (suc time) (2 ^ 64) p) (le-leb (suc exposure) (2 ^ 32) q)) (b .0)) (b .1), ap (λ (l : List ℕ). frameHeadBytes time exposure ++ l) (g .1))
 
-adds-are : (st : State) (time exposure : ℕ) (sections notes : List ℕ) (room : ℕ) → time < 2 ^ 64 → exposure < 2 ^ 32 → areBytes sections ≡ true → firstOf (addLines st time exposure sections notes room) ≡ 0 → (isRunning (st .stage) ≡ true) × Adds st time exposure sections notes
+pub adds-are : (st : State) (time exposure : ℕ) (sections notes : List ℕ) (room : ℕ) → time < 2 ^ 64 → exposure < 2 ^ 32 → areBytes sections ≡ true → firstOf (addLines st time exposure sections notes room) ≡ 0 → (isRunning (st .stage) ≡ true) × Adds st time exposure sections notes
 unfolding addLines tooLong
 adds-are st time exposure sections notes room p q h k =
     let a = line-clear 11 _ _ k in
@@ -367,7 +367,7 @@ adds-are st time exposure sections notes room p q h k =
       },
     )
 
-end-more : (r : Recording) (f : Frame) → framesEnd (withFrame r f) ≡ framesEnd r + length (frameBytes f)
+pub end-more : (r : Recording) (f : Frame) → framesEnd (withFrame r f) ≡ framesEnd r + length (frameBytes f)
 unfolding framesEnd framesStart flatMap
 end-more r f = rw (flatMap-append, length-append, append-nil) (omega arith)
 
@@ -403,7 +403,7 @@ index-noted notes at fs f e h =
     let m = notes-more notes (bytesOf 4 n) (bytesOf 4 (n + 1)) (entriesBytes (firstTime fs) at fs) entry (16 * n) (unfold indexBytes in e) (length-bytesOf 4 n) (length-bytesOf 4 (n + 1)) (omega arith) in
     rw (place, size) (m ∙ sym (index-more at fs f))
 
-length-noted : (st : State) (time exposure : ℕ) (sections notes : List ℕ) → length (noted st time exposure sections notes) ≡ length notes
+pub length-noted : (st : State) (time exposure : ℕ) (sections notes : List ℕ) → length (noted st time exposure sections notes) ≡ length notes
 unfolding noted
 length-noted st time exposure sections notes = rw (length-sets, length-sets)
 
@@ -412,7 +412,7 @@ noted-is : (st : State) (time exposure : ℕ) (sections notes : List ℕ) (r : R
 unfolding noted framesEnd
 noted-is st time exposure sections notes r f n g t e b = cc
 
-add-runs : (ss : Session) (r : Recording) (time exposure : ℕ) (sections : List ℕ) → Runs ss r 0 → Adds (ss .state) time exposure sections (ss .notes) → Runs (goesOn ss (addStep (ss .state) time exposure sections (ss .notes))) (withFrame r (frameGiven (ss .state) time exposure sections)) 0
+pub add-runs : (ss : Session) (r : Recording) (time exposure : ℕ) (sections : List ℕ) → Runs ss r 0 → Adds (ss .state) time exposure sections (ss .notes) → Runs (goesOn ss (addStep (ss .state) time exposure sections (ss .notes))) (withFrame r (frameGiven (ss .state) time exposure sections)) 0
 unfolding added firstAfter pieceNumber stageOf badClock every
 add-runs ss r time exposure sections h a =
     let st = ss .state in
