@@ -65,6 +65,11 @@ read-end s at w left n z e f g =
     let r : at + left ≡ at = omega arith in
     rw (le-leb w 8 e, le-leb (at + w) (length s) f) (g ∙ rw (q, r))
 
+-- where the bytes are all there, the number is theirs
+pub read-is : (s : List ℕ) (at w : ℕ) → w ≤ 8 → at + w ≤ length s → readAt s at w ≡ numberOf (take w (drop at s))
+unfolding readAt
+read-is s at w e h = rw (le-leb w 8 e, le-leb (at + w) (length s) h)
+
 pub read-wide : (s : List ℕ) (at w : ℕ) → 8 < w → 0 ≡ readAt s at w
 unfolding readAt
 read-wide s at w h = rw (lt-leb w 8 h)
