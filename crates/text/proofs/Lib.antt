@@ -1,0 +1,9 @@
+pub mod Laws
+pub mod Rows
+pub mod Times
+pub mod Names
+pub mod Readers
+pub mod Finding
+pub mod Tables
+pub mod Places
+pub mod Outcomes

@@ -1,0 +1,102 @@
+use Prim.Native.Nat.{_≤_, _+_, _-_}
+use mathlib.Core.Path.{_≡_}
+use lib.ListN.{length, take, drop}
+use lib.Seq.{sets}
+use Rattle.text.proofs.Laws.{laws}
+use Rattle.text.proofs.copy.Statement.{statement}
+use Rattle.text.proofs.copy.Tie as tie
+use Rattle.text.proofs.copy.Reads as reads
+use Rattle.text.proofs.copy.Lts as lts
+
+abbrev Inv-loop : tie.InvT-loop
+Inv-loop from start to₀ at n i₀ to i = (i ≤ n) × (start + n ≤ length from) × (at + n ≤ length to) × (length to ≡ length to₀) × (sets to (at + i) (take (n - i) (drop (start + i) from)) ≡ sets to₀ at (take n (drop start from)))
+
+abbrev μ-loop : tie.MeasureT-loop
+μ-loop from start to₀ at n i₀ to i = n - i
+
+-- src/lib.rt:163:9
+returns : tie.Need-returns Inv-loop μ-loop
+returns c = search laws
+
+-- src/lib.rt:165:8
+sub-if2 : tie.Need-sub-if2 Inv-loop μ-loop
+sub-if2 c = search laws
+
+-- src/lib.rt:166:9
+returns-2 : tie.Need-returns-2 Inv-loop μ-loop
+returns-2 c = search laws
+
+-- src/lib.rt:169:9
+returns-3 : tie.Need-returns-3 Inv-loop μ-loop
+returns-3 c = search laws
+
+-- src/lib.rt:171:8
+sub-if4 : tie.Need-sub-if4 Inv-loop μ-loop
+sub-if4 c = search laws
+
+-- src/lib.rt:172:9
+returns-4 : tie.Need-returns-4 Inv-loop μ-loop
+returns-4 c = search laws
+
+-- src/lib.rt:175:5
+loop-holds : tie.Need-loop-holds Inv-loop μ-loop
+loop-holds c = search laws
+
+-- src/lib.rt:176:27
+add-to : tie.Need-add-to Inv-loop μ-loop
+add-to c = search laws
+
+-- src/lib.rt:176:22
+shared-slice-read-to : tie.Need-shared-slice-read-to Inv-loop μ-loop
+shared-slice-read-to c = search laws
+
+-- src/lib.rt:176:12
+add-to-2 : tie.Need-add-to-2 Inv-loop μ-loop
+add-to-2 c = search laws
+
+-- src/lib.rt:176:9
+slice-write-to : tie.Need-slice-write-to Inv-loop μ-loop
+slice-write-to c = search laws
+
+-- src/lib.rt:177:9
+add-i : tie.Need-add-i Inv-loop μ-loop
+add-i c = search laws
+
+-- src/lib.rt:175:5
+loop-less : tie.Need-loop-less Inv-loop μ-loop
+loop-less c = search laws
+
+-- src/lib.rt:175:5
+loop-again : tie.Need-loop-again Inv-loop μ-loop
+loop-again c = (search laws, search laws, search laws, search laws, search laws)
+
+-- src/lib.rt:159:1
+same-length : tie.Need-same-length Inv-loop μ-loop
+same-length c = search laws
+
+-- src/lib.rt:159:1
+returns-5 : tie.Need-returns-5 Inv-loop μ-loop
+returns-5 c = search laws
+
+pub copy-spec : {M : Type 1} → statement M
+copy-spec =
+    tie.close
+    (tie.spec
+    Inv-loop
+    μ-loop
+    returns
+    sub-if2
+    returns-2
+    returns-3
+    sub-if4
+    returns-4
+    loop-holds
+    add-to
+    shared-slice-read-to
+    add-to-2
+    slice-write-to
+    add-i
+    loop-less
+    loop-again
+    same-length
+    returns-5)

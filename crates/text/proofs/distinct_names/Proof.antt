@@ -1,0 +1,93 @@
+use mathlib.Core.Path.{_≡_}
+use lib.ListN.{drop}
+use Rattle.layout.specs.Recording.{distinct}
+use Rattle.text.specs.Rows.{rowName, names, distinctNames}
+use Rattle.text.proofs.Names.{laws}
+use Rattle.text.proofs.distinct_names.Statement.{statement}
+use Rattle.text.proofs.distinct_names.Tie as tie
+use Rattle.text.proofs.distinct_names.Reads as reads
+use Rattle.text.proofs.distinct_names.Lts as lts
+use Rattle.text.proofs.find_name.Reads as find-name-reads
+use Rattle.text.proofs.row_at.Reads as row-at-reads
+
+abbrev Inv-loop : tie.InvT-loop
+Inv-loop s at n row place₀ left₀ place left = distinct (names left (rowName row) (drop place s)) ≡ distinctNames s at n row
+
+abbrev μ-loop : tie.MeasureT-loop
+μ-loop s at n row place₀ left₀ place left = left
+
+-- src/lib.rt:336:5
+loop-holds : tie.Need-loop-holds Inv-loop μ-loop
+loop-holds c = search laws
+
+-- src/lib.rt:337:13
+row-at-requires : tie.Need-row-at-requires Inv-loop μ-loop
+row-at-requires c κs = search laws
+
+-- src/lib.rt:338:29
+enum-known-found : tie.Need-enum-known-found Inv-loop μ-loop
+enum-known-found c = search laws
+
+-- src/lib.rt:339:13
+enum-told : tie.Need-enum-told Inv-loop μ-loop
+enum-told c = search laws
+
+-- src/lib.rt:339:13
+returns : tie.Need-returns Inv-loop μ-loop
+returns c = search laws
+
+-- src/lib.rt:341:9
+sub-left : tie.Need-sub-left Inv-loop μ-loop
+sub-left c = search laws
+
+-- src/lib.rt:342:34
+add-find-name : tie.Need-add-find-name Inv-loop μ-loop
+add-find-name c = search laws
+
+-- src/lib.rt:342:13
+find-name-requires : tie.Need-find-name-requires Inv-loop μ-loop
+find-name-requires c κs = search laws
+
+enum-told-2 : tie.Need-enum-told-2 Inv-loop μ-loop
+enum-told-2 c = search laws
+
+-- src/lib.rt:344:13
+enum-told-3 : tie.Need-enum-told-3 Inv-loop μ-loop
+enum-told-3 c = search laws
+
+-- src/lib.rt:344:13
+returns-2 : tie.Need-returns-2 Inv-loop μ-loop
+returns-2 c = search laws
+
+-- src/lib.rt:336:5
+loop-less : tie.Need-loop-less Inv-loop μ-loop
+loop-less c = search laws
+
+-- src/lib.rt:336:5
+loop-again : tie.Need-loop-again Inv-loop μ-loop
+loop-again c = search laws
+
+-- src/lib.rt:331:1
+returns-3 : tie.Need-returns-3 Inv-loop μ-loop
+returns-3 c = search laws
+
+pub distinct-names-spec : {M : Type 1} → statement M
+distinct-names-spec =
+    tie.close
+    (tie.spec
+    Inv-loop
+    μ-loop
+    loop-holds
+    row-at-requires
+    enum-known-found
+    enum-told
+    returns
+    sub-left
+    add-find-name
+    find-name-requires
+    enum-told-2
+    enum-told-3
+    returns-2
+    loop-less
+    loop-again
+    returns-3)

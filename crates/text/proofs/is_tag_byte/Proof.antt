@@ -1,0 +1,20 @@
+use Rattle.text.proofs.Laws.{laws}
+use Rattle.text.proofs.is_tag_byte.Statement.{statement}
+use Rattle.text.proofs.is_tag_byte.Tie as tie
+use Rattle.text.proofs.is_tag_byte.Reads as reads
+use Rattle.text.proofs.is_tag_byte.Lts as lts
+
+-- src/lib.rt:34:1
+returns : tie.Need-returns
+returns c = search laws
+
+-- src/lib.rt:34:1
+returns-2 : tie.Need-returns-2
+returns-2 c = search laws
+
+-- src/lib.rt:34:1
+returns-3 : tie.Need-returns-3
+returns-3 c = search laws
+
+pub is-tag-byte-spec : {M : Type 1} → statement M
+is-tag-byte-spec = tie.close (tie.spec returns returns-2 returns-3)

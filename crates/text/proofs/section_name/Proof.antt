@@ -1,0 +1,18 @@
+use Rattle.text.proofs.Laws.{laws}
+use borrow.Author.Needs.{needs}
+use Rattle.text.proofs.section_name.Statement.{statement}
+use Rattle.text.proofs.section_name.Tie as tie
+use Rattle.text.proofs.section_name.Reads as reads
+use Rattle.text.proofs.section_name.Lts as lts
+use Rattle.text.proofs.text_of.Reads as text-of-reads
+
+-- src/lib.rt:112:5
+text-of-requires : tie.Need-text-of-requires
+text-of-requires c κs = search needs
+
+-- src/lib.rt:109:1
+returns : tie.Need-returns
+returns c = search laws
+
+pub section-name-spec : {M : Type 1} → statement M
+section-name-spec = tie.close (tie.spec text-of-requires returns)

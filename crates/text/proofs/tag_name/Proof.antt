@@ -1,0 +1,18 @@
+use Rattle.text.proofs.Laws.{laws}
+use borrow.Author.Needs.{needs}
+use Rattle.text.proofs.tag_name.Statement.{statement}
+use Rattle.text.proofs.tag_name.Tie as tie
+use Rattle.text.proofs.tag_name.Reads as reads
+use Rattle.text.proofs.tag_name.Lts as lts
+use Rattle.text.proofs.text_of.Reads as text-of-reads
+
+-- src/lib.rt:118:5
+text-of-requires : tie.Need-text-of-requires
+text-of-requires c κs = search needs
+
+-- src/lib.rt:115:1
+returns : tie.Need-returns
+returns c = search laws
+
+pub tag-name-spec : {M : Type 1} → statement M
+tag-name-spec = tie.close (tie.spec text-of-requires returns)

@@ -1,0 +1,18 @@
+use Rattle.text.proofs.Laws.{laws}
+use borrow.Author.Needs.{needs}
+use Rattle.text.proofs.tag_value.Statement.{statement}
+use Rattle.text.proofs.tag_value.Tie as tie
+use Rattle.text.proofs.tag_value.Reads as reads
+use Rattle.text.proofs.tag_value.Lts as lts
+use Rattle.text.proofs.text_of.Reads as text-of-reads
+
+-- src/lib.rt:124:5
+text-of-requires : tie.Need-text-of-requires
+text-of-requires c κs = search needs
+
+-- src/lib.rt:121:1
+returns : tie.Need-returns
+returns c = search laws
+
+pub tag-value-spec : {M : Type 1} → statement M
+tag-value-spec = tie.close (tie.spec text-of-requires returns)
