@@ -24,6 +24,16 @@ use Rattle.layout.proofs.CutWalks.{complete, complete-few, complete-wit
 use Rattle.layout.proofs.CutRepairs.{firstFrames, Recovers, opens-long, opening-refused, opening-repair, empty-repair, cut-opens, cut-repairs}
 use Rattle.layout.proofs.Moments.{given-append, withFrames, only-frames, had}
 
+-- a recording of ours: the session of these calls from a fresh state; what it was given; and its file, cut after m bytes
+abbrev pub ours : (notes : List ℕ) (calls : List Call) → Session
+ours notes calls = session (started notes) calls
+
+abbrev pub ourGiven : (notes : List ℕ) (calls : List Call) → Recording
+ourGiven notes calls = given (started notes) calls nothingGiven
+
+abbrev pub ourCut : (notes : List ℕ) (calls : List Call) (m : ℕ) → List ℕ
+ourCut notes calls m = cutFile m (ours notes calls)
+
 -- the recording as it was after the first q calls
 unfoldable pub atCall : (notes : List ℕ) (calls : List Call) → ℕ → Session
 atCall notes calls q = session (started notes) (take q calls)
@@ -36,7 +46,10 @@ closedThere room ss = session ss (closes room ∷ closes room ∷ closes room �
 pub record LastComplete (notes : List ℕ) (calls : List Call) (m q : ℕ) : Type 0 where
   pub isRunning : atCall notes calls q .state .stage ≡ running
   pub inTheCut : length (writes (atCall notes calls q .pieces)) ≤ m
-  pub isLast : (q′ : ℕ) → atCall notes calls q′ .state .stage ≡ running → length (writes (atCall notes calls q′ .pieces)) ≤ m → atCall notes calls q′ .state .frames ≤ atCall notes calls q .state .frames
+  pub isLast : (q′ : ℕ)
+      → atCall notes calls q′ .state .stage ≡ running
+      → length (writes (atCall notes calls q′ .pieces)) ≤ m
+      → atCall notes calls q′ .state .frames ≤ atCall notes calls q .state .frames
 
 -- the file opens and shows that recording
 abbrev pub Shows : List ℕ → Recording → Type 0
@@ -220,7 +233,17 @@ opens-whole notes calls m h o = go (traced notes calls h)
 -- Cut after any byte m of all that was handed out, the opening piece being complete: there is such a moment, closing there ends in a closed recording,
 -- and the cut file is already that closed file and repair says 16, or, given room, repair gives that file byte for byte.
 -- Premises: what the calls were lent are bytes and numbers of their types; the room of the five close calls holds each piece.
-pub cut-recovers : (notes : List ℕ) (calls : List Call) (m : ℕ) (opening : Piece) (others : List Piece) → every callFits calls ≡ true → session (started notes) calls .pieces ≡ opening ∷ others → length (opening .bytes) ≤ m → (q : ℕ) × LastComplete notes calls m q × ((room : ℕ) → 8 ≤ room → indexLength (atCall notes calls q .state .frames) ≤ room → (closedThere room (atCall notes calls q) .state .stage ≡ closed) × (((cutFile m (session (started notes) calls) ≡ fileOf (closedThere room (atCall notes calls q))) × ((out : ℕ) → repair (cutFile m (session (started notes) calls)) out .refused ≡ 16)) ⊎ ((out : ℕ) → length (tail (cutFile m (session (started notes) calls))) ≤ out → (repair (cutFile m (session (started notes) calls)) out .refused ≡ 0) × (repaired (cutFile m (session (started notes) calls)) (repair (cutFile m (session (started notes) calls)) out) ≡ fileOf (closedThere room (atCall notes calls q))))))
+pub cut-recovers : (notes : List ℕ) (calls : List Call) (m : ℕ) (opening : Piece) (others : List Piece)
+    → every callFits calls ≡ true
+    → ours notes calls .pieces ≡ opening ∷ others
+    → length (opening .bytes) ≤ m
+    → (q : ℕ)
+    × LastComplete notes calls m q
+    × ((room : ℕ)
+    → 8 ≤ room
+    → indexLength (atCall notes calls q .state .frames) ≤ room
+    → (closedThere room (atCall notes calls q) .state .stage ≡ closed)
+    × Recovers (ourCut notes calls m) (fileOf (closedThere room (atCall notes calls q))))
 cut-recovers notes calls m opening others h p c = go (traced notes calls h)
   where
     go : ((session (started notes) calls .state ≡ freshState) × (session (started notes) calls .pieces ≡ [])) ⊎ ((k : ℕ) × Runs (session (started notes) calls) (given (started notes) calls nothingGiven) k) → (q : ℕ) × LastComplete notes calls m q × ((room : ℕ) → 8 ≤ room → indexLength (atCall notes calls q .state .frames) ≤ room → (closedThere room (atCall notes calls q) .state .stage ≡ closed) × Recovers (cutFile m (session (started notes) calls)) (fileOf (closedThere room (atCall notes calls q))))
@@ -256,7 +279,15 @@ recovered-room f whole out (inr k) s n o = repair-room f (length (tail f)) out (
 
 -- What the recovered file holds: for the moment right after the last complete frame, either the cut file opens and shows, or, given room, the repaired file
 -- opens and shows, exactly what the calls up to that moment gave: every frame accepted by then, and nothing else.
-pub cut-holds : (notes : List ℕ) (calls : List Call) (m q : ℕ) (opening : Piece) (others : List Piece) → every callFits calls ≡ true → session (started notes) calls .pieces ≡ opening ∷ others → length (opening .bytes) ≤ m → LastComplete notes calls m q → Shows (cutFile m (session (started notes) calls)) (given (started notes) (take q calls) nothingGiven) ⊎ ((out : ℕ) → length (tail (cutFile m (session (started notes) calls))) ≤ out → Shows (repaired (cutFile m (session (started notes) calls)) (repair (cutFile m (session (started notes) calls)) out)) (given (started notes) (take q calls) nothingGiven))
+pub cut-holds : (notes : List ℕ) (calls : List Call) (m q : ℕ) (opening : Piece) (others : List Piece)
+    → every callFits calls ≡ true
+    → ours notes calls .pieces ≡ opening ∷ others
+    → length (opening .bytes) ≤ m
+    → LastComplete notes calls m q
+    → Shows (ourCut notes calls m) (ourGiven notes (take q calls))
+    ⊎ ((out : ℕ)
+    → length (tail (ourCut notes calls m)) ≤ out
+    → Shows (repaired (ourCut notes calls m) (repair (ourCut notes calls m) out)) (ourGiven notes (take q calls)))
 unfolding givenAt
 cut-holds notes calls m q opening others h p l last =
     let c = cut-recovers notes calls m opening others h p l in
@@ -265,7 +296,13 @@ cut-holds notes calls m q opening others h p l last =
     recovered-shows (cutFile m (session (started notes) calls)) (fileOf (closedThere room (atCall notes calls (c .0)))) (given (started notes) (take q calls) nothingGiven) (c .2 room (omega arith) (omega arith) .1) (rw (last-same notes calls m (c .0) q h (c .1) last) at s)
 
 -- Too little room for the tail: a cut file that does not open is then refused 9 by repair.
-pub cut-room : (notes : List ℕ) (calls : List Call) (m out : ℕ) (opening : Piece) (others : List Piece) → every callFits calls ≡ true → session (started notes) calls .pieces ≡ opening ∷ others → length (opening .bytes) ≤ m → (refusal (cutFile m (session (started notes) calls)) ≡ 0 → ⊥) → out < length (tail (cutFile m (session (started notes) calls))) → repair (cutFile m (session (started notes) calls)) out .refused ≡ 9
+pub cut-room : (notes : List ℕ) (calls : List Call) (m out : ℕ) (opening : Piece) (others : List Piece)
+    → every callFits calls ≡ true
+    → ours notes calls .pieces ≡ opening ∷ others
+    → length (opening .bytes) ≤ m
+    → (refusal (ourCut notes calls m) ≡ 0 → ⊥)
+    → out < length (tail (ourCut notes calls m))
+    → repair (ourCut notes calls m) out .refused ≡ 9
 cut-room notes calls m out opening others h p l n o =
     let c = cut-recovers notes calls m opening others h p l in
     let room = 8 + indexLength (atCall notes calls (c .0) .state .frames) in
@@ -273,7 +310,13 @@ cut-room notes calls m out opening others h p l n o =
     recovered-room (cutFile m (session (started notes) calls)) (fileOf (closedThere room (atCall notes calls (c .0)))) out (c .2 room (omega arith) (omega arith) .1) (s .0) n o
 
 -- Cut before the opening piece is complete, there is nothing to recover: repair answers 1, 3 or 4, whatever the room.
-pub cut-early : (notes : List ℕ) (calls : List Call) (m out : ℕ) (opening : Piece) (others : List Piece) → every callFits calls ≡ true → session (started notes) calls .pieces ≡ opening ∷ others → m < length (opening .bytes) → (repair (cutFile m (session (started notes) calls)) out .refused ≡ 1) ⊎ (repair (cutFile m (session (started notes) calls)) out .refused ≡ 3) ⊎ (repair (cutFile m (session (started notes) calls)) out .refused ≡ 4)
+pub cut-early : (notes : List ℕ) (calls : List Call) (m out : ℕ) (opening : Piece) (others : List Piece)
+    → every callFits calls ≡ true
+    → ours notes calls .pieces ≡ opening ∷ others
+    → m < length (opening .bytes)
+    → (repair (ourCut notes calls m) out .refused ≡ 1)
+    ⊎ (repair (ourCut notes calls m) out .refused ≡ 3)
+    ⊎ (repair (ourCut notes calls m) out .refused ≡ 4)
 cut-early notes calls m out opening others h p l = go (traced notes calls h)
   where
     go : ((session (started notes) calls .state ≡ freshState) × (session (started notes) calls .pieces ≡ [])) ⊎ ((k : ℕ) × Runs (session (started notes) calls) (given (started notes) calls nothingGiven) k) → (repair (cutFile m (session (started notes) calls)) out .refused ≡ 1) ⊎ (repair (cutFile m (session (started notes) calls)) out .refused ≡ 3) ⊎ (repair (cutFile m (session (started notes) calls)) out .refused ≡ 4)
@@ -281,12 +324,17 @@ cut-early notes calls m out opening others h p l = go (traced notes calls h)
     go (inr (k, t)) = early notes calls m k h t out (omega (arith, first-piece (given (started notes) calls nothingGiven) k opening others (sym (t .piecesAre) ∙ p)))
 
 -- So too where no piece was handed out at all: the file is empty, and repair answers 1.
-pub cut-nothing : (notes : List ℕ) (calls : List Call) (m out : ℕ) → session (started notes) calls .pieces ≡ [] → repair (cutFile m (session (started notes) calls)) out .refused ≡ 1
+pub cut-nothing : (notes : List ℕ) (calls : List Call) (m out : ℕ) → ours notes calls .pieces ≡ [] → repair (ourCut notes calls m) out .refused ≡ 1
 cut-nothing notes calls m out e = rw (cut-none notes calls m e) (empty-repair out)
 
 -- Opening a cut file, wherever it was cut, never shows anything but the whole recording: if it opens, the recording was closed, the file is the whole one,
 -- and it shows all that the calls were given.
-pub cut-shows-whole : (notes : List ℕ) (calls : List Call) (m : ℕ) → every callFits calls ≡ true → refusal (cutFile m (session (started notes) calls)) ≡ 0 → (session (started notes) calls .state .stage ≡ closed) × (cutFile m (session (started notes) calls) ≡ fileOf (session (started notes) calls)) × (shown (cutFile m (session (started notes) calls)) ≡ given (started notes) calls nothingGiven)
+pub cut-shows-whole : (notes : List ℕ) (calls : List Call) (m : ℕ)
+    → every callFits calls ≡ true
+    → refusal (ourCut notes calls m) ≡ 0
+    → (ours notes calls .state .stage ≡ closed)
+    × (ourCut notes calls m ≡ fileOf (ours notes calls))
+    × (shown (ourCut notes calls m) ≡ ourGiven notes calls)
 cut-shows-whole notes calls m h o =
     let w = opens-whole notes calls m h o in
     (w .0, w .1, ap shown (w .1) ∙ recorded notes calls h (w .0) .3)

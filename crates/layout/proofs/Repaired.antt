@@ -46,7 +46,12 @@ unfolding repairAnswer
 answer-is zero r e = (refl, refl)
 answer-is (suc n) r e = absurd (omega arith)
 
-pub repair-lines : (f : List ℕ) (room : ℕ) → repair f room .refused ≡ 0 → FrontPasses f × (inOrder (walked f .frames) ≡ true) × (keptLength f + indexLength (keptCount f) + largestTable ≤ 2 ^ 40) × (repair f room ≡ repairing f)
+pub repair-lines : (f : List ℕ) (room : ℕ)
+    → repair f room .refused ≡ 0
+    → FrontPasses f
+    × (inOrder (walked f .frames) ≡ true)
+    × (keptLength f + indexLength (keptCount f) + largestTable ≤ 2 ^ 40)
+    × (repair f room ≡ repairing f)
 unfolding repair repairing repairRefusal repairLines tooLong
 repair-lines f room a =
     let n = answer-is (repairRefusal f room) _ a in
@@ -118,7 +123,10 @@ kept-ends : (f : List ℕ) → FrontGiven f → walked f .bytes ≡ length (flat
 unfolding keptOf framesEnd keptLength
 kept-ends f g e = rw (kept-starts f g, e)
 
-pub kept-user : (f : List ℕ) → FrontGiven f → walked f .bytes ≡ length (flatMap frameBytes (walked f .frames)) → userStart (keptOf f) ≡ keptLength f + indexLength (keptCount f)
+pub kept-user : (f : List ℕ)
+    → FrontGiven f
+    → walked f .bytes ≡ length (flatMap frameBytes (walked f .frames))
+    → userStart (keptOf f) ≡ keptLength f + indexLength (keptCount f)
 unfolding keptOf userStart keptCount
 kept-user f g e = rw (kept-ends f g e)
 
@@ -154,14 +162,21 @@ kept-bytes f g w =
     let starts : length front ≡ walkStart f = length-front (headerCount f) (indexOffset f) (userOffset f) (sectionsIn f) (tableBytes (systemIn f)) ∙ sym (g .start) in
     take-parts f front (drop (walkStart f) f) (flatMap frameBytes (walked f .frames)) (drop (walked f .bytes) (drop (walkStart f) f)) (walkStart f) (walked f .bytes) (g .bytes) (w .front) starts (sym (w .size))
 
-pub repaired-bytes : (f : List ℕ) → FrontGiven f → Walked mostFrames (length (definedIn f)) (drop (walkStart f) f) (walked f) → repaired f (repairing f) ≡ encode (keptOf f)
+pub repaired-bytes : (f : List ℕ)
+    → FrontGiven f
+    → Walked mostFrames (length (definedIn f)) (drop (walkStart f) f) (walked f)
+    → repaired f (repairing f) ≡ encode (keptOf f)
 unfolding repaired repairing encode tail keptOf keptCount
 repaired-bytes f g w =
     rw (kept-bytes f g w, fields-set (headerCount f) (indexOffset f) (userOffset f) (keptCount f) (keptLength f) (keptLength f + indexLength (keptCount f)) (sectionsIn f) (tableBytes (systemIn f)) (flatMap frameBytes (walked f .frames)), kept-starts f g, kept-ends f g (w .size), kept-user f g (w .size))
     (sym (append-assoc (frontBytes (keptCount f) (keptLength f) (keptLength f + indexLength (keptCount f)) (sectionsIn f) (tableBytes (systemIn f)) ++ flatMap frameBytes (walked f .frames)) (indexBytes (walkStart f) (walked f .frames)) (tableBytes [])))
 
 -- Whatever file repair accepts, the repaired file opens, and shows just what was kept.
-pub repair-opens : (f : List ℕ) (room : ℕ) → areBytes f ≡ true → repair f room .refused ≡ 0 → (refusal (repaired f (repair f room)) ≡ 0) × (shown (repaired f (repair f room)) ≡ keptOf f)
+pub repair-opens : (f : List ℕ) (room : ℕ)
+    → areBytes f ≡ true
+    → repair f room .refused ≡ 0
+    → (refusal (repaired f (repair f room)) ≡ 0)
+    × (shown (repaired f (repair f room)) ≡ keptOf f)
 repair-opens f room h a =
     let r = repair-lines f room a in
     let g = front-given f h (r .0) in

@@ -56,11 +56,21 @@ sheetLines f bytes room =
     ∷ line 9 (noRoom room (length (tableBytes (newTable f bytes))))
     ∷ []
 
-pub save-order : (f bytes : List ℕ) (room k : ℕ) → without k (openingLines f) ≡ true → save f bytes room .refused ≡ k → (refusal f ≡ 0) × (firstOf (sheetLines f bytes room) ≡ k)
+pub save-order : (f bytes : List ℕ) (room k : ℕ)
+    → without k (openingLines f) ≡ true
+    → save f bytes room .refused ≡ k
+    → (refusal f ≡ 0)
+    × (firstOf (sheetLines f bytes room) ≡ k)
 unfolding save saveRefusal saveLines sheetLines refusal
 save-order f bytes room k w e = lines-other (openingLines f) (sheetLines f bytes room) k w (sym (refused-is _ _ _) ∙ e)
 
-pub save-lines : (f bytes : List ℕ) (room : ℕ) → save f bytes room .refused ≡ 0 → (refusal f ≡ 0) × (isBad (exactly sheet bytes) ≡ false) × (someConflict (userTags f) (changesOf bytes) ≡ false) × (length (newTable f bytes) ≤ mostTags) × (length (tableBytes (newTable f bytes)) ≤ room)
+pub save-lines : (f bytes : List ℕ) (room : ℕ)
+    → save f bytes room .refused ≡ 0
+    → (refusal f ≡ 0)
+    × (isBad (exactly sheet bytes) ≡ false)
+    × (someConflict (userTags f) (changesOf bytes) ≡ false)
+    × (length (newTable f bytes) ≤ mostTags)
+    × (length (tableBytes (newTable f bytes)) ≤ room)
 unfolding sheetLines openingLines frontLines without
 save-lines f bytes room a =
     let o = save-order f bytes room 0 refl a in
@@ -70,7 +80,13 @@ save-lines f bytes room a =
     let s = line-other 9 _ _ 0 (omega arith) (r .1) in
     (o .0, p .0, q .0, ltb-false _ _ (r .0), ltb-false _ _ (s .0))
 
-pub lines-save : (f bytes : List ℕ) (room : ℕ) → refusal f ≡ 0 → isBad (exactly sheet bytes) ≡ false → someConflict (userTags f) (changesOf bytes) ≡ false → length (newTable f bytes) ≤ mostTags → length (tableBytes (newTable f bytes)) ≤ room → save f bytes room .refused ≡ 0
+pub lines-save : (f bytes : List ℕ) (room : ℕ)
+    → refusal f ≡ 0
+    → isBad (exactly sheet bytes) ≡ false
+    → someConflict (userTags f) (changesOf bytes) ≡ false
+    → length (newTable f bytes) ≤ mostTags
+    → length (tableBytes (newTable f bytes)) ≤ room
+    → save f bytes room .refused ≡ 0
 unfolding save saveRefusal saveLines
 lines-save f bytes room o p q r s =
     refused-is (saveRefusal f bytes room) _ _
@@ -120,7 +136,9 @@ lowest-conflict ts (c ∷ cs) e = go (conflicts ts c) refl e (lowest-conflict ts
 
 -- A save is accepted exactly when the file opens, the sheet is well formed, no seen entry disagrees with the table, the new table has at most 1,000 tags,
 -- and there is room for it.
-pub save-accepted : (f bytes : List ℕ) (room : ℕ) → (save f bytes room .refused ≡ 0) ↔ ((refusal f ≡ 0) × (isBad (exactly sheet bytes) ≡ false) × ((i : ℕ) → i < length (changesOf bytes) → conflicts (userTags f) (getD (changesOf bytes) i noChange) ≡ false) × (length (newTable f bytes) ≤ mostTags) × (length (tableBytes (newTable f bytes)) ≤ room))
+pub save-accepted : (f bytes : List ℕ) (room : ℕ)
+    → (save f bytes room .refused ≡ 0)
+    ↔ ((refusal f ≡ 0) × (isBad (exactly sheet bytes) ≡ false) × ((i : ℕ) → i < length (changesOf bytes) → conflicts (userTags f) (getD (changesOf bytes) i noChange) ≡ false) × (length (newTable f bytes) ≤ mostTags) × (length (tableBytes (newTable f bytes)) ≤ room))
 save-accepted f bytes room = (
   λ a.
       let l = save-lines f bytes room a in
@@ -134,23 +152,34 @@ unfolding save
 saved-table f bytes room a = table-is _ _ _ a
 
 -- each tag that the sheet names is what the sheet says of it,
-pub saved-named : (f bytes : List ℕ) (room : ℕ) (i : ℕ) → save f bytes room .refused ≡ 0 → i < length (changesOf bytes) → lookUp (getD (changesOf bytes) i noChange .name) (newTable f bytes) ≡ getD (changesOf bytes) i noChange .new
+pub saved-named : (f bytes : List ℕ) (room : ℕ) (i : ℕ)
+    → save f bytes room .refused ≡ 0
+    → i < length (changesOf bytes)
+    → lookUp (getD (changesOf bytes) i noChange .name) (newTable f bytes) ≡ getD (changesOf bytes) i noChange .new
 unfolding newTable
 saved-named f bytes room i a h = applied-named (changesOf bytes) (userTags f) i (sheet-legal bytes (save-lines f bytes room a .1) .1) h
 
 -- no other tag changed, in value or in order,
-pub saved-others : (f bytes : List ℕ) (room : ℕ) → save f bytes room .refused ≡ 0 → unnamed (changesOf bytes) (newTable f bytes) ≡ unnamed (changesOf bytes) (userTags f)
+pub saved-others : (f bytes : List ℕ) (room : ℕ)
+    → save f bytes room .refused ≡ 0
+    → unnamed (changesOf bytes) (newTable f bytes) ≡ unnamed (changesOf bytes) (userTags f)
 unfolding newTable
 saved-others f bytes room a = applied-others (changesOf bytes) (userTags f)
 
 -- and the new table's names are the old ones that the sheet does not remove, in their order, and then, in sheet order, those that the sheet gives a value
 -- and the old table had not. So a changed tag keeps its place, removed tags vanish, and new ones come last.
-pub saved-places : (f bytes : List ℕ) → tagNames (newTable f bytes) ≡ those (λ n. not (removes (changesOf bytes) n)) (tagNames (userTags f)) ++ changeNames (those (brings (userTags f)) (changesOf bytes))
+pub saved-places : (f bytes : List ℕ)
+    → tagNames (newTable f bytes) ≡ those (λ n. not (removes (changesOf bytes) n)) (tagNames (userTags f)) ++ changeNames (those (brings (userTags f)) (changesOf bytes))
 unfolding newTable
 saved-places f bytes = applied-names (changesOf bytes) (userTags f)
 
 -- Where the file opens, the sheet is well formed and any seen entry disagrees with the table, a save is refused 11,
-pub save-conflicts : (f bytes : List ℕ) (room : ℕ) (i : ℕ) → refusal f ≡ 0 → isBad (exactly sheet bytes) ≡ false → i < length (changesOf bytes) → conflicts (userTags f) (getD (changesOf bytes) i noChange) ≡ true → save f bytes room .refused ≡ 11
+pub save-conflicts : (f bytes : List ℕ) (room : ℕ) (i : ℕ)
+    → refusal f ≡ 0
+    → isBad (exactly sheet bytes) ≡ false
+    → i < length (changesOf bytes)
+    → conflicts (userTags f) (getD (changesOf bytes) i noChange) ≡ true
+    → save f bytes room .refused ≡ 11
 unfolding save saveRefusal saveLines
 save-conflicts f bytes room i o p h c =
     refused-is (saveRefusal f bytes room) _ _
@@ -159,7 +188,11 @@ save-conflicts f bytes room i o p h c =
     ∙ line-holds 11 (someConflict (userTags f) (changesOf bytes)) _ (some-conflict (userTags f) (changesOf bytes) i h c)
 
 -- and names the lowest place whose seen entry disagrees with the table.
-pub save-conflict : (f bytes : List ℕ) (room : ℕ) → save f bytes room .refused ≡ 11 → (save f bytes room .place < length (changesOf bytes)) × (conflicts (userTags f) (getD (changesOf bytes) (save f bytes room .place) noChange) ≡ true) × ((i : ℕ) → i < save f bytes room .place → conflicts (userTags f) (getD (changesOf bytes) i noChange) ≡ false)
+pub save-conflict : (f bytes : List ℕ) (room : ℕ)
+    → save f bytes room .refused ≡ 11
+    → (save f bytes room .place < length (changesOf bytes))
+    × (conflicts (userTags f) (getD (changesOf bytes) (save f bytes room .place) noChange) ≡ true)
+    × ((i : ℕ) → i < save f bytes room .place → conflicts (userTags f) (getD (changesOf bytes) i noChange) ≡ false)
 unfolding save sheetLines openingLines frontLines without
 save-conflict f bytes room r =
     let o = save-order f bytes room 11 refl r in
@@ -206,7 +239,11 @@ unfolding withUser encode upToUser userStart framesEnd framesStart
 withUser-bytes f front r ts e d = ap (λ (l : List ℕ). l ++ tableBytes ts) (append-cancel-right (upToUser r) front (tableBytes (r .user)) (e ∙ sym d))
 
 -- The file with the new table in the old one's place opens, with the same sections, system tags and frames.
-pub saved-opens : (f bytes : List ℕ) (room : ℕ) → areBytes f ≡ true → save f bytes room .refused ≡ 0 → (refusal (take (userOffset f) f ++ save f bytes room .table) ≡ 0) × (shown (take (userOffset f) f ++ save f bytes room .table) ≡ withUser (shown f) (newTable f bytes))
+pub saved-opens : (f bytes : List ℕ) (room : ℕ)
+    → areBytes f ≡ true
+    → save f bytes room .refused ≡ 0
+    → (refusal (take (userOffset f) f ++ save f bytes room .table) ≡ 0)
+    × (shown (take (userOffset f) f ++ save f bytes room .table) ≡ withUser (shown f) (newTable f bytes))
 unfolding save newTable userTags
 saved-opens f bytes room h a = rw (table-is _ _ _ a, ← e) (legal-opens (withUser (shown f) ts) l, legal-shown (withUser (shown f) ts) l)
   where
@@ -234,7 +271,12 @@ unfolding legalTable
 table-few ts h = leb-true _ _ (both-true _ _ (both-true (leb (length ts) mostTags && every legalTag ts) (distinct (tagNames ts)) h .0) .0)
 
 -- An empty sheet gives the same table.
-pub save-nothing : (f : List ℕ) (room : ℕ) → areBytes f ≡ true → refusal f ≡ 0 → length (drop (userOffset f) f) ≤ room → (save f (0 ∷ []) room .refused ≡ 0) × (save f (0 ∷ []) room .table ≡ drop (userOffset f) f)
+pub save-nothing : (f : List ℕ) (room : ℕ)
+    → areBytes f ≡ true
+    → refusal f ≡ 0
+    → length (drop (userOffset f) f) ≤ room
+    → (save f (0 ∷ []) room .refused ≡ 0)
+    × (save f (0 ∷ []) room .table ≡ drop (userOffset f) f)
 unfolding changesOf valueOr newTable save
 save-nothing f room h o r = (a, table-is _ _ _ a ∙ ap tableBytes t ∙ sym (u .1))
   where

@@ -69,14 +69,16 @@ pub record Runs (ss : Session) (r : Recording) (c : ℕ) : Type 0 where
 
 -- ── One frame more ──
 
-pub framePieces-more : (at : ℕ) (fs : List Frame) (f : Frame) → framePieces at (fs ++ (f ∷ [])) ≡ framePieces at fs ++ (piece (at + length (flatMap frameBytes fs)) (frameBytes f) ∷ [])
+pub framePieces-more : (at : ℕ) (fs : List Frame) (f : Frame)
+    → framePieces at (fs ++ (f ∷ [])) ≡ framePieces at fs ++ (piece (at + length (flatMap frameBytes fs)) (frameBytes f) ∷ [])
 unfolding framePieces flatMap
 framePieces-more at [] f = rw add-zero
 framePieces-more at (x ∷ xs) f =
     let e : at + length (frameBytes x ++ flatMap frameBytes xs) ≡ at + length (frameBytes x) + length (flatMap frameBytes xs) = rw length-append (omega arith) in
     rw e (ap (λ (l : List Piece). piece at (frameBytes x) ∷ l) (framePieces-more (at + length (frameBytes x)) xs f))
 
-pub entries-more : (first at : ℕ) (fs : List Frame) (f : Frame) → entriesBytes first at (fs ++ (f ∷ [])) ≡ entriesBytes first at fs ++ entryBytes first (f .time) (at + length (flatMap frameBytes fs)) (length (frameBytes f))
+pub entries-more : (first at : ℕ) (fs : List Frame) (f : Frame)
+    → entriesBytes first at (fs ++ (f ∷ [])) ≡ entriesBytes first at fs ++ entryBytes first (f .time) (at + length (flatMap frameBytes fs)) (length (frameBytes f))
 unfolding entriesBytes flatMap
 entries-more first at [] f = rw (add-zero, append-nil)
 entries-more first at (x ∷ xs) f =
@@ -98,7 +100,8 @@ entries-first at [] f = unfold entriesBytes in refl
 entries-first at (x ∷ xs) f = unfold firstTime in refl
 
 -- the index of one frame more, the entries ahead being the same
-pub index-more : (at : ℕ) (fs : List Frame) (f : Frame) → indexBytes at (fs ++ (f ∷ [])) ≡ bytesOf 4 (length fs + 1) ++ entriesBytes (firstTime fs) at fs ++ entryBytes (firstTime (fs ++ (f ∷ []))) (f .time) (at + length (flatMap frameBytes fs)) (length (frameBytes f))
+pub index-more : (at : ℕ) (fs : List Frame) (f : Frame)
+    → indexBytes at (fs ++ (f ∷ [])) ≡ bytesOf 4 (length fs + 1) ++ entriesBytes (firstTime fs) at fs ++ entryBytes (firstTime (fs ++ (f ∷ []))) (f .time) (at + length (flatMap frameBytes fs)) (length (frameBytes f))
 unfolding indexBytes
 index-more at fs f =
     let n : length (fs ++ (f ∷ [])) ≡ length fs + 1 = length-append fs (f ∷ []) in
@@ -156,7 +159,12 @@ running-none (suc c) h = go (ltb (suc c) 5) (rw (eqb·suc-zero c) at h)
     go false e = let z : _≡_ {A = ℕ} 0 1 = cc in absurd (omega arith)
 
 -- before the last of the five pieces: which one is next, that a close call takes it, and the stage after it
-pub at-piece : (c : ℕ) → c ≤ 4 → (pieceNumber (stageOf c) ≡ c) × (takesClose (stageOf c) ≡ true) × (stageAfter c ≡ stageOf (suc c)) × (pieceNumber (stageOf (suc c)) ≤ 4)
+pub at-piece : (c : ℕ)
+    → c ≤ 4
+    → (pieceNumber (stageOf c) ≡ c)
+    × (takesClose (stageOf c) ≡ true)
+    × (stageAfter c ≡ stageOf (suc c))
+    × (pieceNumber (stageOf (suc c)) ≤ 4)
 unfolding stageOf pieceNumber takesClose stageAfter
 at-piece zero l = (refl, refl, refl, omega arith)
 at-piece (suc zero) l = (refl, refl, refl, omega arith)
@@ -251,7 +259,12 @@ begins-with setUp system notes p q h k l m =
       notesFour = m;
     }
 
-pub begins-are : (st : State) (setUp system notes : List ℕ) (room : ℕ) → areBytes setUp ≡ true → areBytes system ≡ true → firstOf (beginLines st setUp system notes room) ≡ 0 → (isFresh (st .stage) ≡ true) × Begins setUp system notes
+pub begins-are : (st : State) (setUp system notes : List ℕ) (room : ℕ)
+    → areBytes setUp ≡ true
+    → areBytes system ≡ true
+    → firstOf (beginLines st setUp system notes room) ≡ 0
+    → (isFresh (st .stage) ≡ true)
+    × Begins setUp system notes
 unfolding beginLines
 begins-are st setUp system notes room p q h =
     let a = line-clear 11 _ _ h in
@@ -261,7 +274,10 @@ begins-are st setUp system notes room p q h =
     let e = line-clear 8 _ _ (d .1) in
     (not-false (isFresh (st .stage)) (a .0), begins-with setUp system notes p q (b .0) (c .0) (d .0) (ltb-false (length notes) 4 (or-false (noRoom room (length (firstPiece setUp system))) (noRoom (length notes) 4) (e .0) .1)))
 
-pub begin-runs : (ss : Session) (setUp system : List ℕ) → ss .pieces ≡ [] → Begins setUp system (ss .notes) → Runs (goesOn ss (beginStep setUp system (ss .notes))) (beginning setUp system) 0
+pub begin-runs : (ss : Session) (setUp system : List ℕ)
+    → ss .pieces ≡ []
+    → Begins setUp system (ss .notes)
+    → Runs (goesOn ss (beginStep setUp system (ss .notes))) (beginning setUp system) 0
 unfolding begun firstPiece pieceNumber follows stageOf firstTime lastTime piecesOf framePieces indexBytes entriesBytes bytesOf every inOrder legalTable distinct tagNames
 begin-runs ss setUp system e b =
     let r = beginning setUp system in
@@ -342,7 +358,13 @@ frame-given st time exposure sections p q h k =
     let n = eqb (length ss) (st .sections) in
     (and-true (t && e && n) (every small ss) (and-true (t && e) n (and-true t e (le-leb (suc time) (2 ^ 64) p) (le-leb (suc exposure) (2 ^ 32) q)) (b .0)) (b .1), ap (λ (l : List ℕ). frameHeadBytes time exposure ++ l) (g .1))
 
-pub adds-are : (st : State) (time exposure : ℕ) (sections notes : List ℕ) (room : ℕ) → time < 2 ^ 64 → exposure < 2 ^ 32 → areBytes sections ≡ true → firstOf (addLines st time exposure sections notes room) ≡ 0 → (isRunning (st .stage) ≡ true) × Adds st time exposure sections notes
+pub adds-are : (st : State) (time exposure : ℕ) (sections notes : List ℕ) (room : ℕ)
+    → time < 2 ^ 64
+    → exposure < 2 ^ 32
+    → areBytes sections ≡ true
+    → firstOf (addLines st time exposure sections notes room) ≡ 0
+    → (isRunning (st .stage) ≡ true)
+    × Adds st time exposure sections notes
 unfolding addLines tooLong
 adds-are st time exposure sections notes room p q h k =
     let a = line-clear 11 _ _ k in
@@ -412,7 +434,10 @@ noted-is : (st : State) (time exposure : ℕ) (sections notes : List ℕ) (r : R
 unfolding noted framesEnd
 noted-is st time exposure sections notes r f n g t e b = cc
 
-pub add-runs : (ss : Session) (r : Recording) (time exposure : ℕ) (sections : List ℕ) → Runs ss r 0 → Adds (ss .state) time exposure sections (ss .notes) → Runs (goesOn ss (addStep (ss .state) time exposure sections (ss .notes))) (withFrame r (frameGiven (ss .state) time exposure sections)) 0
+pub add-runs : (ss : Session) (r : Recording) (time exposure : ℕ) (sections : List ℕ)
+    → Runs ss r 0
+    → Adds (ss .state) time exposure sections (ss .notes)
+    → Runs (goesOn ss (addStep (ss .state) time exposure sections (ss .notes))) (withFrame r (frameGiven (ss .state) time exposure sections)) 0
 unfolding added firstAfter pieceNumber stageOf badClock every
 add-runs ss r time exposure sections h a =
     let st = ss .state in
@@ -477,7 +502,10 @@ unfolding closingPieces closings userStart
 closings-are st notes r e n h = rw (e, n, h)
 
 -- the next piece is the recording's
-pub closing-is : (ss : Session) (r : Recording) (c : ℕ) → c ≤ 4 → Runs ss r c → closingPiece (ss .state) (ss .notes) ≡ getD (closings r) c (piece 0 [])
+pub closing-is : (ss : Session) (r : Recording) (c : ℕ)
+    → c ≤ 4
+    → Runs ss r c
+    → closingPiece (ss .state) (ss .notes) ≡ getD (closings r) c (piece 0 [])
 unfolding closingPiece
 closing-is ss r c l h =
     ap (λ (ps : List Piece). getD ps (pieceNumber (ss .state .stage)) (piece 0 [])) (closings-are (ss .state) (ss .notes) r (h .endIs) (h .framesAre) (h .notesAre))
@@ -566,7 +594,10 @@ reached-call ss r (adds time exposure sections room) f h = reached-adds ss r tim
 reached-call ss r (closes room) f h = reached-closes ss r room h
 
 -- any calls
-pub reached : (ss : Session) (r : Recording) (calls : List Call) → every callFits calls ≡ true → Reached ss r → Reached (session ss calls) (given ss calls r)
+pub reached : (ss : Session) (r : Recording) (calls : List Call)
+    → every callFits calls ≡ true
+    → Reached ss r
+    → Reached (session ss calls) (given ss calls r)
 unfolding session given every
 reached ss r [] f h = h
 reached ss r (c ∷ cs) f h =
@@ -574,6 +605,9 @@ reached ss r (c ∷ cs) f h =
     reached (called ss c) (givenBy ss c r) cs (b .1) (reached-call ss r c (b .0) h)
 
 -- Whatever the calls were, the session is still fresh and nothing was handed out, or it has recorded what it was given.
-pub traced : (notes : List ℕ) (calls : List Call) → every callFits calls ≡ true → ((session (started notes) calls .state ≡ freshState) × (session (started notes) calls .pieces ≡ [])) ⊎ ((c : ℕ) × Runs (session (started notes) calls) (given (started notes) calls nothingGiven) c)
+pub traced : (notes : List ℕ) (calls : List Call)
+    → every callFits calls ≡ true
+    → ((session (started notes) calls .state ≡ freshState) × (session (started notes) calls .pieces ≡ []))
+    ⊎ ((c : ℕ) × Runs (session (started notes) calls) (given (started notes) calls nothingGiven) c)
 unfolding started
 traced notes calls h = reached (started notes) nothingGiven calls h (inl (refl, refl))
