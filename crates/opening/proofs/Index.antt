@@ -1,0 +1,341 @@
+-- The frames that are left and the entries that are left, one step of the loop at a time; and the index as a whole.
+-- Assumes nothing.
+use Prim.Native.Nat.{ℕ, zero, suc, _+_, _*_, _-_, _^_, _<_, _≤_}
+use native.Mathlib.Omega.{arith}
+use mathlib.Core.Path.{_≡_, refl, ap, sym, _∙_}
+use mathlib.Core.Bool.{Bool, true, false, not, _&&_, _||_}
+use mathlib.Core.List.{List, [], _∷_, _++_}
+use lib.ListN.{length, take, drop, getD, length-append, length-drop}
+use lib.Seq.{drop-drop, take-add, length-take-le}
+use lib.Dec.{leb, ltb, eqb, leb·suc-suc}
+use lib.Pow.{areBytes}
+use borrow.Author.Tests.{le-leb, lt-leb, leb-true, ltb-true, ltb-false, lt-ltb, le-ltb, eq-eqb, ne-eqb, eqb-true}
+use mir.Syntax.{w8, w64}
+use mir.Val.{Fits}
+use Rattle.number.specs.Number.{bytesOf, numberOf, readAt, rank}
+use Rattle.number.proofs.Bytes.{length-bytesOf, slice-bytes, both-true}
+use Rattle.layout.specs.Recording.{Frame, frameBytes, entryBytes, entriesBytes, indexBytes, firstTime, follows, follow, inOrder, same, longestSpan}
+use Rattle.layout.specs.Reading.{Parsed, bad, good, frame, Walk, stopped, longer, walk}
+use Rattle.layout.proofs.Lists.{bytes-drop, same-true}
+use Rattle.opening.proofs.Readers.{read-is}
+use Rattle.opening.proofs.Same.{same-append, same-number}
+use Rattle.opening.proofs.Frames.{frame-parts, found, not-found}
+use Rattle.opening.specs.Opened.{frameAt, sinceFirst, otherEntry, otherWalk, otherFrames, badIndexIn, badIndexBy}
+use Rattle.header.specs.declared.Header.{Header}
+use Rattle.opening.specs.declared.FrameAt.{FrameAt}
+use Rattle.opening.specs.declared.FrameAt.the-variants.{Whole, None}
+use Rattle.layout.proofs.Walks.{walk-none, walk-stop, walk-step, walk-gives}
+use Rattle.layout.proofs.Exact.{frame-exact}
+
+-- ── Times ──
+
+pub since-before : (first time a b : ℕ) → a ≡ rank first → b ≡ rank time → b < a → 0 ≡ sinceFirst first time
+unfolding sinceFirst
+since-before first time a b p q h = omega arith
+
+pub since-after : (first time a b : ℕ) → a ≡ rank first → b ≡ rank time → a ≤ b → b - a ≡ sinceFirst first time
+unfolding sinceFirst
+since-after first time a b p q h = omega arith
+
+pub follows-early : (first last time a b : ℕ) → a ≡ rank time → b ≡ rank last → a < b → false ≡ follows first last time
+unfolding follows
+follows-early first last time a b p q h = rw (lt-leb (rank last) (rank time) (omega arith))
+
+pub follows-late : (first last time a b d : ℕ) → a ≡ rank time → b ≡ rank last → b ≤ a → d ≡ sinceFirst first time → 4294967295 < d → false ≡ follows first last time
+unfolding follows sinceFirst
+follows-late first last time a b d p q h e l = rw (le-leb (rank last) (rank time) (omega arith), lt-leb (rank time - rank first) longestSpan (omega arith))
+
+pub follows-right : (first last time a b d : ℕ) → a ≡ rank time → b ≡ rank last → b ≤ a → d ≡ sinceFirst first time → d ≤ 4294967295 → true ≡ follows first last time
+unfolding follows sinceFirst
+follows-right first last time a b d p q h e l = rw (le-leb (rank last) (rank time) (omega arith), le-leb (rank time - rank first) longestSpan (omega arith))
+
+-- ── An entry ──
+
+-- sixteen bytes are an entry's exactly when its three numbers are read there
+entry-numbers : (f : List ℕ) (entry since offset size : ℕ) → areBytes f ≡ true → entry + 16 ≤ length f → since < 2 ^ 32 → offset < 2 ^ 64 → size < 2 ^ 32 → otherEntry f entry since offset size ≡ not (eqb (readAt f entry 4) since && eqb (readAt f (entry + 4) 8) offset && eqb (readAt f (entry + 12) 4) size)
+unfolding otherEntry
+entry-numbers f entry since offset size b h p q r =
+    let s : List ℕ = drop entry f in
+    let l : length (drop entry f) ≡ length f - entry = length-drop entry f in
+    let l₄ : length (drop (entry + 4) f) ≡ length f - (entry + 4) = length-drop (entry + 4) f in
+    let l₁₂ : length (drop (entry + 12) f) ≡ length f - (entry + 12) = length-drop (entry + 12) f in
+    let t₄ : length (take 4 (drop entry f)) ≡ 4 = length-take-le 4 (drop entry f) (omega arith) in
+    let t₈ : length (take 8 (drop (entry + 4) f)) ≡ 8 = length-take-le 8 (drop (entry + 4) f) (omega arith) in
+    rw (split f entry, same-append (take 4 (drop entry f) ++ take 8 (drop (entry + 4) f)) (take 4 (drop (entry + 12) f)) (bytesOf 4 since ++ bytesOf 8 offset) (bytesOf 4 size) (omega (arith, length-append (take 4 (drop entry f)) (take 8 (drop (entry + 4) f)), length-append (bytesOf 4 since) (bytesOf 8 offset), length-bytesOf 4 since, length-bytesOf 8 offset)), same-append (take 4 (drop entry f)) (take 8 (drop (entry + 4) f)) (bytesOf 4 since) (bytesOf 8 offset) (omega (arith, length-bytesOf 4 since)), same-number 4 (drop entry f) since (bytes-drop entry f b) (omega arith) p, same-number 8 (drop (entry + 4) f) offset (bytes-drop (entry + 4) f b) (omega arith) q, same-number 4 (drop (entry + 12) f) size (bytes-drop (entry + 12) f b) (omega arith) r, read-is f entry 4 (omega arith) (omega arith), read-is f (entry + 4) 8 (omega arith) (omega arith), read-is f (entry + 12) 4 (omega arith) (omega arith))
+  where
+    split : (f : List ℕ) (entry : ℕ) → take 16 (drop entry f) ≡ take 4 (drop entry f) ++ take 8 (drop (entry + 4) f) ++ take 4 (drop (entry + 12) f)
+    split f entry =
+        take-add 12 4 (drop entry f) ∙ ap (λ (t : List ℕ). t ++ take 4 (drop 12 (drop entry f))) (take-add 4 8 (drop entry f)) ∙ rw (drop-drop 12 entry f, drop-drop 4 entry f)
+
+pub other-since : (f : List ℕ) (entry since offset size a : ℕ) → ((i : ℕ) → Fits w8 (getD f i 0)) → entry + 16 ≤ length f → since < 2 ^ 32 → Fits w64 offset → size < 2 ^ 32 → a ≡ readAt f entry 4 → (a ≡ since → ⊥) → true ≡ otherEntry f entry since offset size
+other-since f entry since offset size a b h p q r e u = rw (entry-numbers f entry since offset size (slice-bytes f b) h p (q .fits) r, ne-eqb (readAt f entry 4) since (λ g. u (e ∙ g)))
+
+pub other-offset : (f : List ℕ) (entry since offset size a c : ℕ) → ((i : ℕ) → Fits w8 (getD f i 0)) → entry + 16 ≤ length f → since < 2 ^ 32 → Fits w64 offset → size < 2 ^ 32 → a ≡ readAt f entry 4 → a ≡ since → c ≡ readAt f (entry + 4) 8 → (c ≡ offset → ⊥) → true ≡ otherEntry f entry since offset size
+other-offset f entry since offset size a c b h p q r e g i u =
+    rw (entry-numbers f entry since offset size (slice-bytes f b) h p (q .fits) r, eq-eqb (readAt f entry 4) since (sym e ∙ g), ne-eqb (readAt f (entry + 4) 8) offset (λ k. u (i ∙ k)))
+
+pub other-size : (f : List ℕ) (entry since offset size a c d : ℕ) → ((i : ℕ) → Fits w8 (getD f i 0)) → entry + 16 ≤ length f → since < 2 ^ 32 → Fits w64 offset → size < 2 ^ 32 → a ≡ readAt f entry 4 → a ≡ since → c ≡ readAt f (entry + 4) 8 → c ≡ offset → d ≡ readAt f (entry + 12) 4 → (d ≡ size → ⊥) → true ≡ otherEntry f entry since offset size
+other-size f entry since offset size a c d b h p q r e g i j k u =
+    rw (entry-numbers f entry since offset size (slice-bytes f b) h p (q .fits) r, eq-eqb (readAt f entry 4) since (sym e ∙ g), eq-eqb (readAt f (entry + 4) 8) offset (sym i ∙ j), ne-eqb (readAt f (entry + 12) 4) size (λ m. u (k ∙ m)))
+
+pub this-entry : (f : List ℕ) (entry since offset size a c d : ℕ) → ((i : ℕ) → Fits w8 (getD f i 0)) → entry + 16 ≤ length f → since < 2 ^ 32 → Fits w64 offset → size < 2 ^ 32 → a ≡ readAt f entry 4 → a ≡ since → c ≡ readAt f (entry + 4) 8 → c ≡ offset → d ≡ readAt f (entry + 12) 4 → d ≡ size → false ≡ otherEntry f entry since offset size
+this-entry f entry since offset size a c d b h p q r e g i j k m =
+    rw (entry-numbers f entry since offset size (slice-bytes f b) h p (q .fits) r, eq-eqb (readAt f entry 4) since (sym e ∙ g), eq-eqb (readAt f (entry + 4) 8) offset (sym i ∙ j), eq-eqb (readAt f (entry + 12) 4) size (sym k ∙ m))
+
+-- ── The frames that are left ──
+
+third-holds : (a b d : Bool) → (a || b || true || d) ≡ true
+third-holds true b d = refl
+third-holds false true d = refl
+third-holds false false d = refl
+
+fourth-holds : (a b c : Bool) → (a || b || c || true) ≡ true
+fourth-holds true b c = refl
+fourth-holds false true c = refl
+fourth-holds false false true = refl
+fourth-holds false false false = refl
+
+length-entry : (first time offset size : ℕ) → length (entryBytes first time offset size) ≡ 16
+unfolding entryBytes
+length-entry first time offset size =
+    omega (arith, length-append (bytesOf 4 (rank time - rank first) ++ bytesOf 8 offset) (bytesOf 4 size), length-append (bytesOf 4 (rank time - rank first)) (bytesOf 8 offset), length-bytesOf 4 (rank time - rank first), length-bytesOf 8 offset, length-bytesOf 4 size)
+
+not-both : (a b : Bool) → not (a && b) ≡ (not a || not b)
+not-both true b = refl
+not-both false b = refl
+
+-- the entries of a frame and of those behind it
+entries-cons : (f : List ℕ) (first at entry left : ℕ) (x : Frame) (fs : List Frame) (n : ℕ) → n ≡ length (frameBytes x) → entry + 16 ≤ length f → not (same (take (16 * suc left) (drop entry f)) (entriesBytes first at (x ∷ fs))) ≡ (otherEntry f entry (sinceFirst first (x .time)) at n || not (same (take (16 * left) (drop (entry + 16) f)) (entriesBytes first (at + n) fs)))
+unfolding otherEntry sinceFirst entriesBytes entryBytes
+entries-cons f first at entry left x fs n e h =
+    let m : 16 * suc left ≡ 16 + 16 * left = omega arith in
+    let t : length (take 16 (drop entry f)) ≡ length (entryBytes first (x .time) at (length (frameBytes x))) = length-take-le 16 (drop entry f) (omega (arith, length-drop entry f)) ∙ sym (length-entry first (x .time) at (length (frameBytes x))) in
+    rw (e, m, take-add 16 (16 * left) (drop entry f), drop-drop 16 entry f, same-append (take 16 (drop entry f)) (take (16 * left) (drop (entry + 16) f)) (entryBytes first (x .time) at (length (frameBytes x))) (entriesBytes first (at + length (frameBytes x)) fs) t)
+    (not-both (same (take 16 (drop entry f)) (entryBytes first (x .time) at (length (frameBytes x)))) (same (take (16 * left) (drop (entry + 16) f)) (entriesBytes first (at + length (frameBytes x)) fs)))
+
+-- none is left
+frames-none : (f : List ℕ) (k index first left at entry last : ℕ) → left ≤ 0 → otherFrames f k index first left at entry last ≡ not (eqb at index)
+unfolding otherFrames otherWalk follow stopped entriesBytes same
+frames-none f k index first left at entry last z =
+    let l : left ≡ 0 = omega arith in
+    let a : at + 0 ≡ at = omega arith in
+    rw (l, walk-none, a) (go (eqb at index))
+  where
+    go : (b : Bool) → (not b || false || false) ≡ not b
+    go true = refl
+    go false = refl
+
+pub frames-done : (f : List ℕ) (k index first left at entry last : ℕ) (all : Bool) → left ≤ 0 → at ≡ index → otherFrames f k index first left at entry last ≡ all → false ≡ all
+frames-done f k index first left at entry last all z e q = ap not (sym (eq-eqb at index e)) ∙ sym (frames-none f k index first left at entry last z) ∙ q
+
+pub frames-elsewhere : (f : List ℕ) (k index first left at entry last : ℕ) (all : Bool) → left ≤ 0 → (at ≡ index → ⊥) → otherFrames f k index first left at entry last ≡ all → true ≡ all
+frames-elsewhere f k index first left at entry last all z e q = ap not (sym (ne-eqb at index e)) ∙ sym (frames-none f k index first left at entry last z) ∙ q
+
+pub frames-fewer : (f : List ℕ) (k index first left at entry last : ℕ) (r : FrameAt) (all : Bool) → 0 < left → r ≡ frameAt f at k → r ≡ None → otherFrames f k index first left at entry last ≡ all → true ≡ all
+unfolding otherFrames otherWalk stopped
+frames-fewer f k index first left at entry last r all h p u q = rw (walk-stop left k (drop at f) (not-found f at k (sym p ∙ u)), lt-ltb 0 left h) at q
+
+-- one more frame, and the walk behind it
+walk-cons : (f : List ℕ) (k left at : ℕ) (x : Frame) (n : ℕ) → 0 < left → frame k (drop at f) ≡ good x n → walk left k (drop at f) ≡ longer x n (walk (left - 1) k (drop (at + n) f))
+walk-cons f k zero at x n h e = absurd (omega arith)
+walk-cons f k (suc left) at x n h e =
+    let p : suc left - 1 ≡ left = omega arith in
+    rw (p, ← drop-drop n at f) (walk-step left k (drop at f) x n e)
+
+-- what is asked of a frame from `at` to `next`, and of the walk behind it
+abbrev asked : Walk → List ℕ → (index first left at entry last next time size : ℕ) → Bool
+asked w f index first left at entry last next time size =
+    ltb (length (w .frames)) left
+    || not (eqb (next + w .bytes) index)
+    || (not (follows first last time) || not (follow first time (w .frames)))
+    || (otherEntry f entry (sinceFirst first time) at size || not (same (take (16 * left) (drop (entry + 16) f)) (entriesBytes first next (w .frames))))
+
+walk-longer : (w : Walk) (f : List ℕ) (index first left at entry last : ℕ) (x : Frame) (n : ℕ) → 0 < left → entry + 16 ≤ length f → n ≡ length (frameBytes x) → otherWalk (longer x n w) f index first left at entry last ≡ asked w f index first (left - 1) at entry last (at + n) (x .time) n
+unfolding otherWalk longer follow
+walk-longer w f index first zero at entry last x n h l e = absurd (omega arith)
+walk-longer w f index first (suc left) at entry last x n h l e =
+    let p : suc left - 1 ≡ left = omega arith in
+    let q : at + (n + w .bytes) ≡ at + n + w .bytes = omega arith in
+    rw (p, q, entries-cons f first at entry left x (w .frames) n e l, not-both (follows first last (x .time)) (follow first (x .time) (w .frames))) (ap (λ (b : Bool). b || not (eqb (at + n + w .bytes) index) || (not (follows first last (x .time)) || not (follow first (x .time) (w .frames))) || (otherEntry f entry (sinceFirst first (x .time)) at n || not (same (take (16 * left) (drop (entry + 16) f)) (entriesBytes first (at + n) (w .frames))))) (less (length (w .frames)) left))
+  where
+    less : (a b : ℕ) → ltb (suc a) (suc b) ≡ ltb a b
+    less a b = leb·suc-suc (suc a) b
+
+asked-late : (w : Walk) (f : List ℕ) (index first left at entry last next time size : ℕ) → follows first last time ≡ false → asked w f index first left at entry last next time size ≡ true
+asked-late w f index first left at entry last next time size e =
+    rw e
+    (third-holds (ltb (length (w .frames)) left) (not (eqb (next + w .bytes) index)) (otherEntry f entry (sinceFirst first time) at size || not (same (take (16 * left) (drop (entry + 16) f)) (entriesBytes first next (w .frames)))))
+
+asked-other : (w : Walk) (f : List ℕ) (index first left at entry last next time size : ℕ) → otherEntry f entry (sinceFirst first time) at size ≡ true → asked w f index first left at entry last next time size ≡ true
+asked-other w f index first left at entry last next time size e =
+    rw e
+    (fourth-holds (ltb (length (w .frames)) left) (not (eqb (next + w .bytes) index)) (not (follows first last time) || not (follow first time (w .frames))))
+
+asked-right : (w : Walk) (f : List ℕ) (index first left at entry last next time size : ℕ) → follows first last time ≡ true → otherEntry f entry (sinceFirst first time) at size ≡ false → asked w f index first left at entry last next time size ≡ otherWalk w f index first left next (entry + 16) time
+unfolding otherWalk
+asked-right w f index first left at entry last next time size e g = rw (e, g)
+
+frames-cons : (f : List ℕ) (k index first left at entry last next t e : ℕ) → areBytes f ≡ true → 0 < left → entry + 16 * left ≤ length f → frameAt f at k ≡ Whole next t e → otherFrames f k index first left at entry last ≡ asked (walk (left - 1) k (drop next f)) f index first (left - 1) at entry last next t (next - at)
+unfolding otherFrames
+frames-cons f k index first left at entry last next t e b h l q = go (found f at k next t e q)
+  where
+    go : ((x : Frame) × (n : ℕ) × (frame k (drop at f) ≡ good x n) × (at + n ≡ next) × (x .time ≡ t) × (x .exposure ≡ e)) → otherFrames f k index first left at entry last ≡ asked (walk (left - 1) k (drop next f)) f index first (left - 1) at entry last next t (next - at)
+    go (x, n, g, a, c, d) =
+        let m : next - at ≡ n = omega arith in
+        let z : n ≡ length (frameBytes x) = frame-exact k .gives (drop at f) x n (bytes-drop at f b) g .1 in
+        rw (m, ← a, ← c, walk-cons f k left at x n h g) (walk-longer (walk (left - 1) k (drop (at + n) f)) f index first left at entry last x n h (omega arith) z)
+
+pub frames-late : (f : List ℕ) (k index first left at entry last next t e : ℕ) (r : FrameAt) (s all : Bool) → ((i : ℕ) → Fits w8 (getD f i 0)) → 0 < left → entry + 16 * left ≤ length f → r ≡ frameAt f at k → r ≡ Whole next t e → s ≡ follows first last t → s ≡ false → otherFrames f k index first left at entry last ≡ all → true ≡ all
+frames-late f k index first left at entry last next t e r s all b h l p q u v i =
+    let c = frames-cons f k index first left at entry last next t e (slice-bytes f b) h l (sym p ∙ q) in
+    sym (asked-late (walk (left - 1) k (drop next f)) f index first (left - 1) at entry last next t (next - at) (sym u ∙ v)) ∙ sym c ∙ i
+
+pub frames-other : (f : List ℕ) (k index first left at entry last next t e d : ℕ) (r : FrameAt) (o all : Bool) → ((i : ℕ) → Fits w8 (getD f i 0)) → 0 < left → entry + 16 * left ≤ length f → r ≡ frameAt f at k → r ≡ Whole next t e → d ≡ sinceFirst first t → o ≡ otherEntry f entry d at (next - at) → o ≡ true → otherFrames f k index first left at entry last ≡ all → true ≡ all
+frames-other f k index first left at entry last next t e d r o all b h l p q w u v i =
+    let c = frames-cons f k index first left at entry last next t e (slice-bytes f b) h l (sym p ∙ q) in
+    sym (asked-other (walk (left - 1) k (drop next f)) f index first (left - 1) at entry last next t (next - at) (sym (rw w at u) ∙ v)) ∙ sym c ∙ i
+
+pub frames-step : (f : List ℕ) (k index first left at entry last next t e d : ℕ) (r : FrameAt) (s o all : Bool) → ((i : ℕ) → Fits w8 (getD f i 0)) → 0 < left → entry + 16 * left ≤ length f → r ≡ frameAt f at k → r ≡ Whole next t e → s ≡ follows first last t → s ≡ true → d ≡ sinceFirst first t → o ≡ otherEntry f entry d at (next - at) → o ≡ false → otherFrames f k index first left at entry last ≡ all → otherFrames f k index first (left - 1) next (entry + 16) t ≡ all
+unfolding otherFrames
+frames-step f k index first left at entry last next t e d r s o all b h l p q u v w x y i =
+    let c = frames-cons f k index first left at entry last next t e (slice-bytes f b) h l (sym p ∙ q) in
+    sym (asked-right (walk (left - 1) k (drop next f)) f index first (left - 1) at entry last next t (next - at) (sym u ∙ v) (sym (rw w at x) ∙ y)) ∙ sym c ∙ i
+
+-- the time that follows is at most 4,294,967,295 after the first
+pub since-fits : (first last t d : ℕ) (s : Bool) → s ≡ follows first last t → s ≡ true → d ≡ sinceFirst first t → d < 2 ^ 32
+unfolding follows sinceFirst
+since-fits first last t d s p q e =
+    let h = leb-true (rank t - rank first) longestSpan (both-true (leb (rank last) (rank t)) (leb (rank t - rank first) longestSpan) (sym p ∙ q) .1) in
+    omega arith
+
+-- ── The index as a whole ──
+
+second-holds : (a c d e : Bool) → (a || true || c || d || e) ≡ true
+second-holds true c d e = refl
+second-holds false c d e = refl
+
+fifth-holds : (a b c d : Bool) → (a || b || c || d || true) ≡ true
+fifth-holds true b c d = refl
+fifth-holds false true c d = refl
+fifth-holds false false true d = refl
+fifth-holds false false false true = refl
+fifth-holds false false false false = refl
+
+length-entries : (first at : ℕ) (fs : List Frame) → length (entriesBytes first at fs) ≡ 16 * length fs
+unfolding entriesBytes
+length-entries first at [] = refl
+length-entries first at (x ∷ fs) =
+    omega (arith, length-append (entryBytes first (x .time) at (length (frameBytes x))) (entriesBytes first (at + length (frameBytes x)) fs), length-entry first (x .time) at (length (frameBytes x)), length-entries first (at + length (frameBytes x)) fs)
+
+pub length-index : (at : ℕ) (fs : List Frame) → length (indexBytes at fs) ≡ 4 + 16 * length fs
+unfolding indexBytes
+length-index at fs = omega (arith, length-append (bytesOf 4 (length fs)) (entriesBytes (firstTime fs) at fs), length-bytesOf 4 (length fs), length-entries (firstTime fs) at fs)
+
+-- an index that can not be there
+index-bad : (w : Walk) (f : List ℕ) (h : Header) (start : ℕ) → length (w .frames) ≤ h .count → (length (w .frames) ≡ h .count → same (take (h .user - h .index) (drop (h .index) f)) (indexBytes start (w .frames)) ≡ true → ⊥) → true ≡ badIndexIn w f h start
+unfolding badIndexIn
+index-bad w f h start few never = sym (go (ltb (length (w .frames)) (h .count)) refl)
+  where
+    other : (b : Bool) → same (take (h .user - h .index) (drop (h .index) f)) (indexBytes start (w .frames)) ≡ b → length (w .frames) ≡ h .count → (ltb 1000000 (h .count) || ltb (length (w .frames)) (h .count) || not (eqb (start + w .bytes) (h .index)) || not (inOrder (w .frames)) || not b) ≡ true
+    other true e c = absurd (never c e)
+    other false e c = fifth-holds (ltb 1000000 (h .count)) (ltb (length (w .frames)) (h .count)) (not (eqb (start + w .bytes) (h .index))) (not (inOrder (w .frames)))
+
+    go : (b : Bool) → ltb (length (w .frames)) (h .count) ≡ b → badIndexIn w f h start ≡ true
+    go true e = rw e (second-holds (ltb 1000000 (h .count)) (not (eqb (start + w .bytes) (h .index))) (not (inOrder (w .frames))) (not (same (take (h .user - h .index) (drop (h .index) f)) (indexBytes start (w .frames)))))
+    go false e = other (same (take (h .user - h .index) (drop (h .index) f)) (indexBytes start (w .frames))) refl (omega (arith, ltb-false (length (w .frames)) (h .count) e))
+
+walk-few : (f : List ℕ) (k start most : ℕ) → areBytes f ≡ true → length (walk most k (drop start f) .frames) ≤ most
+walk-few f k start most b = walk-gives most k (drop start f) (bytes-drop start f b) .few
+
+pub index-many : (f : List ℕ) (h : Header) (k start : ℕ) → 1000000 < h .count → true ≡ badIndexBy f h k start
+unfolding badIndexBy badIndexIn
+index-many f h k start l = rw (lt-ltb 1000000 (h .count) l)
+
+index-unlike : (f : List ℕ) (h : Header) (k start : ℕ) → areBytes f ≡ true → h .user ≤ length f → (h .user - h .index ≡ 4 + 16 * h .count → ⊥) → true ≡ badIndexBy f h k start
+unfolding badIndexBy
+index-unlike f h k start b l u = index-bad w f h start (walk-few f k start (h .count) b) never
+  where
+    w : Walk
+    w = walk (h .count) k (drop start f)
+
+    never : length (w .frames) ≡ h .count → same (take (h .user - h .index) (drop (h .index) f)) (indexBytes start (w .frames)) ≡ true → ⊥
+    never c e =
+        let q : take (h .user - h .index) (drop (h .index) f) ≡ indexBytes start (w .frames) = same-true (take (h .user - h .index) (drop (h .index) f)) (indexBytes start (w .frames)) e in
+        u (omega (arith, length-take-le (h .user - h .index) (drop (h .index) f) (omega (arith, length-drop (h .index) f)), ap length q, length-index start (w .frames)))
+
+pub index-behind : (f : List ℕ) (h : Header) (k start : ℕ) → ((i : ℕ) → Fits w8 (getD f i 0)) → h .user ≤ length f → h .user < h .index → true ≡ badIndexBy f h k start
+index-behind f h k start b l u = index-unlike f h k start (slice-bytes f b) l (λ e. omega arith)
+
+pub index-long : (f : List ℕ) (h : Header) (k start : ℕ) → ((i : ℕ) → Fits w8 (getD f i 0)) → h .user ≤ length f → (h .user - h .index ≡ 4 + 16 * h .count → ⊥) → true ≡ badIndexBy f h k start
+index-long f h k start b l u = index-unlike f h k start (slice-bytes f b) l u
+
+-- the number of frames, and then the entries
+index-split : (f : List ℕ) (h : Header) (start : ℕ) (fs : List Frame) → areBytes f ≡ true → h .user ≤ length f → h .user - h .index ≡ 4 + 16 * h .count → length fs < 2 ^ 32 → same (take (h .user - h .index) (drop (h .index) f)) (indexBytes start fs) ≡ (eqb (readAt f (h .index) 4) (length fs) && same (take (16 * h .count) (drop (h .index + 4) f)) (entriesBytes (firstTime fs) start fs))
+unfolding indexBytes
+index-split f h start fs b l e s =
+    let i : length (drop (h .index) f) ≡ length f - h .index = length-drop (h .index) f in
+    let t : length (take 4 (drop (h .index) f)) ≡ 4 = length-take-le 4 (drop (h .index) f) (omega arith) in
+    rw (e, take-add 4 (16 * h .count) (drop (h .index) f), drop-drop 4 (h .index) f, same-append (take 4 (drop (h .index) f)) (take (16 * h .count) (drop (h .index + 4) f)) (bytesOf 4 (length fs)) (entriesBytes (firstTime fs) start fs) (omega (arith, length-bytesOf 4 (length fs))), same-number 4 (drop (h .index) f) (length fs) (bytes-drop (h .index) f b) (omega arith) s, read-is f (h .index) 4 (omega arith) (omega arith))
+
+pub index-count : (f : List ℕ) (h : Header) (k start n : ℕ) → ((i : ℕ) → Fits w8 (getD f i 0)) → h .user ≤ length f → h .count ≤ 1000000 → h .user - h .index ≡ 4 + 16 * h .count → n ≡ readAt f (h .index) 4 → (n ≡ h .count → ⊥) → true ≡ badIndexBy f h k start
+unfolding badIndexBy
+index-count f h k start n b l m e p u = index-bad w f h start (walk-few f k start (h .count) (slice-bytes f b)) never
+  where
+    w : Walk
+    w = walk (h .count) k (drop start f)
+
+    never : length (w .frames) ≡ h .count → same (take (h .user - h .index) (drop (h .index) f)) (indexBytes start (w .frames)) ≡ true → ⊥
+    never c q =
+        let s = index-split f h start (w .frames) (slice-bytes f b) l e (omega arith) in
+        let t = both-true (eqb (readAt f (h .index) 4) (length (w .frames))) (same (take (16 * h .count) (drop (h .index + 4) f)) (entriesBytes (firstTime (w .frames)) start (w .frames))) (sym s ∙ q) in
+        u (p ∙ eqb-true (readAt f (h .index) 4) (length (w .frames)) (t .0) ∙ c)
+
+-- the first frame's time stands behind its mark
+walk-first : (f : List ℕ) (k start most : ℕ) (x : Frame) (xs : List Frame) → walk most k (drop start f) .frames ≡ x ∷ xs → x .time ≡ readAt f (start + 4) 8
+unfolding stopped longer
+walk-first f k start zero x xs e =
+    let q : [] ≡ x ∷ xs = rw (walk-none k (drop start f)) at e in
+    let z : _≡_ {A = ℕ} 0 1 = cc in
+    absurd (omega arith)
+walk-first f k start (suc most) x xs e = go (frame k (drop start f)) refl
+  where
+    go : (p : Parsed Frame) → frame k (drop start f) ≡ p → x .time ≡ readAt f (start + 4) 8
+    go bad g =
+        let q : [] ≡ x ∷ xs = rw (walk-stop (suc most) k (drop start f) g) at e in
+        let z : _≡_ {A = ℕ} 0 1 = cc in
+        absurd (omega arith)
+    go (good y n) g =
+        let q : y ∷ walk most k (drop n (drop start f)) .frames ≡ x ∷ xs = rw (walk-step most k (drop start f) y n g) at e in
+        let i : y ≡ x = cc in
+        let p = frame-parts k (drop start f) y n g in
+        ap (λ (v : Frame). v .time) (sym i) ∙ p .time ∙ rw (drop-drop 4 start f) (sym (read-is f (start + 4) 8 (omega arith) (omega (arith, length-drop start f, p .long))))
+
+-- the rule of a recording's times is that of frames behind its first
+follows-itself : (t : ℕ) → follows t t t ≡ true
+unfolding follows
+follows-itself t = rw (le-leb (rank t) (rank t) (omega arith), le-leb (rank t - rank t) longestSpan (omega arith))
+
+by-first : (fs : List Frame) (first start : ℕ) → ((x : Frame) (xs : List Frame) → fs ≡ x ∷ xs → x .time ≡ first) → (inOrder fs ≡ follow first first fs) × (entriesBytes (firstTime fs) start fs ≡ entriesBytes first start fs)
+unfolding inOrder follow firstTime entriesBytes
+by-first [] first start h = (refl, refl)
+by-first (x ∷ xs) first start h =
+    let e : x .time ≡ first = h x xs refl in
+    (rw (e, follows-itself), rw e)
+
+walk-index : (w : Walk) (f : List ℕ) (h : Header) (start first : ℕ) → length (w .frames) ≤ h .count → ((x : Frame) (xs : List Frame) → w .frames ≡ x ∷ xs → x .time ≡ first) → areBytes f ≡ true → h .user ≤ length f → h .count ≤ 1000000 → h .user - h .index ≡ 4 + 16 * h .count → readAt f (h .index) 4 ≡ h .count → otherWalk w f (h .index) first (h .count) start (h .index + 4) first ≡ badIndexIn w f h start
+unfolding badIndexIn otherWalk
+walk-index w f h start first few firsts b l m e p = go (ltb (length (w .frames)) (h .count)) refl
+  where
+    go : (t : Bool) → ltb (length (w .frames)) (h .count) ≡ t → otherWalk w f (h .index) first (h .count) start (h .index + 4) first ≡ badIndexIn w f h start
+    go true q = rw (le-ltb 1000000 (h .count) m, q)
+    go false q =
+        let c : length (w .frames) ≡ h .count = omega (arith, ltb-false (length (w .frames)) (h .count) q) in
+        let s = index-split f h start (w .frames) b l e (omega arith) in
+        let v = by-first (w .frames) first start firsts in
+        rw (le-ltb 1000000 (h .count) m, q, s, eq-eqb (readAt f (h .index) 4) (length (w .frames)) (p ∙ sym c), v .0, v .1)
+
+pub index-frames : (f : List ℕ) (h : Header) (k start n first : ℕ) (r : Bool) → ((i : ℕ) → Fits w8 (getD f i 0)) → h .user ≤ length f → h .count ≤ 1000000 → h .user - h .index ≡ 4 + 16 * h .count → n ≡ readAt f (h .index) 4 → n ≡ h .count → first ≡ readAt f (start + 4) 8 → r ≡ otherFrames f k (h .index) first (h .count) start (h .index + 4) first → r ≡ badIndexBy f h k start
+unfolding badIndexBy otherFrames
+index-frames f h k start n first r b l m e p q g i =
+    i
+    ∙ walk-index (walk (h .count) k (drop start f)) f h start first (walk-few f k start (h .count) (slice-bytes f b)) (λ x xs v. walk-first f k start (h .count) x xs v ∙ sym g) (slice-bytes f b) l m e (sym p ∙ q)

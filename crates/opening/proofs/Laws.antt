@@ -1,0 +1,115 @@
+-- What the functions of this crate leave to be shown, as laws about the definitions.
+-- Assumes nothing.
+use Prim.Native.Nat.{ℕ, zero, suc, _+_, _*_, _-_, _^_, _<_, _≤_}
+use native.Mathlib.Omega.{arith}
+use mathlib.Core.Path.{_≡_, refl, ap, sym, _∙_, subst}
+use mathlib.Core.Bool.{Bool, true, false, not, _&&_, _||_, cond}
+use mathlib.Core.List.{List, [], _∷_, _++_}
+use lib.ListN.{length, take, drop, getD, length-drop, length-take, List·getD-eq-default}
+use lib.Seq.{drop-cons, drop-drop, length-take-le, drop-nil}
+use lib.Dec.{leb, ltb, eqb}
+use lib.Pow.{areBytes}
+use borrow.Author.Needs.{needs}
+use borrow.Author.Tests.{le-leb, lt-leb, lt-ltb, le-ltb, eq-eqb, ne-eqb, ltb-true, ltb-false, leb-true, leb-false}
+use mir.Syntax.{w8}
+use mir.Val.{Fits}
+use Rattle.number.specs.Number.{bytesOf, numberOf, readAt}
+use Rattle.number.proofs.Bytes.{bytesOf-numberOf, slice-bytes}
+use Rattle.layout.specs.Recording.{fileMark, same, longestSection, frameMark}
+use Rattle.layout.specs.Reading.{Parsed, bad, good, Reader, onward, times, number, block, sized, frame}
+use Rattle.layout.specs.Opening.{field, headerCount, indexOffset, systemOffset, userOffset, notFstf, otherRevision}
+use Rattle.layout.proofs.Lists.{same-refl, same-true, bytes-take, cond-true, cond-false}
+use Rattle.text.proofs.Tables.{legal-place, legal-after}
+use Rattle.opening.proofs.Readers.{read-is}
+use Rattle.opening.proofs.Frames.{sized-short, sized-far, sized-large, sized-cut, sized-whole, sections-done, sections-stop, sections-step, frame-short, frame-far, frame-unmarked, frame-cut, frame-whole, found-behind, found-short}
+use Rattle.opening.proofs.Index.{since-before, since-after, follows-early, follows-late, follows-right, other-since, other-offset, other-size, this-entry, frames-done, frames-elsewhere, frames-fewer, frames-late, frames-other, frames-step, since-fits, index-many, index-behind, index-long, index-count, index-frames}
+use Rattle.opening.proofs.Definitions.{name-ends, definition-unnamed, definition-cut, definition-whole, offsets-done, offsets-stop, offsets-fall, offsets-far, offsets-step}
+use Rattle.opening.proofs.Line3.{sections-short, sections-none, sections-many, sections-unnamed, sections-fall, sections-apart, sections-twice, sections-legal}
+use Rattle.opening.proofs.Fronts.{system-early, system-late, system-there, front-not-fstf, front-revision, front-sections, front-system, front-whole}
+use Rattle.opening.proofs.Lines.{open-front-refused, held-few, held-start, open-not-closed, user-within, open-bad-index, open-bad-user, open-long-user, opened}
+use Rattle.opening.specs.Opened.{notClosedBy, sizedAt, sectionsAt, wholeFrame, frameAt}
+use Rattle.header.specs.Header.{headerOf}
+use Rattle.header.specs.declared.Header.{Header}
+use Rattle.text.specs.declared.Place.{Place}
+use Rattle.text.specs.declared.Place.the-variants.{End, Broken}
+use Rattle.opening.specs.declared.FrameAt.{FrameAt}
+use Rattle.opening.specs.declared.FrameAt.the-variants.{Whole, None}
+
+-- ── 1, 2 ──
+
+pub fstf-short : (f : List ℕ) → length f < 34 → true ≡ notFstf f
+unfolding notFstf
+fstf-short f h = rw (lt-ltb (length f) 34 h)
+
+-- four bytes are the mark's exactly when their number is its number
+mark-number : (f : List ℕ) → 4 ≤ length f → areBytes f ≡ true → numberOf (take 4 f) ≡ 0x46545346 → take 4 f ≡ fileMark
+unfolding fileMark bytesOf
+mark-number f h b e =
+    let l : length (take 4 f) ≡ 4 = length-take-le 4 f h in
+    sym (bytesOf-numberOf (take 4 f) (bytes-take 4 f b)) ∙ rw (l, e)
+
+number-mark : numberOf fileMark ≡ 0x46545346
+unfolding fileMark numberOf
+number-mark = refl
+
+pub fstf-mark : (f : List ℕ) (n : ℕ) → ((i : ℕ) → Fits w8 (getD f i 0)) → 34 ≤ length f → n ≡ readAt f 0 4 → n ≡ 0x46545346 → false ≡ notFstf f
+unfolding notFstf
+fstf-mark f n b h p e =
+    let q : numberOf (take 4 f) ≡ 0x46545346 = sym (read-is f 0 4 (omega arith) (omega arith)) ∙ sym p ∙ e in
+    rw (le-ltb (length f) 34 h, mark-number f (omega arith) (slice-bytes f b) q, same-refl)
+
+pub fstf-other : (f : List ℕ) (n : ℕ) → 34 ≤ length f → n ≡ readAt f 0 4 → (n ≡ 0x46545346 → ⊥) → true ≡ notFstf f
+unfolding notFstf
+fstf-other f n h p e = rw (le-ltb (length f) 34 h) (go (same (take 4 f) fileMark) refl)
+  where
+    go : (b : Bool) → same (take 4 f) fileMark ≡ b → true ≡ not b
+    go false q = refl
+    go true q = absurd (e (p ∙ read-is f 0 4 (omega arith) (omega arith) ∙ ap numberOf (same-true (take 4 f) fileMark q) ∙ number-mark))
+
+-- a number of one byte is that byte, also where there is none
+read-one : (f : List ℕ) (at : ℕ) → readAt f at 1 ≡ getD f at 0
+unfolding readAt numberOf
+read-one f at = go (leb (at + 1) (length f)) refl
+  where
+    go : (b : Bool) → leb (at + 1) (length f) ≡ b → cond (leb 1 8 && b) (numberOf (take 1 (drop at f))) 0 ≡ getD f at 0
+    go true e = rw (drop-cons f at 0 (omega (arith, leb-true (at + 1) (length f) e))) (omega arith)
+    go false e = sym (List·getD-eq-default f 0 {n = at} (omega (arith, leb-false (at + 1) (length f) e)))
+
+pub revision-one : (f : List ℕ) (n : ℕ) → n ≡ readAt f 4 1 → n ≡ 1 → false ≡ otherRevision f
+unfolding otherRevision
+revision-one f n p e = rw (eq-eqb (getD f 4 0) 1 (sym (read-one f 4) ∙ sym p ∙ e))
+
+pub revision-other : (f : List ℕ) (n : ℕ) → n ≡ readAt f 4 1 → (n ≡ 1 → ⊥) → true ≡ otherRevision f
+unfolding otherRevision
+revision-other f n p e = rw (ne-eqb (getD f 4 0) 1 (λ q. e (p ∙ read-one f 4 ∙ q)))
+
+-- ── 5 ──
+
+pub no-index : (f : List ℕ) (h : Header) → h .index ≡ 0 → true ≡ notClosedBy f h
+unfolding notClosedBy
+no-index f h e = rw (eq-eqb (h .index) 0 e)
+
+pub no-user : (f : List ℕ) (h : Header) → (h .index ≡ 0 → ⊥) → h .user ≡ 0 → true ≡ notClosedBy f h
+unfolding notClosedBy
+no-user f h a e = rw (ne-eqb (h .index) 0 a, eq-eqb (h .user) 0 e)
+
+pub index-past : (f : List ℕ) (h : Header) → (h .index ≡ 0 → ⊥) → (h .user ≡ 0 → ⊥) → length f < h .index → true ≡ notClosedBy f h
+unfolding notClosedBy
+index-past f h a b e = rw (ne-eqb (h .index) 0 a, ne-eqb (h .user) 0 b, lt-ltb (length f) (h .index) e)
+
+pub user-past : (f : List ℕ) (h : Header) → (h .index ≡ 0 → ⊥) → (h .user ≡ 0 → ⊥) → h .index ≤ length f → length f < h .user → true ≡ notClosedBy f h
+unfolding notClosedBy
+user-past f h a b c e = rw (ne-eqb (h .index) 0 a, ne-eqb (h .user) 0 b, le-ltb (length f) (h .index) c, lt-ltb (length f) (h .user) e)
+
+pub user-high : (f : List ℕ) (h : Header) → (h .index ≡ 0 → ⊥) → (h .user ≡ 0 → ⊥) → h .index ≤ length f → h .user ≤ length f → 1099511115772 < h .user → true ≡ notClosedBy f h
+unfolding notClosedBy
+user-high f h a b c d e =
+    rw (ne-eqb (h .index) 0 a, ne-eqb (h .user) 0 b, le-ltb (length f) (h .index) c, le-ltb (length f) (h .user) d, lt-ltb 1099511115772 (h .user) e)
+
+pub closed : (f : List ℕ) (h : Header) → (h .index ≡ 0 → ⊥) → (h .user ≡ 0 → ⊥) → h .index ≤ length f → h .user ≤ length f → h .user ≤ 1099511115772 → false ≡ notClosedBy f h
+unfolding notClosedBy
+closed f h a b c d e =
+    rw (ne-eqb (h .index) 0 a, ne-eqb (h .user) 0 b, le-ltb (length f) (h .index) c, le-ltb (length f) (h .user) d, le-ltb 1099511115772 (h .user) e)
+
+pub ruleset laws =
+    (needs, fstf-short, fstf-mark, fstf-other, revision-one, revision-other, no-index, no-user, index-past, user-past, user-high, closed, sized-short, sized-far, sized-large, sized-cut, sized-whole, sections-done, sections-stop, sections-step, frame-short, frame-far, frame-unmarked, frame-cut, frame-whole, since-before, since-after, follows-early, follows-late, follows-right, other-since, other-offset, other-size, this-entry, found-behind, found-short, frames-done, frames-elsewhere, frames-fewer, frames-late, frames-other, frames-step, since-fits, index-many, index-behind, index-long, index-count, index-frames, name-ends, legal-place, legal-after, definition-unnamed, definition-cut, definition-whole, offsets-done, offsets-stop, offsets-fall, offsets-far, offsets-step, sections-short, sections-none, sections-many, sections-unnamed, sections-fall, sections-apart, sections-twice, sections-legal, system-early, system-late, system-there, front-not-fstf, front-revision, front-sections, front-system, front-whole, open-front-refused, held-few, held-start, open-not-closed, user-within, open-bad-index, open-bad-user, open-long-user, opened)

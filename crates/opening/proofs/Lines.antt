@@ -1,0 +1,230 @@
+-- Opening: what the front's answer, the header and the tests that follow say of lines 1 to 7, and the numbers of what a file shows.
+-- Assumes nothing.
+use Prim.Native.Nat.{ℕ, zero, suc, _+_, _*_, _-_, _^_, _<_, _≤_}
+use native.Mathlib.Omega.{arith}
+use mathlib.Core.Path.{_≡_, refl, ap, sym, _∙_}
+use mathlib.Core.Bool.{Bool, true, false, not, _&&_, _||_, cond}
+use mathlib.Core.List.{List, [], _∷_, _++_, append-nil, flatMap}
+use lib.ListN.{length, take, drop, getD, length-drop, length-append}
+use lib.Dec.{leb, ltb, eqb}
+use lib.Pow.{areBytes}
+use borrow.Author.Tests.{le-leb, lt-leb, le-ltb, lt-ltb, ltb-true, ltb-false, leb-true, eq-eqb, ne-eqb}
+use mir.Syntax.{w8}
+use mir.Val.{Fits}
+use Rattle.number.specs.Number.{bytesOf, numberOf, readAt}
+use Rattle.number.proofs.Bytes.{length-bytesOf, slice-bytes, both-true}
+use Rattle.layout.specs.Recording.{Tag, tagBytes, tableBytes, mostSections, largestUserOffset, within, distinct, inOrder, same, indexBytes}
+use Rattle.layout.specs.Reading.{Parsed, bad, good, isBad, valueOr, taken, exactly, onward, _then_, only, number, times, table, Definition, definition, definedNames, definitions, Walk, walk}
+use Rattle.layout.specs.Opening.{Line, line, firstOf, headerCount, indexOffset, systemOffset, userOffset, readDefinitions, definedIn, readSystem, readUser, walkStart, walkOf, counted, offsetsLegal, lastOffset, notFstf, otherRevision, badSections, badSystem, notClosed, badIndex, badUser, frontLines, openingLines, refusal, sectionsFrom, shown}
+use Rattle.layout.proofs.Lists.{or-false, bytes-drop, cond-true, cond-false}
+use Rattle.layout.proofs.Lines.{line-pass, line-holds, FrontPasses, Passes, front-pass, front-clear, passes-opens}
+use Rattle.layout.proofs.Readers.{exactly-good, exactly-is}
+use Rattle.layout.proofs.Exact.{table-exact}
+use Rattle.layout.proofs.Walks.{walk-gives}
+use Rattle.text.specs.Table.{tablePlaceOf}
+use Rattle.text.specs.declared.TablePlace.{TablePlace}
+use Rattle.text.specs.declared.TablePlace.the-variants as tableAs
+use Rattle.text.proofs.Readers.{only-parts}
+use Rattle.text.proofs.Times.{times-length}
+use Rattle.opening.proofs.Readers.{tested-then}
+use Rattle.opening.proofs.Fronts.{header-is, table-found, table-none}
+use Rattle.opening.specs.Opened.{notClosedBy, badIndexIn, badIndexBy, frontHeld, frontBy, frontOf, frontRefusal, heldOf, openBy, openOf}
+use Rattle.header.specs.Header.{headerOf}
+use Rattle.header.specs.declared.Header.{Header}
+use Rattle.opening.specs.declared.FrontHeld.{FrontHeld}
+use Rattle.opening.specs.declared.Front.{Front}
+use Rattle.opening.specs.declared.Front.the-variants as frontAs
+use Rattle.opening.specs.declared.Held.{Held}
+use Rattle.opening.specs.declared.Opening.{Opening}
+use Rattle.opening.specs.declared.Opening.the-variants as openingAs
+
+-- ── What the front's answer says ──
+
+pub front-passes : (f : List ℕ) (held : FrontHeld) → frontOf f ≡ frontAs.Whole held → FrontPasses f × (held ≡ frontHeld f)
+unfolding frontOf frontBy
+front-passes f held e = go (firstOf (frontLines f)) refl e
+  where
+    go : (n : ℕ) → firstOf (frontLines f) ≡ n → frontBy n (frontHeld f) ≡ frontAs.Whole held → FrontPasses f × (held ≡ frontHeld f)
+    go zero q g = (front-clear f [] (ap firstOf (append-nil (frontLines f)) ∙ q) .0, cc)
+    go (suc n) q g = let z : _≡_ {A = ℕ} 0 1 = cc in absurd (omega arith)
+
+-- a number that an order gives is given however it goes on
+first-append : (ls more : List Line) (n : ℕ) → firstOf ls ≡ suc n → firstOf (ls ++ more) ≡ suc n
+unfolding firstOf
+first-append [] more n e = absurd (omega arith)
+first-append (l ∷ ls) more n e = go (l .holds) e (first-append ls more n)
+  where
+    go : (b : Bool) → elim b [ true ↦ l .number | false ↦ firstOf ls ] ≡ suc n → (firstOf ls ≡ suc n → firstOf (ls ++ more) ≡ suc n) → elim b [ true ↦ l .number | false ↦ firstOf (ls ++ more) ] ≡ suc n
+    go true q more = q
+    go false q more = more q
+
+open-number : (f : List ℕ) (n : ℕ) → refusal f ≡ suc n → openingAs.Refused (suc n) ≡ openOf f
+unfolding openOf openBy
+open-number f n e = rw e
+
+pub open-front-refused : (f : List ℕ) (r : Front) (n m : ℕ) → r ≡ frontOf f → r ≡ frontAs.Refused n → m ≡ frontRefusal r → openingAs.Refused m ≡ openOf f
+unfolding frontOf frontBy refusal openingLines
+open-front-refused f r n m p q s = go (firstOf (frontLines f)) refl (sym p ∙ q)
+  where
+    go : (j : ℕ) → firstOf (frontLines f) ≡ j → frontBy j (frontHeld f) ≡ frontAs.Refused n → openingAs.Refused m ≡ openOf f
+    go zero e g = let z : _≡_ {A = ℕ} 0 1 = cc in absurd (omega arith)
+    go (suc j) e g =
+        let k : n ≡ suc j = cc in
+        let l : m ≡ n = s ∙ ap frontRefusal q in
+        rw (l, k) (open-number f j (first-append (frontLines f) _ j e))
+
+-- ── What a passed line gives ──
+
+-- a table that was found ends within the file
+pub table-ends : (f : List ℕ) (at : ℕ) (ts : List Tag) (m : ℕ) → areBytes f ≡ true → table (drop at f) ≡ good ts m → at + m ≤ length f
+unfolding tableBytes
+table-ends f at ts m b e =
+    let (l, k, s) = table-exact .gives (drop at f) ts m (bytes-drop at f b) e in
+    omega (arith, ap length s, length-append (tableBytes ts) (drop m (drop at f)), length-drop at f, length-append (bytesOf 4 (length ts)) (flatMap tagBytes ts), length-bytesOf 4 (length ts))
+
+read-of : {A : Type 0} (p : Parsed A) → isBad p ≡ false → (x : A) × (n : ℕ) × (p ≡ good x n)
+read-of bad e = let z : _≡_ {A = ℕ} 0 1 = cc in absurd (omega arith)
+read-of (good x n) e = (x, n, refl)
+
+start-within : (f : List ℕ) → areBytes f ≡ true → badSystem f ≡ false → walkStart f ≤ length f
+unfolding badSystem walkStart taken readSystem
+start-within f b e = go (read-of (readSystem f) (or-false (ltb (systemOffset f) (lastOffset 0 (definedIn f)) || ltb (lastOffset 0 (definedIn f) + 65535) (systemOffset f)) (isBad (readSystem f)) e .1))
+  where
+    go : ((ts : List Tag) × (m : ℕ) × (readSystem f ≡ good ts m)) → walkStart f ≤ length f
+    go (ts, m, q) = rw q (table-ends f (systemOffset f) ts m b q)
+
+few-sections : (f : List ℕ) → badSections f ≡ false → length (definedIn f) ≤ 8
+unfolding badSections definedIn valueOr readDefinitions definitions
+few-sections f e = go (read-of (readDefinitions f) (or-false (isBad (readDefinitions f)) (not (offsetsLegal (33 + taken (readDefinitions f)) (definedIn f))) e .0))
+  where
+    few : (ds : List Definition) (m : ℕ) → ((1 ≤ length (drop 33 f)) × (within 1 mostSections (numberOf (take 1 (drop 33 f))) ≡ true) × (n : ℕ) × (times (numberOf (take 1 (drop 33 f))) definition (drop 1 (drop 33 f)) ≡ good ds n) × (m ≡ 1 + n)) → length ds ≤ 8
+    few ds m (l, t, n, g, h) =
+        let k = numberOf (take 1 (drop 33 f)) in
+        omega (arith, times-length definition (numberOf (take 1 (drop 33 f))) (drop 1 (drop 33 f)) ds n g, leb-true (numberOf (take 1 (drop 33 f))) 8 (both-true (leb 1 (numberOf (take 1 (drop 33 f)))) (leb (numberOf (take 1 (drop 33 f))) 8) t .1))
+
+    go : ((ds : List Definition) × (m : ℕ) × (readDefinitions f ≡ good ds m)) → length (definedIn f) ≤ 8
+    go (ds, m, q) = rw q (few ds m (tested-then (within 1 mostSections) 1 (λ k. times k definition) (drop 33 f) ds m (only-parts (λ ds. distinct (definedNames ds)) (only (within 1 mostSections) (number 1) then λ k. times k definition) (drop 33 f) ds m q .0)))
+
+-- ── The tests behind the front ──
+
+-- the header's own words for lines 5 and 6
+closed-is : (f : List ℕ) → notFstf f ≡ false → notClosedBy f (headerOf f) ≡ notClosed f
+unfolding notClosedBy notClosed
+closed-is f e = rw (header-is f e)
+
+index-is : (f : List ℕ) → notFstf f ≡ false → badIndexBy f (headerOf f) (length (definedIn f)) (walkStart f) ≡ badIndex f
+unfolding badIndexBy badIndexIn badIndex counted walkOf
+index-is f e = rw (header-is f e)
+
+-- the user table, by where the table at its offset ends
+user-none : (f : List ℕ) → table (drop (userOffset f) f) ≡ bad → badUser f ≡ true
+unfolding badUser readUser exactly onward
+user-none f e = rw e
+
+user-long : (f : List ℕ) (ts : List Tag) (m : ℕ) → userOffset f ≤ length f → table (drop (userOffset f) f) ≡ good ts m → (userOffset f + m ≡ length f → ⊥) → badUser f ≡ true
+unfolding badUser readUser exactly onward
+user-long f ts m l e u = rw (e, ne-eqb m (length (drop (userOffset f) f)) (λ q. u (omega (arith, length-drop (userOffset f) f))))
+
+user-read : (f : List ℕ) (ts : List Tag) (m : ℕ) → table (drop (userOffset f) f) ≡ good ts m → userOffset f + m ≡ length f → readUser f ≡ good ts m
+unfolding readUser exactly onward
+user-read f ts m e u = rw (e, eq-eqb m (length (drop (userOffset f) f)) (omega (arith, length-drop (userOffset f) f)))
+
+-- as many sections are shown as are defined, and as many frames as are counted
+sections-shown : (f : List ℕ) (ds : List Definition) → length (sectionsFrom f ds) ≡ length ds
+unfolding sectionsFrom
+sections-shown f [] = refl
+sections-shown f (d ∷ ds) = ap suc (sections-shown f ds)
+
+second-false : (a b c d e : Bool) → (a || b || c || d || e) ≡ false → b ≡ false
+second-false a false c d e q = refl
+second-false true true c d e q = q
+second-false false true c d e q = q
+
+fourth-false : (a b c d e : Bool) → (a || b || c || d || e) ≡ false → d ≡ false
+fourth-false a b c false e q = refl
+fourth-false true b c true e q = q
+fourth-false false true c true e q = q
+fourth-false false false true true e q = q
+fourth-false false false false true e q = q
+
+frames-shown : (f : List ℕ) → areBytes f ≡ true → badIndex f ≡ false → length (counted f .frames) ≡ headerCount f
+unfolding badIndex counted walkOf
+frames-shown f b e =
+    let few = walk-gives (headerCount f) (length (definedIn f)) (drop (walkStart f) f) (bytes-drop (walkStart f) f b) .few in
+    let enough = ltb-false (length (counted f .frames)) (headerCount f) (second-false (ltb 1000000 (headerCount f)) (ltb (length (counted f .frames)) (headerCount f)) (not (eqb (walkStart f + counted f .bytes) (indexOffset f))) (not (inOrder (counted f .frames))) (not (same (take (userOffset f - indexOffset f) (drop (indexOffset f) f)) (indexBytes (walkStart f) (counted f .frames)))) e) in
+    omega arith
+
+module _ (f : List ℕ) (r : Front) (held : FrontHeld) (h : Header) (p : r ≡ frontOf f) (q : r ≡ frontAs.Whole held) (s : h ≡ headerOf f) where
+  passes : FrontPasses f
+  passes = front-passes f held (sym p ∙ q) .0
+
+  held-is : held ≡ frontHeld f
+  held-is = front-passes f held (sym p ∙ q) .1
+
+  header : h ≡ record { count = headerCount f; index = indexOffset f; system = systemOffset f; user = userOffset f }
+  header = s ∙ header-is f (passes .mark)
+
+  pub held-few : held .sections ≤ 8
+  unfolding frontHeld
+  held-few = rw held-is (few-sections f (passes .sections))
+
+  pub held-start : ((i : ℕ) → Fits w8 (getD f i 0)) → held .start ≤ length f
+  unfolding frontHeld
+  held-start b = rw held-is (start-within f (slice-bytes f b) (passes .system))
+
+  pub open-not-closed : (b : Bool) → b ≡ notClosedBy f h → b ≡ true → openingAs.Refused 5 ≡ openOf f
+  unfolding refusal openingLines
+  open-not-closed b t u = open-number f 4 (front-pass f _ passes ∙ line-holds 5 (notClosed f) _ (sym (closed-is f (passes .mark)) ∙ sym (ap (notClosedBy f) s) ∙ sym t ∙ u))
+
+  module _ (b : Bool) (t : b ≡ notClosedBy f h) (u : b ≡ false) where
+    is-closed : notClosed f ≡ false
+    is-closed = sym (closed-is f (passes .mark)) ∙ sym (ap (notClosedBy f) s) ∙ sym t ∙ u
+
+    user-there : userOffset f ≤ length f
+    unfolding notClosed
+    user-there = ltb-false (length f) (userOffset f) (fourth-false (eqb (indexOffset f) 0) (eqb (userOffset f) 0) (ltb (length f) (indexOffset f)) (ltb (length f) (userOffset f)) (ltb largestUserOffset (userOffset f)) is-closed)
+
+    pub user-within : h .user ≤ length f
+    user-within = rw header user-there
+
+    -- the front and line 5 are passed
+    behind : (ls : List Line) → firstOf (frontLines f ++ (line 5 (notClosed f) ∷ ls)) ≡ firstOf ls
+    behind ls = front-pass f (line 5 (notClosed f) ∷ ls) passes ∙ line-pass 5 (notClosed f) ls is-closed
+
+    index-of : badIndexBy f h (held .sections) (held .start) ≡ badIndex f
+    unfolding frontHeld
+    index-of = rw (held-is, s) (index-is f (passes .mark))
+
+    pub open-bad-index : (c : Bool) → c ≡ badIndexBy f h (held .sections) (held .start) → c ≡ true → openingAs.Refused 6 ≡ openOf f
+    unfolding refusal openingLines
+    open-bad-index c v w = open-number f 5 (behind _ ∙ line-holds 6 (badIndex f) _ (sym index-of ∙ sym v ∙ w))
+
+    module _ (c : Bool) (v : c ≡ badIndexBy f h (held .sections) (held .start)) (w : c ≡ false) where
+      index-right : badIndex f ≡ false
+      index-right = sym index-of ∙ sym v ∙ w
+
+      refused-7 : badUser f ≡ true → openingAs.Refused 7 ≡ openOf f
+      unfolding refusal openingLines
+      refused-7 e = open-number f 6 (behind _ ∙ line-pass 6 (badIndex f) _ index-right ∙ line-holds 7 (badUser f) _ e)
+
+      table-of : (t : TablePlace) → t ≡ tablePlaceOf (h .user) (table (drop (h .user) f)) → t ≡ tablePlaceOf (userOffset f) (table (drop (userOffset f) f))
+      table-of t e = e ∙ ap (λ (at : ℕ). tablePlaceOf at (table (drop at f))) (ap (λ (x : Header). x .user) header)
+
+      pub open-bad-user : (t : TablePlace) → t ≡ tablePlaceOf (h .user) (table (drop (h .user) f)) → t ≡ tableAs.Broken → openingAs.Refused 7 ≡ openOf f
+      open-bad-user t e g = refused-7 (user-none f (table-none f (userOffset f) (sym (table-of t e) ∙ g)))
+
+      pub open-long-user : (t : TablePlace) (tags end : ℕ) → t ≡ tablePlaceOf (h .user) (table (drop (h .user) f)) → t ≡ tableAs.Whole tags end → (end ≡ length f → ⊥) → openingAs.Refused 7 ≡ openOf f
+      open-long-user t tags end e g x = go (table-found f (userOffset f) tags end (sym (table-of t e) ∙ g))
+        where
+          go : ((ts : List Tag) × (m : ℕ) × (table (drop (userOffset f) f) ≡ good ts m) × (length ts ≡ tags) × (userOffset f + m ≡ end)) → openingAs.Refused 7 ≡ openOf f
+          go (ts, m, a, i, j) = refused-7 (user-long f ts m user-there a (λ k. x (sym j ∙ k)))
+
+      pub opened : (t : TablePlace) (tags end : ℕ) → ((i : ℕ) → Fits w8 (getD f i 0)) → t ≡ tablePlaceOf (h .user) (table (drop (h .user) f)) → t ≡ tableAs.Whole tags end → end ≡ length f → openingAs.Opened (record { frames = h .count; sections = held .sections; «system_tags» = held .«system_tags»; «user_tags» = tags; «definitions_end» = held .«definitions_end»; system = held .system; start = held .start; index = h .index; user = h .user }) ≡ openOf f
+      unfolding openOf openBy heldOf shown frontHeld valueOr badUser
+      opened t tags end b e g x = go (table-found f (userOffset f) tags end (sym (table-of t e) ∙ g))
+        where
+          go : ((ts : List Tag) × (m : ℕ) × (table (drop (userOffset f) f) ≡ good ts m) × (length ts ≡ tags) × (userOffset f + m ≡ end)) → openingAs.Opened (record { frames = h .count; sections = held .sections; «system_tags» = held .«system_tags»; «user_tags» = tags; «definitions_end» = held .«definitions_end»; system = held .system; start = held .start; index = h .index; user = h .user }) ≡ openOf f
+          go (ts, m, a, i, j) =
+              let k : readUser f ≡ good ts m = user-read f ts m a (j ∙ x) in
+              let o : refusal f ≡ 0 = passes-opens f (record { front = passes; closed = is-closed; index = index-right; user = rw k }) in
+              rw (held-is, header, o, frames-shown f (slice-bytes f b) index-right, sections-shown f (definedIn f), k, ← i)
