@@ -1,29 +1,28 @@
 -- Definitions, one behind the other, with the rule from each offset to the next.
 -- Assumes nothing.
-use Prim.Native.Nat.{ℕ, zero, suc, _+_, _*_, _-_, _^_, _<_, _≤_}
+use Prim.Native.Nat.{ℕ, zero, suc, _+_, _-_, _<_, _≤_}
 use native.Mathlib.Omega.{arith}
 use mathlib.Core.Path.{_≡_, refl, ap, sym, _∙_}
-use mathlib.Core.Bool.{Bool, true, false, not, _&&_, _||_, cond}
-use mathlib.Core.List.{List, [], _∷_, _++_}
-use lib.ListN.{length, take, drop, getD, length-drop}
-use lib.Seq.{drop-drop, length-take-le}
-use lib.Dec.{leb, ltb, eqb}
-use borrow.Author.Tests.{le-leb, lt-leb, leb-true, eq-eqb, ne-eqb, eqb-true}
-use mir.Syntax.{w64}
-use mir.Val.{Fits}
-use Rattle.number.specs.Number.{numberOf, readAt}
+use mathlib.Core.Bool.{Bool, true, false, _&&_, cond}
+use mathlib.Core.List.{List, _∷_}
+use lib.ListN.{length, take, drop}
+use lib.Seq.{drop-drop}
+use lib.Dec.{leb}
+use borrow.Author.Needs.{needs}
+use borrow.Author.Tests.{le-leb, lt-leb}
+use Rattle.number.specs.Number.{readAt}
 use Rattle.layout.specs.Recording.{legalSectionName}
-use Rattle.layout.specs.Reading.{Parsed, bad, good, Reader, onward, give, _then_, only, times, number, block, string, Definition, definition}
+use Rattle.layout.specs.Reading.{Parsed, bad, good, Reader, onward, give, _then_, only, times, number, string, Definition, definition}
 use Rattle.layout.specs.Opening.{steps, lastOffset}
 use Rattle.number.proofs.Bytes.{and-true}
 use Rattle.layout.proofs.Lists.{cond-true, cond-false}
-use Rattle.layout.proofs.Readers.{block-good, then-takes}
+use Rattle.layout.proofs.Readers.{then-takes}
 use Rattle.text.specs.Text.{textOf}
 use Rattle.text.specs.declared.Text.{Text}
 use Rattle.text.specs.declared.Text.the-variants as text
 use Rattle.text.proofs.Laws.{textOf-broken}
 use Rattle.text.proofs.Rows.{then-bad, number-cut}
-use Rattle.text.proofs.Tables.{legal-parts}
+use Rattle.text.proofs.Tables.{legal-parts, legal-place, legal-after}
 use Rattle.opening.proofs.Readers.{number-read, then-next-bad}
 use Rattle.opening.specs.Opened.{wholeDefinition, definitionAt, legalOffsets, offsetsAt}
 use Rattle.opening.specs.declared.DefinitionAt.{DefinitionAt}
@@ -137,3 +136,5 @@ offsets-step f at left last next o r all h p q l m e = go (definition-found f at
     go (d, n, g, a, c) =
         let t : (leb last (d .offset) && leb (d .offset - last) 65535) ≡ true = rw c (and-true (leb last o) (leb (o - last) 65535) (le-leb last o l) (le-leb (o - last) 65535 m)) in
         rw (← a, ← c) (sym (offsets-cons f at left last d n h g ∙ cond-true (leb last (d .offset) && leb (d .offset - last) 65535) (offsetsAt f (at + n) (left - 1) (d .offset)) offsets.Broken t) ∙ e)
+
+pub ruleset laws = (needs, name-ends, legal-place, legal-after, definition-unnamed, definition-cut, definition-whole, offsets-done, offsets-stop, offsets-fall, offsets-far, offsets-step)

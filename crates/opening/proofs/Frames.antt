@@ -3,11 +3,12 @@
 use Prim.Native.Nat.{ℕ, zero, suc, _+_, _*_, _-_, _^_, _<_, _≤_}
 use native.Mathlib.Omega.{arith}
 use mathlib.Core.Path.{_≡_, refl, ap, sym, _∙_}
-use mathlib.Core.Bool.{Bool, true, false, _&&_}
-use mathlib.Core.List.{List, [], _∷_}
+use mathlib.Core.Bool.{true, false}
+use mathlib.Core.List.{List, _∷_}
 use lib.ListN.{length, take, drop, length-drop}
 use lib.Seq.{drop-drop}
 use lib.Dec.{leb, eqb}
+use borrow.Author.Needs.{needs}
 use borrow.Author.Tests.{le-leb, lt-leb, leb-true, eq-eqb, eqb-true}
 use Rattle.number.specs.Number.{numberOf, readAt}
 use Rattle.number.proofs.Bytes.{both-true, and-true}
@@ -261,3 +262,5 @@ found-short f at k next t e r l p q = go (found f at k next t e (sym p ∙ q))
   where
     go : ((x : Frame) × (n : ℕ) × (frame k (drop at f) ≡ good x n) × (at + n ≡ next) × (x .time ≡ t) × (x .exposure ≡ e)) → next - at < 2 ^ 32
     go (x, n, g, a, b, c) = omega (arith, frame-most k (drop at f) x n g)
+
+pub ruleset laws = (needs, sized-short, sized-far, sized-large, sized-cut, sized-whole, sections-done, sections-stop, sections-step, frame-short, frame-far, frame-unmarked, frame-cut, frame-whole)

@@ -1,22 +1,19 @@
 -- The front of a file: lines 1 to 4, and what they show.
 -- Assumes nothing.
-use Prim.Native.Nat.{ℕ, zero, suc, _+_, _*_, _-_, _^_, _<_, _≤_}
+use Prim.Native.Nat.{ℕ, suc, _+_, _-_, _<_, _≤_}
 use native.Mathlib.Omega.{arith}
 use mathlib.Core.Path.{_≡_, refl, ap, sym, _∙_}
-use mathlib.Core.Bool.{Bool, true, false, not, _&&_, _||_, cond}
-use mathlib.Core.List.{List, [], _∷_, _++_, append-nil}
-use lib.ListN.{length, take, drop, getD, length-drop, length-append}
-use lib.Dec.{leb, ltb, eqb}
-use lib.Pow.{areBytes}
-use borrow.Author.Tests.{le-leb, lt-leb, le-ltb, lt-ltb, ltb-true, ltb-false, leb-true}
-use Rattle.number.specs.Number.{bytesOf, readAt}
-use Rattle.number.proofs.Bytes.{length-bytesOf, both-true}
-use Rattle.layout.specs.Recording.{Tag, tagBytes, tableBytes, fileMark, same, mostSections, within}
-use Rattle.layout.specs.Reading.{Parsed, bad, good, isBad, valueOr, taken, table, definitions, Definition}
-use Rattle.layout.specs.Opening.{Line, line, firstOf, headerCount, indexOffset, systemOffset, userOffset, readDefinitions, definedIn, readSystem, walkStart, lastOffset, notFstf, otherRevision, badSections, badSystem, frontLines}
-use Rattle.layout.proofs.Lists.{or-false, bytes-drop, cond-true, cond-false}
-use Rattle.layout.proofs.Lines.{line-pass, line-holds, FrontPasses, front-pass, front-clear}
-use Rattle.layout.proofs.Exact.{table-exact}
+use mathlib.Core.Bool.{Bool, true, false, not, _||_, cond}
+use mathlib.Core.List.{List, [], append-nil}
+use lib.ListN.{length, take, drop}
+use lib.Dec.{ltb}
+use borrow.Author.Needs.{needs}
+use borrow.Author.Tests.{le-leb, le-ltb, lt-ltb, ltb-false}
+use Rattle.layout.specs.Recording.{Tag, fileMark, same}
+use Rattle.layout.specs.Reading.{Parsed, bad, good, isBad, valueOr, taken, table}
+use Rattle.layout.specs.Opening.{firstOf, headerCount, indexOffset, systemOffset, userOffset, readDefinitions, definedIn, readSystem, walkStart, lastOffset, notFstf, otherRevision, badSections, badSystem, frontLines}
+use Rattle.layout.proofs.Lists.{or-false}
+use Rattle.layout.proofs.Lines.{line-pass, line-holds, FrontPasses, front-pass}
 use Rattle.text.specs.Table.{tablePlaceOf}
 use Rattle.text.specs.declared.TablePlace.{TablePlace}
 use Rattle.text.specs.declared.TablePlace.the-variants as tableAs
@@ -25,8 +22,6 @@ use Rattle.header.specs.Header.{headerOf}
 use Rattle.header.specs.declared.Header.{Header}
 use Rattle.opening.specs.declared.Sections.{Sections}
 use Rattle.opening.specs.declared.Sections.the-variants as sectionsAs
-use Rattle.opening.specs.declared.FrontHeld.{FrontHeld}
-use Rattle.opening.specs.declared.Front.{Front}
 use Rattle.opening.specs.declared.Front.the-variants as frontAs
 
 -- ── The header of a file that has one ──
@@ -149,3 +144,5 @@ front-whole f a b c h n end last tags start t p q r s u v w x y =
     let m : firstOf (frontLines f) ≡ 0 = front-none f (record { mark = sym p ∙ q; version = sym r ∙ s; sections = d; system = z }) in
     let o : h .system ≡ systemOffset f = ap (λ (v : Header). v .system) (w ∙ header-is f (sym p ∙ q)) in
     rw (m, e, g, i, j, o)
+
+pub ruleset laws = (needs, system-early, system-late, system-there, front-not-fstf, front-revision, front-sections, front-system, front-whole)

@@ -9,17 +9,18 @@ use lib.ListN.{length, take, drop, getD, length-append, length-drop}
 use lib.Seq.{drop-drop, take-add, length-take-le}
 use lib.Dec.{leb, ltb, eqb, leb·suc-suc}
 use lib.Pow.{areBytes}
-use borrow.Author.Tests.{le-leb, lt-leb, leb-true, ltb-true, ltb-false, lt-ltb, le-ltb, eq-eqb, ne-eqb, eqb-true}
+use borrow.Author.Needs.{needs}
+use borrow.Author.Tests.{le-leb, lt-leb, leb-true, ltb-false, lt-ltb, le-ltb, eq-eqb, ne-eqb, eqb-true}
 use mir.Syntax.{w8, w64}
 use mir.Val.{Fits}
-use Rattle.number.specs.Number.{bytesOf, numberOf, readAt, rank}
+use Rattle.number.specs.Number.{bytesOf, readAt, rank}
 use Rattle.number.proofs.Bytes.{length-bytesOf, slice-bytes, both-true}
 use Rattle.layout.specs.Recording.{Frame, frameBytes, entryBytes, entriesBytes, indexBytes, firstTime, follows, follow, inOrder, same, longestSpan}
 use Rattle.layout.specs.Reading.{Parsed, bad, good, frame, Walk, stopped, longer, walk}
 use Rattle.layout.proofs.Lists.{bytes-drop, same-true}
 use Rattle.opening.proofs.Readers.{read-is}
 use Rattle.opening.proofs.Same.{same-append, same-number}
-use Rattle.opening.proofs.Frames.{frame-parts, found, not-found}
+use Rattle.opening.proofs.Frames.{frame-parts, found, not-found, found-behind, found-short}
 use Rattle.opening.specs.Opened.{frameAt, sinceFirst, otherEntry, otherWalk, otherFrames, badIndexIn, badIndexBy}
 use Rattle.header.specs.declared.Header.{Header}
 use Rattle.opening.specs.declared.FrameAt.{FrameAt}
@@ -339,3 +340,10 @@ unfolding badIndexBy otherFrames
 index-frames f h k start n first r b l m e p q g i =
     i
     ∙ walk-index (walk (h .count) k (drop start f)) f h start first (walk-few f k start (h .count) (slice-bytes f b)) (λ x xs v. walk-first f k start (h .count) x xs v ∙ sym g) (slice-bytes f b) l m e (sym p ∙ q)
+
+-- the times and an entry; the loop over frames and entries; the index as a whole
+pub ruleset entry-laws = (needs, since-before, since-after, follows-early, follows-late, follows-right, other-since, other-offset, other-size, this-entry)
+
+pub ruleset frames-laws = (needs, found-behind, found-short, frames-done, frames-elsewhere, frames-fewer, frames-late, frames-other, frames-step, since-fits)
+
+pub ruleset index-laws = (needs, index-many, index-behind, index-long, index-count, index-frames)

@@ -1,39 +1,27 @@
 -- What the functions of this crate leave to be shown, as laws about the definitions.
 -- Assumes nothing.
-use Prim.Native.Nat.{ℕ, zero, suc, _+_, _*_, _-_, _^_, _<_, _≤_}
+use Prim.Native.Nat.{ℕ, _+_, _<_, _≤_}
 use native.Mathlib.Omega.{arith}
-use mathlib.Core.Path.{_≡_, refl, ap, sym, _∙_, subst}
-use mathlib.Core.Bool.{Bool, true, false, not, _&&_, _||_, cond}
-use mathlib.Core.List.{List, [], _∷_, _++_}
-use lib.ListN.{length, take, drop, getD, length-drop, length-take, List·getD-eq-default}
-use lib.Seq.{drop-cons, drop-drop, length-take-le, drop-nil}
-use lib.Dec.{leb, ltb, eqb}
+use mathlib.Core.Path.{_≡_, refl, ap, sym, _∙_}
+use mathlib.Core.Bool.{Bool, true, false, not, _&&_, cond}
+use mathlib.Core.List.{List}
+use lib.ListN.{length, take, drop, getD, List·getD-eq-default}
+use lib.Seq.{drop-cons, length-take-le}
+use lib.Dec.{leb}
 use lib.Pow.{areBytes}
 use borrow.Author.Needs.{needs}
-use borrow.Author.Tests.{le-leb, lt-leb, lt-ltb, le-ltb, eq-eqb, ne-eqb, ltb-true, ltb-false, leb-true, leb-false}
+use borrow.Author.Tests.{le-leb, lt-leb, lt-ltb, le-ltb, eq-eqb, ne-eqb, leb-true, leb-false}
 use mir.Syntax.{w8}
 use mir.Val.{Fits}
 use Rattle.number.specs.Number.{bytesOf, numberOf, readAt}
 use Rattle.number.proofs.Bytes.{bytesOf-numberOf, slice-bytes}
-use Rattle.layout.specs.Recording.{fileMark, same, longestSection, frameMark}
-use Rattle.layout.specs.Reading.{Parsed, bad, good, Reader, onward, times, number, block, sized, frame}
+use Rattle.layout.specs.Recording.{fileMark, same}
 use Rattle.layout.specs.Opening.{field, headerCount, indexOffset, systemOffset, userOffset, notFstf, otherRevision}
-use Rattle.layout.proofs.Lists.{same-refl, same-true, bytes-take, cond-true, cond-false}
-use Rattle.text.proofs.Tables.{legal-place, legal-after}
+use Rattle.layout.proofs.Lists.{same-refl, same-true, bytes-take}
 use Rattle.opening.proofs.Readers.{read-is}
-use Rattle.opening.proofs.Frames.{sized-short, sized-far, sized-large, sized-cut, sized-whole, sections-done, sections-stop, sections-step, frame-short, frame-far, frame-unmarked, frame-cut, frame-whole, found-behind, found-short}
-use Rattle.opening.proofs.Index.{since-before, since-after, follows-early, follows-late, follows-right, other-since, other-offset, other-size, this-entry, frames-done, frames-elsewhere, frames-fewer, frames-late, frames-other, frames-step, since-fits, index-many, index-behind, index-long, index-count, index-frames}
-use Rattle.opening.proofs.Definitions.{name-ends, definition-unnamed, definition-cut, definition-whole, offsets-done, offsets-stop, offsets-fall, offsets-far, offsets-step}
-use Rattle.opening.proofs.Line3.{sections-short, sections-none, sections-many, sections-unnamed, sections-fall, sections-apart, sections-twice, sections-legal}
-use Rattle.opening.proofs.Fronts.{system-early, system-late, system-there, front-not-fstf, front-revision, front-sections, front-system, front-whole}
-use Rattle.opening.proofs.Lines.{open-front-refused, held-few, held-start, open-not-closed, user-within, open-bad-index, open-bad-user, open-long-user, opened}
-use Rattle.opening.specs.Opened.{notClosedBy, sizedAt, sectionsAt, wholeFrame, frameAt}
+use Rattle.opening.specs.Opened.{notClosedBy}
 use Rattle.header.specs.Header.{headerOf}
 use Rattle.header.specs.declared.Header.{Header}
-use Rattle.text.specs.declared.Place.{Place}
-use Rattle.text.specs.declared.Place.the-variants.{End, Broken}
-use Rattle.opening.specs.declared.FrameAt.{FrameAt}
-use Rattle.opening.specs.declared.FrameAt.the-variants.{Whole, None}
 
 -- ── 1, 2 ──
 
@@ -111,5 +99,4 @@ unfolding notClosedBy
 closed f h a b c d e =
     rw (ne-eqb (h .index) 0 a, ne-eqb (h .user) 0 b, le-ltb (length f) (h .index) c, le-ltb (length f) (h .user) d, le-ltb 1099511115772 (h .user) e)
 
-pub ruleset laws =
-    (needs, fstf-short, fstf-mark, fstf-other, revision-one, revision-other, no-index, no-user, index-past, user-past, user-high, closed, sized-short, sized-far, sized-large, sized-cut, sized-whole, sections-done, sections-stop, sections-step, frame-short, frame-far, frame-unmarked, frame-cut, frame-whole, since-before, since-after, follows-early, follows-late, follows-right, other-since, other-offset, other-size, this-entry, found-behind, found-short, frames-done, frames-elsewhere, frames-fewer, frames-late, frames-other, frames-step, since-fits, index-many, index-behind, index-long, index-count, index-frames, name-ends, legal-place, legal-after, definition-unnamed, definition-cut, definition-whole, offsets-done, offsets-stop, offsets-fall, offsets-far, offsets-step, sections-short, sections-none, sections-many, sections-unnamed, sections-fall, sections-apart, sections-twice, sections-legal, system-early, system-late, system-there, front-not-fstf, front-revision, front-sections, front-system, front-whole, open-front-refused, held-few, held-start, open-not-closed, user-within, open-bad-index, open-bad-user, open-long-user, opened)
+pub ruleset laws = (needs, fstf-short, fstf-mark, fstf-other, revision-one, revision-other, no-index, no-user, index-past, user-past, user-high, closed)

@@ -1,20 +1,20 @@
 -- The sections' definitions as a whole: line 3.
 -- Assumes nothing.
-use Prim.Native.Nat.{ℕ, zero, suc, _+_, _*_, _-_, _^_, _<_, _≤_}
+use Prim.Native.Nat.{ℕ, _+_, _-_, _<_, _≤_}
 use native.Mathlib.Omega.{arith}
-use mathlib.Core.Path.{_≡_, refl, ap, sym, _∙_}
-use mathlib.Core.Bool.{Bool, true, false, not, _&&_, _||_, cond}
-use mathlib.Core.List.{List, [], _∷_, _++_}
-use lib.ListN.{length, take, drop, length-drop}
+use mathlib.Core.Path.{_≡_, refl, sym, _∙_}
+use mathlib.Core.Bool.{Bool, true, false, not, _&&_, cond}
+use mathlib.Core.List.{List, _∷_}
+use lib.ListN.{length, drop}
 use lib.Seq.{drop-drop}
-use lib.Dec.{leb, ltb, eqb}
+use lib.Dec.{leb, eqb}
+use borrow.Author.Needs.{needs}
 use borrow.Author.Tests.{le-leb, lt-leb, eq-eqb, ne-eqb}
-use Rattle.number.specs.Number.{numberOf, readAt}
+use Rattle.number.specs.Number.{readAt}
 use Rattle.number.proofs.Bytes.{and-true}
 use Rattle.layout.specs.Recording.{mostSections, within, distinct}
-use Rattle.layout.specs.Reading.{Parsed, bad, good, Reader, onward, valueOr, taken, _then_, only, times, number, Definition, definition, definedNames, definitions}
+use Rattle.layout.specs.Reading.{Parsed, bad, good, Reader, valueOr, taken, _then_, only, times, number, Definition, definition, definedNames, definitions}
 use Rattle.layout.specs.Opening.{readDefinitions, definedIn, steps, offsetsLegal, lastOffset, badSections}
-use Rattle.layout.proofs.Lists.{cond-true, cond-false}
 use Rattle.layout.proofs.Readers.{then-takes}
 use Rattle.text.specs.Rows.{distinctNames}
 use Rattle.text.specs.declared.Row.the-variants as row
@@ -29,7 +29,6 @@ use Rattle.opening.specs.declared.DefinitionAt.{DefinitionAt}
 use Rattle.opening.specs.declared.DefinitionAt.the-variants as definitionAs
 use Rattle.opening.specs.declared.Offsets.{Offsets}
 use Rattle.opening.specs.declared.Offsets.the-variants as offsets
-use Rattle.opening.specs.declared.Sections.{Sections}
 use Rattle.opening.specs.declared.Sections.the-variants as sectionsAs
 
 -- ── Read, and not read ──
@@ -184,3 +183,5 @@ module _ (f : List ℕ) (n : ℕ) (h : 33 < length f) (p : n ≡ readAt f 33 1) 
   sections-legal next o end last r q t a b c e i u v =
       let w = listed next o end last (sym a ∙ b) (sym c ∙ e) in
       sym (sections-list (w .first) (w .others) (w .size) (w .list) ∙ rw (sym u ∙ v, eq-eqb (w .first .offset) (34 + w .size) (w .offset ∙ i ∙ sym (w .ends)), w .ordered, w .ends, w .final))
+
+pub ruleset laws = (needs, sections-short, sections-none, sections-many, sections-unnamed, sections-fall, sections-apart, sections-twice, sections-legal)

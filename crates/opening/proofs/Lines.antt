@@ -1,24 +1,24 @@
 -- Opening: what the front's answer, the header and the tests that follow say of lines 1 to 7, and the numbers of what a file shows.
 -- Assumes nothing.
-use Prim.Native.Nat.{ℕ, zero, suc, _+_, _*_, _-_, _^_, _<_, _≤_}
+use Prim.Native.Nat.{ℕ, zero, suc, _+_, _-_, _≤_}
 use native.Mathlib.Omega.{arith}
 use mathlib.Core.Path.{_≡_, refl, ap, sym, _∙_}
-use mathlib.Core.Bool.{Bool, true, false, not, _&&_, _||_, cond}
+use mathlib.Core.Bool.{Bool, true, false, not, _||_}
 use mathlib.Core.List.{List, [], _∷_, _++_, append-nil, flatMap}
 use lib.ListN.{length, take, drop, getD, length-drop, length-append}
 use lib.Dec.{leb, ltb, eqb}
 use lib.Pow.{areBytes}
-use borrow.Author.Tests.{le-leb, lt-leb, le-ltb, lt-ltb, ltb-true, ltb-false, leb-true, eq-eqb, ne-eqb}
+use borrow.Author.Needs.{needs}
+use borrow.Author.Tests.{ltb-false, leb-true, eq-eqb, ne-eqb}
 use mir.Syntax.{w8}
 use mir.Val.{Fits}
-use Rattle.number.specs.Number.{bytesOf, numberOf, readAt}
+use Rattle.number.specs.Number.{bytesOf, numberOf}
 use Rattle.number.proofs.Bytes.{length-bytesOf, slice-bytes, both-true}
 use Rattle.layout.specs.Recording.{Tag, tagBytes, tableBytes, mostSections, largestUserOffset, within, distinct, inOrder, same, indexBytes}
-use Rattle.layout.specs.Reading.{Parsed, bad, good, isBad, valueOr, taken, exactly, onward, _then_, only, number, times, table, Definition, definition, definedNames, definitions, Walk, walk}
-use Rattle.layout.specs.Opening.{Line, line, firstOf, headerCount, indexOffset, systemOffset, userOffset, readDefinitions, definedIn, readSystem, readUser, walkStart, walkOf, counted, offsetsLegal, lastOffset, notFstf, otherRevision, badSections, badSystem, notClosed, badIndex, badUser, frontLines, openingLines, refusal, sectionsFrom, shown}
-use Rattle.layout.proofs.Lists.{or-false, bytes-drop, cond-true, cond-false}
-use Rattle.layout.proofs.Lines.{line-pass, line-holds, FrontPasses, Passes, front-pass, front-clear, passes-opens}
-use Rattle.layout.proofs.Readers.{exactly-good, exactly-is}
+use Rattle.layout.specs.Reading.{Parsed, bad, good, isBad, valueOr, taken, exactly, onward, _then_, only, number, times, table, Definition, definition, definedNames, definitions}
+use Rattle.layout.specs.Opening.{Line, line, firstOf, headerCount, indexOffset, systemOffset, userOffset, readDefinitions, definedIn, readSystem, readUser, walkStart, walkOf, counted, offsetsLegal, lastOffset, notFstf, badSections, badSystem, notClosed, badIndex, badUser, frontLines, openingLines, refusal, sectionsFrom, shown}
+use Rattle.layout.proofs.Lists.{or-false, bytes-drop}
+use Rattle.layout.proofs.Lines.{line-pass, line-holds, FrontPasses, front-pass, front-clear, passes-opens}
 use Rattle.layout.proofs.Exact.{table-exact}
 use Rattle.layout.proofs.Walks.{walk-gives}
 use Rattle.text.specs.Table.{tablePlaceOf}
@@ -35,7 +35,6 @@ use Rattle.opening.specs.declared.FrontHeld.{FrontHeld}
 use Rattle.opening.specs.declared.Front.{Front}
 use Rattle.opening.specs.declared.Front.the-variants as frontAs
 use Rattle.opening.specs.declared.Held.{Held}
-use Rattle.opening.specs.declared.Opening.{Opening}
 use Rattle.opening.specs.declared.Opening.the-variants as openingAs
 
 -- ── What the front's answer says ──
@@ -48,8 +47,16 @@ front-passes f held e = go (firstOf (frontLines f)) refl e
     go zero q g = (front-clear f [] (ap firstOf (append-nil (frontLines f)) ∙ q) .0, cc)
     go (suc n) q g = let z : _≡_ {A = ℕ} 0 1 = cc in absurd (omega arith)
 
+pub front-refuses : (f : List ℕ) (n : ℕ) → frontOf f ≡ frontAs.Refused n → (m : ℕ) × (n ≡ suc m) × (firstOf (frontLines f) ≡ suc m)
+unfolding frontOf frontBy
+front-refuses f n e = go (firstOf (frontLines f)) refl e
+  where
+    go : (j : ℕ) → firstOf (frontLines f) ≡ j → frontBy j (frontHeld f) ≡ frontAs.Refused n → (m : ℕ) × (n ≡ suc m) × (firstOf (frontLines f) ≡ suc m)
+    go zero q g = let z : _≡_ {A = ℕ} 0 1 = cc in absurd (omega arith)
+    go (suc j) q g = (j, cc, q)
+
 -- a number that an order gives is given however it goes on
-first-append : (ls more : List Line) (n : ℕ) → firstOf ls ≡ suc n → firstOf (ls ++ more) ≡ suc n
+pub first-append : (ls more : List Line) (n : ℕ) → firstOf ls ≡ suc n → firstOf (ls ++ more) ≡ suc n
 unfolding firstOf
 first-append [] more n e = absurd (omega arith)
 first-append (l ∷ ls) more n e = go (l .holds) e (first-append ls more n)
@@ -63,15 +70,11 @@ unfolding openOf openBy
 open-number f n e = rw e
 
 pub open-front-refused : (f : List ℕ) (r : Front) (n m : ℕ) → r ≡ frontOf f → r ≡ frontAs.Refused n → m ≡ frontRefusal r → openingAs.Refused m ≡ openOf f
-unfolding frontOf frontBy refusal openingLines
-open-front-refused f r n m p q s = go (firstOf (frontLines f)) refl (sym p ∙ q)
+unfolding refusal openingLines
+open-front-refused f r n m p q s = go (front-refuses f n (sym p ∙ q)) (s ∙ ap frontRefusal q)
   where
-    go : (j : ℕ) → firstOf (frontLines f) ≡ j → frontBy j (frontHeld f) ≡ frontAs.Refused n → openingAs.Refused m ≡ openOf f
-    go zero e g = let z : _≡_ {A = ℕ} 0 1 = cc in absurd (omega arith)
-    go (suc j) e g =
-        let k : n ≡ suc j = cc in
-        let l : m ≡ n = s ∙ ap frontRefusal q in
-        rw (l, k) (open-number f j (first-append (frontLines f) _ j e))
+    go : ((j : ℕ) × (n ≡ suc j) × (firstOf (frontLines f) ≡ suc j)) → m ≡ n → openingAs.Refused m ≡ openOf f
+    go (j, k, e) l = rw (l, k) (open-number f j (first-append (frontLines f) _ j e))
 
 -- ── What a passed line gives ──
 
@@ -228,3 +231,23 @@ module _ (f : List ℕ) (r : Front) (held : FrontHeld) (h : Header) (p : r ≡ f
               let k : readUser f ≡ good ts m = user-read f ts m a (j ∙ x) in
               let o : refusal f ≡ 0 = passes-opens f (record { front = passes; closed = is-closed; index = index-right; user = rw k }) in
               rw (held-is, header, o, frames-shown f (slice-bytes f b) index-right, sections-shown f (definedIn f), k, ← i)
+
+-- ── What the answers say, for those who call ──
+
+pub open-opens : (f : List ℕ) (held : Held) → openOf f ≡ openingAs.Opened held → (refusal f ≡ 0) × (held ≡ heldOf f)
+unfolding openOf openBy
+open-opens f held e = go (refusal f) e
+  where
+    go : (n : ℕ) → openBy n (heldOf f) ≡ openingAs.Opened held → (n ≡ 0) × (held ≡ heldOf f)
+    go zero g = (refl, cc)
+    go (suc n) g = let z : _≡_ {A = ℕ} 0 1 = cc in absurd (omega arith)
+
+pub open-refuses : (f : List ℕ) (n : ℕ) → openOf f ≡ openingAs.Refused n → (m : ℕ) × (n ≡ suc m) × (refusal f ≡ suc m)
+unfolding openOf openBy
+open-refuses f n e = go (refusal f) refl e
+  where
+    go : (j : ℕ) → refusal f ≡ j → openBy j (heldOf f) ≡ openingAs.Refused n → (m : ℕ) × (n ≡ suc m) × (refusal f ≡ suc m)
+    go zero q g = let z : _≡_ {A = ℕ} 0 1 = cc in absurd (omega arith)
+    go (suc j) q g = (j, cc, q)
+
+pub ruleset laws = (needs, open-front-refused, held-few, held-start, open-not-closed, user-within, open-bad-index, open-bad-user, open-long-user, opened)

@@ -2,13 +2,13 @@
 -- Assumes nothing.
 use Prim.Native.Nat.{ℕ, zero, suc, _+_, _-_, _<_, _≤_}
 use native.Mathlib.Omega.{arith}
-use mathlib.Core.Path.{_≡_, refl, ap, sym, _∙_}
-use mathlib.Core.Bool.{Bool, true, false}
-use mathlib.Core.List.{List, [], _∷_}
+use mathlib.Core.Path.{_≡_, sym}
+use mathlib.Core.Bool.{Bool, true}
+use mathlib.Core.List.{List, _∷_}
 use lib.ListN.{length, take, drop}
 use borrow.Author.Tests.{le-leb}
 use Rattle.number.specs.Number.{numberOf, readAt}
-use Rattle.layout.specs.Reading.{Parsed, bad, good, Reader, onward, _then_, only, times, number, block}
+use Rattle.layout.specs.Reading.{bad, good, Reader, onward, _then_, only, times, number, block}
 use Rattle.layout.proofs.Readers.{number-good, then-good, times-suc-takes}
 use Rattle.text.proofs.Rows.{number-there, block-cut, end-bad}
 use Rattle.text.proofs.Readers.{only-parts}

@@ -1,7 +1,7 @@
 -- What this crate's functions answer, by the layout's readers and its lines of refusal.
 use Prim.Native.Nat.{ℕ, zero, suc, _+_, _*_, _-_}
-use mathlib.Core.Bool.{Bool, true, false, not, cond, _||_}
-use mathlib.Core.List.{List, [], _∷_, _++_}
+use mathlib.Core.Bool.{Bool, not, cond, _||_}
+use mathlib.Core.List.{List, [], _++_}
 use lib.ListN.{length, take, drop}
 use lib.Dec.{leb, ltb, eqb}
 use Rattle.number.specs.Number.{bytesOf, rank}
@@ -161,3 +161,8 @@ openBy (suc n) h = openingAs.Refused (suc n)
 -- the first of the lines 1 to 7 that holds; else what the file holds
 unfoldable pub openOf : List ℕ → Opening
 openOf f = openBy (refusal f) (heldOf f)
+
+-- the number that an opening is refused with; 0 for none
+abbrev pub openRefusal : Opening → ℕ
+openRefusal (openingAs.Opened h) = 0
+openRefusal (openingAs.Refused n) = n

@@ -10,7 +10,7 @@ ghost use Prim.Native.Nat.{_+_, _*_, _^_, _<_, _≤_};
 ghost use lib.ListN.{length};
 ghost use Rattle.layout.specs.Recording.{follows};
 ghost use Rattle.layout.specs.Opening.{notFstf, otherRevision};
-ghost use Rattle.opening.specs.Opened.{notClosedBy, sizedAt, sectionsAt, frameAt, sinceFirst, otherEntry, otherFrames, badIndexBy, definitionAt, offsetsAt, sectionsOf, systemTable, frontOf, frontRefusal, openOf};
+ghost use Rattle.opening.specs.Opened.{notClosedBy, sizedAt, sectionsAt, frameAt, sinceFirst, otherEntry, otherFrames, badIndexBy, definitionAt, offsetsAt, sectionsOf, systemTable, frontOf, frontRefusal, openOf, openRefusal};
 
 // 1: "under 34 bytes, or the first four differ"
 pub fn not_fstf(file: &[u8]) -> bool
@@ -35,209 +35,7 @@ pub fn other_revision(file: &[u8]) -> bool
     true
 }
 
-// 5: "index or user offset is zero, past the file's length, or user offset over its limit"
-fn not_closed(file: &[u8], header: Header) -> bool
-    ensures { λ r. ⌜ r ≡ notClosedBy (now (file .entry)) header ⌝ }
-{
-    if header.index == 0 {
-        return true;
-    }
-    if header.user == 0 {
-        return true;
-    }
-    if file.len() < header.index {
-        return true;
-    }
-    if file.len() < header.user {
-        return true;
-    }
-    if Header::LARGEST_USER_OFFSET < header.user {
-        return true;
-    }
-    false
-}
-
-// A section in a frame: a size within its limit, and that many bytes.
-pub fn sized(file: &[u8], at: usize) -> Place
-    ensures { λ r. ⌜ r ≡ sizedAt (now (file .entry)) at ⌝ }
-{
-    if file.len() < 4 {
-        return Place::Broken;
-    }
-    if file.len() - 4 < at {
-        return Place::Broken;
-    }
-    let size = number::read(file, at, 4) as usize;
-    if Header::LONGEST_SECTION < size {
-        return Place::Broken;
-    }
-    let body = at + 4;
-    if file.len() - body < size {
-        return Place::Broken;
-    }
-    Place::End(body + size)
-}
-
-// As many sections one behind the other: only their sizes are read.
-pub fn sized_sections(file: &[u8], at: usize, sections: usize) -> Place
-    ensures { λ r. ⌜ r ≡ sectionsAt (now (file .entry)) at sections ⌝ }
-{
-    let mut place = at;
-    let mut left = sections;
-    while 0 < left {
-        let section = sized(file, place);
-        let Place::End(next) = section else {
-            return Place::Broken;
-        };
-        place = next;
-        left -= 1;
-    }
-    Place::End(place)
-}
-
-pub enum FrameAt {
-    Whole {
-        next: usize,
-        time: u64,
-        exposure: u64,
-    },
-    None,
-}
-
-// The whole frame that stands at a place: "all its bytes by the rule are there, whatever its time". The time is the pattern of its Int64.
-pub fn frame_at(file: &[u8], at: usize, sections: usize) -> FrameAt
-    ensures { λ r. ⌜ r ≡ frameAt (now (file .entry)) at sections ⌝ }
-{
-    if file.len() < Header::FRAME_HEAD {
-        return FrameAt::None;
-    }
-    if file.len() - Header::FRAME_HEAD < at {
-        return FrameAt::None;
-    }
-    if number::read(file, at, 4) == Header::FRAME_MARK {} else {
-        return FrameAt::None;
-    }
-    let behind = sized_sections(file, at + Header::FRAME_HEAD, sections);
-    let Place::End(next) = behind else {
-        return FrameAt::None;
-    };
-    FrameAt::Whole {
-        next,
-        time: number::read(file, at + 4, 8),
-        exposure: number::read(file, at + 12, 4),
-    }
-}
-
-// How long after the first frame a time is; 0 where it is before it. Times are patterns of Int64.
-pub fn since(first: u64, time: u64) -> u64
-    ensures { λ r. ⌜ r ≡ sinceFirst first time ⌝ }
-{
-    let start = number::rank_of(first);
-    let here = number::rank_of(time);
-    if here < start {
-        return 0;
-    }
-    here - start
-}
-
-// "A frame's time is never before the frame ahead of it, and at most 4,294,967,295 ms after the first."
-pub fn follows_last(first: u64, last: u64, time: u64) -> bool
-    ensures { λ r. ⌜ r ≡ follows first last time ⌝ }
-{
-    if number::rank_of(time) < number::rank_of(last) {
-        return false;
-    }
-    if Header::LONGEST_SPAN < since(first, time) {
-        return false;
-    }
-    true
-}
-
-// Whether an index entry is not the one that a frame must have: time since the first frame, offset, length.
-fn other_entry(file: &[u8], entry: usize, since: u64, offset: usize, size: usize) -> bool
-    requires { ⌜ (entry + 16 ≤ length (now file)) × (since < 2 ^ 32) × (size < 2 ^ 32) ⌝ }
-    ensures { λ r. ⌜ r ≡ otherEntry (now (file .entry)) entry since offset size ⌝ }
-{
-    if number::read(file, entry, 4) == since {} else {
-        return true;
-    }
-    if number::read(file, entry + 4, 8) == offset as u64 {} else {
-        return true;
-    }
-    if number::read(file, entry + 12, 4) == size as u64 {
-        return false;
-    }
-    true
-}
-
-// Whether the frames from a place on are fewer than the entries, end elsewhere than at the index, break the time rule, or are not those of the
-// entries. One pass: each frame is held against its entry as it is found.
-fn other_frames(
-    file: &[u8],
-    sections: usize,
-    start: usize,
-    count: usize,
-    index: usize,
-    first: u64,
-) -> bool
-    requires { ⌜ (sections ≤ 8) × (index + 4 + 16 * count ≤ length (now file)) ⌝ }
-    ensures { λ r. ⌜ r ≡ otherFrames (now (file .entry)) sections index first count start (index + 4) first ⌝ }
-{
-    let mut place = start;
-    let mut entry = index + 4;
-    let mut last = first;
-    let mut left = count;
-    while 0 < left {
-        let frame = frame_at(file, place, sections);
-        let FrameAt::Whole {
-            next,
-            time,
-            exposure: _,
-        } = frame
-        else {
-            return true;
-        };
-        if follows_last(first, last, time) {} else {
-            return true;
-        }
-        if other_entry(file, entry, since(first, time), place, next - place) {
-            return true;
-        }
-        place = next;
-        entry += Header::INDEX_ENTRY;
-        last = time;
-        left -= 1;
-    }
-    if place == index {
-        return false;
-    }
-    true
-}
-
-// 6: "header count over 1,000,000; or fewer whole frames than that from the start of the walk; or their end is not the index offset; or the times
-// break their rule; or the bytes from index offset to user offset are not exactly those frames' index"
-fn bad_index(file: &[u8], header: Header, sections: usize, start: usize) -> bool
-    requires { ⌜ (sections ≤ 8) × (start ≤ length (now file)) × (header .user ≤ length (now file)) ⌝ }
-    ensures { λ r. ⌜ r ≡ badIndexBy (now (file .entry)) header sections start ⌝ }
-{
-    let count = header.count;
-    let index = header.index;
-    let user = header.user;
-    if Header::MOST_FRAMES < count {
-        return true;
-    }
-    if user < index {
-        return true;
-    }
-    if user - index == 4 + Header::INDEX_ENTRY * count {} else {
-        return true;
-    }
-    if number::read(file, index, 4) == count as u64 {} else {
-        return true;
-    }
-    let first = number::read(file, start + 4, 8);
-    other_frames(file, sections, start, count, index, first)
-}
+// ── Sections ──
 
 // A section's definition: where the next one starts, and the offset of its configuration.
 pub enum DefinitionAt {
@@ -335,6 +133,8 @@ pub fn sections_in(file: &[u8]) -> Sections
     }
 }
 
+// ── The front ──
+
 // 4: "its offset is before the last configuration's or more than 65,535 after it, or the table is malformed or runs past the end"
 fn system_table(file: &[u8], system: usize, last: usize) -> TablePlace
     ensures { λ r. ⌜ r ≡ systemTable (now (file .entry)) system last ⌝ }
@@ -401,6 +201,218 @@ pub fn front_refusal(front: Front) -> u8
     }
 }
 
+// ── Frames ──
+
+// A section in a frame: a size within its limit, and that many bytes.
+pub fn sized(file: &[u8], at: usize) -> Place
+    ensures { λ r. ⌜ r ≡ sizedAt (now (file .entry)) at ⌝ }
+{
+    if file.len() < 4 {
+        return Place::Broken;
+    }
+    if file.len() - 4 < at {
+        return Place::Broken;
+    }
+    let size = number::read(file, at, 4) as usize;
+    if Header::LONGEST_SECTION < size {
+        return Place::Broken;
+    }
+    let body = at + 4;
+    if file.len() - body < size {
+        return Place::Broken;
+    }
+    Place::End(body + size)
+}
+
+// As many sections one behind the other: only their sizes are read.
+pub fn sized_sections(file: &[u8], at: usize, sections: usize) -> Place
+    ensures { λ r. ⌜ r ≡ sectionsAt (now (file .entry)) at sections ⌝ }
+{
+    let mut place = at;
+    let mut left = sections;
+    while 0 < left {
+        let section = sized(file, place);
+        let Place::End(next) = section else {
+            return Place::Broken;
+        };
+        place = next;
+        left -= 1;
+    }
+    Place::End(place)
+}
+
+pub enum FrameAt {
+    Whole {
+        next: usize,
+        time: u64,
+        exposure: u64,
+    },
+    None,
+}
+
+// The whole frame that stands at a place: "all its bytes by the rule are there, whatever its time". The time is the pattern of its Int64.
+pub fn frame_at(file: &[u8], at: usize, sections: usize) -> FrameAt
+    ensures { λ r. ⌜ r ≡ frameAt (now (file .entry)) at sections ⌝ }
+{
+    if file.len() < Header::FRAME_HEAD {
+        return FrameAt::None;
+    }
+    if file.len() - Header::FRAME_HEAD < at {
+        return FrameAt::None;
+    }
+    if number::read(file, at, 4) == Header::FRAME_MARK {} else {
+        return FrameAt::None;
+    }
+    let behind = sized_sections(file, at + Header::FRAME_HEAD, sections);
+    let Place::End(next) = behind else {
+        return FrameAt::None;
+    };
+    FrameAt::Whole {
+        next,
+        time: number::read(file, at + 4, 8),
+        exposure: number::read(file, at + 12, 4),
+    }
+}
+
+// ── Times ──
+
+// How long after the first frame a time is; 0 where it is before it. Times are patterns of Int64.
+pub fn since(first: u64, time: u64) -> u64
+    ensures { λ r. ⌜ r ≡ sinceFirst first time ⌝ }
+{
+    let start = number::rank_of(first);
+    let here = number::rank_of(time);
+    if here < start {
+        return 0;
+    }
+    here - start
+}
+
+// "A frame's time is never before the frame ahead of it, and at most 4,294,967,295 ms after the first."
+pub fn follows_last(first: u64, last: u64, time: u64) -> bool
+    ensures { λ r. ⌜ r ≡ follows first last time ⌝ }
+{
+    if number::rank_of(time) < number::rank_of(last) {
+        return false;
+    }
+    if Header::LONGEST_SPAN < since(first, time) {
+        return false;
+    }
+    true
+}
+
+// ── The index ──
+
+// Whether an index entry is not the one that a frame must have: time since the first frame, offset, length.
+fn other_entry(file: &[u8], entry: usize, since: u64, offset: usize, size: usize) -> bool
+    requires { ⌜ (entry + 16 ≤ length (now file)) × (since < 2 ^ 32) × (size < 2 ^ 32) ⌝ }
+    ensures { λ r. ⌜ r ≡ otherEntry (now (file .entry)) entry since offset size ⌝ }
+{
+    if number::read(file, entry, 4) == since {} else {
+        return true;
+    }
+    if number::read(file, entry + 4, 8) == offset as u64 {} else {
+        return true;
+    }
+    if number::read(file, entry + 12, 4) == size as u64 {
+        return false;
+    }
+    true
+}
+
+// Whether the frames from a place on are fewer than the entries, end elsewhere than at the index, break the time rule, or are not those of the
+// entries. One pass: each frame is held against its entry as it is found.
+fn other_frames(
+    file: &[u8],
+    sections: usize,
+    start: usize,
+    count: usize,
+    index: usize,
+    first: u64,
+) -> bool
+    requires { ⌜ (sections ≤ 8) × (index + 4 + 16 * count ≤ length (now file)) ⌝ }
+    ensures { λ r. ⌜ r ≡ otherFrames (now (file .entry)) sections index first count start (index + 4) first ⌝ }
+{
+    let mut place = start;
+    let mut entry = index + 4;
+    let mut last = first;
+    let mut left = count;
+    while 0 < left {
+        let frame = frame_at(file, place, sections);
+        let FrameAt::Whole {
+            next,
+            time,
+            exposure: _,
+        } = frame
+        else {
+            return true;
+        };
+        if follows_last(first, last, time) {} else {
+            return true;
+        }
+        if other_entry(file, entry, since(first, time), place, next - place) {
+            return true;
+        }
+        place = next;
+        entry += Header::INDEX_ENTRY;
+        last = time;
+        left -= 1;
+    }
+    if place == index {
+        return false;
+    }
+    true
+}
+
+// 5: "index or user offset is zero, past the file's length, or user offset over its limit"
+fn not_closed(file: &[u8], header: Header) -> bool
+    ensures { λ r. ⌜ r ≡ notClosedBy (now (file .entry)) header ⌝ }
+{
+    if header.index == 0 {
+        return true;
+    }
+    if header.user == 0 {
+        return true;
+    }
+    if file.len() < header.index {
+        return true;
+    }
+    if file.len() < header.user {
+        return true;
+    }
+    if Header::LARGEST_USER_OFFSET < header.user {
+        return true;
+    }
+    false
+}
+
+// 6: "header count over 1,000,000; or fewer whole frames than that from the start of the walk; or their end is not the index offset; or the times
+// break their rule; or the bytes from index offset to user offset are not exactly those frames' index"
+fn bad_index(file: &[u8], header: Header, sections: usize, start: usize) -> bool
+    requires { ⌜ (sections ≤ 8) × (start ≤ length (now file)) × (header .user ≤ length (now file)) ⌝ }
+    ensures { λ r. ⌜ r ≡ badIndexBy (now (file .entry)) header sections start ⌝ }
+{
+    let count = header.count;
+    let index = header.index;
+    let user = header.user;
+    if Header::MOST_FRAMES < count {
+        return true;
+    }
+    if user < index {
+        return true;
+    }
+    if user - index == 4 + Header::INDEX_ENTRY * count {} else {
+        return true;
+    }
+    if number::read(file, index, 4) == count as u64 {} else {
+        return true;
+    }
+    let first = number::read(file, start + 4, 8);
+    other_frames(file, sections, start, count, index, first)
+}
+
+// ── Opening ──
+
 // What a file that opens holds, in numbers, and where its parts stand.
 pub struct Held {
     pub frames: usize,
@@ -452,4 +464,14 @@ pub fn open(file: &[u8]) -> Opening
         index: header.index,
         user: header.user,
     })
+}
+
+// The number that an opening is refused with; 0 for none.
+pub fn open_refusal(opening: Opening) -> u8
+    ensures { λ r. ⌜ r ≡ openRefusal opening ⌝ }
+{
+    match opening {
+        Opening::Opened(_) => 0,
+        Opening::Refused(number) => number,
+    }
 }

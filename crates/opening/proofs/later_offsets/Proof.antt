@@ -1,11 +1,8 @@
 use mathlib.Core.Path.{_≡_}
 use Rattle.opening.specs.Opened.{offsetsAt}
-use Rattle.opening.proofs.Laws.{laws}
+use Rattle.opening.proofs.Definitions.{laws}
 use Rattle.opening.proofs.later_offsets.Statement.{statement}
 use Rattle.opening.proofs.later_offsets.Tie as tie
-use Rattle.opening.proofs.later_offsets.Reads as reads
-use Rattle.opening.proofs.later_offsets.Lts as lts
-use Rattle.opening.proofs.definition_at.Reads as definition-at-reads
 
 abbrev Inv-loop : tie.InvT-loop
 Inv-loop file at definitions offset place₀ last₀ left₀ place last left = offsetsAt file place left last ≡ offsetsAt file at definitions offset
@@ -13,47 +10,36 @@ Inv-loop file at definitions offset place₀ last₀ left₀ place last left = o
 abbrev μ-loop : tie.MeasureT-loop
 μ-loop file at definitions offset place₀ last₀ left₀ place last left = left
 
--- src/lib.rt:344:5
 loop-holds : tie.Need-loop-holds Inv-loop μ-loop
 loop-holds c = search laws
 
--- src/lib.rt:345:13
 definition-at-requires : tie.Need-definition-at-requires Inv-loop μ-loop
 definition-at-requires c κs = search laws
 
--- src/lib.rt:346:35
 enum-known-found : tie.Need-enum-known-found Inv-loop μ-loop
 enum-known-found c = search laws
 
--- src/lib.rt:347:13
 enum-told : tie.Need-enum-told Inv-loop μ-loop
 enum-told c = search laws
 
--- src/lib.rt:347:13
 returns : tie.Need-returns Inv-loop μ-loop
 returns c = search laws
 
--- src/lib.rt:350:13
 returns-2 : tie.Need-returns-2 Inv-loop μ-loop
 returns-2 c = search laws
 
--- src/lib.rt:353:13
 returns-3 : tie.Need-returns-3 Inv-loop μ-loop
 returns-3 c = search laws
 
--- src/lib.rt:357:9
 sub-left : tie.Need-sub-left Inv-loop μ-loop
 sub-left c = search laws
 
--- src/lib.rt:344:5
 loop-less : tie.Need-loop-less Inv-loop μ-loop
 loop-less c = search laws
 
--- src/lib.rt:344:5
 loop-again : tie.Need-loop-again Inv-loop μ-loop
 loop-again c = search laws
 
--- src/lib.rt:338:1
 returns-4 : tie.Need-returns-4 Inv-loop μ-loop
 returns-4 c = search laws
 

@@ -1,30 +1,22 @@
 use Rattle.opening.proofs.Laws.{laws}
 use Rattle.opening.proofs.not_closed.Statement.{statement}
 use Rattle.opening.proofs.not_closed.Tie as tie
-use Rattle.opening.proofs.not_closed.Reads as reads
-use Rattle.opening.proofs.not_closed.Lts as lts
 
--- src/lib.rt:104:9
 returns : tie.Need-returns
 returns c = search laws
 
--- src/lib.rt:107:9
 returns-2 : tie.Need-returns-2
 returns-2 c = search laws
 
--- src/lib.rt:110:9
 returns-3 : tie.Need-returns-3
 returns-3 c = search laws
 
--- src/lib.rt:113:9
 returns-4 : tie.Need-returns-4
 returns-4 c = search laws
 
--- src/lib.rt:116:9
 returns-5 : tie.Need-returns-5
 returns-5 c = search laws
 
--- src/lib.rt:100:1
 returns-6 : tie.Need-returns-6
 returns-6 c = search laws
 

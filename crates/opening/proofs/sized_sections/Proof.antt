@@ -1,11 +1,8 @@
 use mathlib.Core.Path.{_≡_}
 use Rattle.opening.specs.Opened.{sectionsAt}
-use Rattle.opening.proofs.Laws.{laws}
+use Rattle.opening.proofs.Frames.{laws}
 use Rattle.opening.proofs.sized_sections.Statement.{statement}
 use Rattle.opening.proofs.sized_sections.Tie as tie
-use Rattle.opening.proofs.sized_sections.Reads as reads
-use Rattle.opening.proofs.sized_sections.Lts as lts
-use Rattle.opening.proofs.sized.Reads as sized-reads
 
 abbrev Inv-loop : tie.InvT-loop
 Inv-loop file at sections place₀ left₀ place left = sectionsAt file place left ≡ sectionsAt file at sections
@@ -13,39 +10,30 @@ Inv-loop file at sections place₀ left₀ place left = sectionsAt file place le
 abbrev μ-loop : tie.MeasureT-loop
 μ-loop file at sections place₀ left₀ place left = left
 
--- src/lib.rt:155:5
 loop-holds : tie.Need-loop-holds Inv-loop μ-loop
 loop-holds c = search laws
 
--- src/lib.rt:156:13
 sized-requires : tie.Need-sized-requires Inv-loop μ-loop
 sized-requires c κs = search laws
 
--- src/lib.rt:157:24
 enum-known-section : tie.Need-enum-known-section Inv-loop μ-loop
 enum-known-section c = search laws
 
--- src/lib.rt:158:13
 enum-told : tie.Need-enum-told Inv-loop μ-loop
 enum-told c = search laws
 
--- src/lib.rt:158:13
 returns : tie.Need-returns Inv-loop μ-loop
 returns c = search laws
 
--- src/lib.rt:161:9
 sub-left : tie.Need-sub-left Inv-loop μ-loop
 sub-left c = search laws
 
--- src/lib.rt:155:5
 loop-less : tie.Need-loop-less Inv-loop μ-loop
 loop-less c = search laws
 
--- src/lib.rt:155:5
 loop-again : tie.Need-loop-again Inv-loop μ-loop
 loop-again c = search laws
 
--- src/lib.rt:150:1
 returns-2 : tie.Need-returns-2 Inv-loop μ-loop
 returns-2 c = search laws
 
