@@ -1,5 +1,6 @@
 pub mod Examples
 pub mod Lists
+pub mod Outputs
 pub mod Readers
 pub mod Exact
 pub mod Walks

@@ -137,7 +137,7 @@ unfolding otherFrames otherWalk stopped
 frames-fewer f k index first left at entry last r all h p u q = rw (walk-stop left k (drop at f) (not-found f at k (sym p ∙ u)), lt-ltb 0 left h) at q
 
 -- one more frame, and the walk behind it
-walk-cons : (f : List ℕ) (k left at : ℕ) (x : Frame) (n : ℕ) → 0 < left → frame k (drop at f) ≡ good x n → walk left k (drop at f) ≡ longer x n (walk (left - 1) k (drop (at + n) f))
+pub walk-cons : (f : List ℕ) (k left at : ℕ) (x : Frame) (n : ℕ) → 0 < left → frame k (drop at f) ≡ good x n → walk left k (drop at f) ≡ longer x n (walk (left - 1) k (drop (at + n) f))
 walk-cons f k zero at x n h e = absurd (omega arith)
 walk-cons f k (suc left) at x n h e =
     let p : suc left - 1 ≡ left = omega arith in
@@ -292,7 +292,7 @@ index-count f h k start n b l m e p u = index-bad w f h start (walk-few f k star
         u (p ∙ eqb-true (readAt f (h .index) 4) (length (w .frames)) (t .0) ∙ c)
 
 -- the first frame's time stands behind its mark
-walk-first : (f : List ℕ) (k start most : ℕ) (x : Frame) (xs : List Frame) → walk most k (drop start f) .frames ≡ x ∷ xs → x .time ≡ readAt f (start + 4) 8
+pub walk-first : (f : List ℕ) (k start most : ℕ) (x : Frame) (xs : List Frame) → walk most k (drop start f) .frames ≡ x ∷ xs → x .time ≡ readAt f (start + 4) 8
 unfolding stopped longer
 walk-first f k start zero x xs e =
     let q : [] ≡ x ∷ xs = rw (walk-none k (drop start f)) at e in
@@ -316,7 +316,7 @@ follows-itself : (t : ℕ) → follows t t t ≡ true
 unfolding follows
 follows-itself t = rw (le-leb (rank t) (rank t) (omega arith), le-leb (rank t - rank t) longestSpan (omega arith))
 
-by-first : (fs : List Frame) (first start : ℕ) → ((x : Frame) (xs : List Frame) → fs ≡ x ∷ xs → x .time ≡ first) → (inOrder fs ≡ follow first first fs) × (entriesBytes (firstTime fs) start fs ≡ entriesBytes first start fs)
+pub by-first : (fs : List Frame) (first start : ℕ) → ((x : Frame) (xs : List Frame) → fs ≡ x ∷ xs → x .time ≡ first) → (inOrder fs ≡ follow first first fs) × (entriesBytes (firstTime fs) start fs ≡ entriesBytes first start fs)
 unfolding inOrder follow firstTime entriesBytes
 by-first [] first start h = (refl, refl)
 by-first (x ∷ xs) first start h =

@@ -89,7 +89,7 @@ read-of : {A : Type 0} (p : Parsed A) → isBad p ≡ false → (x : A) × (n : 
 read-of bad e = let z : _≡_ {A = ℕ} 0 1 = cc in absurd (omega arith)
 read-of (good x n) e = (x, n, refl)
 
-start-within : (f : List ℕ) → areBytes f ≡ true → badSystem f ≡ false → walkStart f ≤ length f
+pub start-within : (f : List ℕ) → areBytes f ≡ true → badSystem f ≡ false → walkStart f ≤ length f
 unfolding badSystem walkStart taken readSystem
 start-within f b e = go (read-of (readSystem f) (or-false (ltb (systemOffset f) (lastOffset 0 (definedIn f)) || ltb (lastOffset 0 (definedIn f) + 65535) (systemOffset f)) (isBad (readSystem f)) e .1))
   where

@@ -1,0 +1,6 @@
+pub mod Walks
+pub mod Tails
+pub mod Frames
+pub mod Order
+pub mod Laws
+pub mod Outcomes

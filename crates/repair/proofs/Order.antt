@@ -1,0 +1,93 @@
+-- The order of repair: 1 to 4, 16, and then the lines of the frames.
+-- Assumes nothing.
+use Prim.Native.Nat.{ℕ, zero, suc, _≤_}
+use native.Mathlib.Omega.{arith}
+use mathlib.Core.Path.{_≡_, refl, ap, sym, _∙_}
+use mathlib.Core.Bool.{Bool, true, false}
+use mathlib.Core.List.{List, []}
+use lib.ListN.{length, getD}
+use lib.Dec.{eqb}
+use borrow.Author.Tests.{ne-eqb}
+use mir.Syntax.{w8}
+use mir.Val.{Fits}
+use Rattle.number.proofs.Bytes.{slice-bytes}
+use Rattle.layout.specs.Opening.{definedIn, walkStart, walkOf, firstOf, frontLines, refusal}
+use Rattle.layout.specs.Recorder.{filled}
+use Rattle.layout.specs.Repair.{walked, keptLength, keptCount, tail, repairLines, repairRefusal, repairAnswer, repair}
+use Rattle.layout.proofs.Lines.{line-pass, line-holds, FrontPasses, front-pass}
+use Rattle.opening.specs.Opened.{frontHeld, frontBy, frontOf, frontRefusal, heldOf, openBy, openOf}
+use Rattle.opening.specs.declared.FrontHeld.{FrontHeld}
+use Rattle.opening.specs.declared.Front.{Front}
+use Rattle.opening.specs.declared.Front.the-variants as frontAs
+use Rattle.opening.specs.declared.Held.{Held}
+use Rattle.opening.specs.declared.Opening.{Opening}
+use Rattle.opening.specs.declared.Opening.the-variants as openingAs
+use Rattle.opening.proofs.Lines.{front-passes, first-append, start-within}
+use Rattle.repair.specs.Repaired.{made, answerOf, madeOf, repairOf, tailOf, walkLines, keeping, walkRepaired, framesRepaired}
+use Rattle.repair.specs.declared.Repaired.{Repaired}
+use Rattle.repair.specs.declared.Repaired.the-variants.{Refused}
+
+-- ── 16 ──
+
+pub opens-whole : (f : List ℕ) (r : Opening) (h : Held) → r ≡ openOf f → r ≡ openingAs.Opened h → true ≡ eqb (refusal f) 0
+unfolding openOf openBy
+opens-whole f r h p q = go (refusal f) (sym p ∙ q)
+  where
+    go : (n : ℕ) → openBy n (heldOf f) ≡ openingAs.Opened h → true ≡ eqb n 0
+    go zero e = refl
+    go (suc n) e = let z : _≡_ {A = ℕ} 0 1 = cc in absurd (omega arith)
+
+pub opens-not : (f : List ℕ) (r : Opening) (m : ℕ) → r ≡ openOf f → r ≡ openingAs.Refused m → false ≡ eqb (refusal f) 0
+unfolding openOf openBy
+opens-not f r m p q = go (refusal f) (sym p ∙ q)
+  where
+    go : (n : ℕ) → openBy n (heldOf f) ≡ openingAs.Refused m → false ≡ eqb n 0
+    go zero e = let z : _≡_ {A = ℕ} 0 1 = cc in absurd (omega arith)
+    go (suc n) e = sym (ne-eqb (suc n) 0 (λ q. omega arith))
+
+-- ── Each way out ──
+
+refused-made : (f out : List ℕ) (n : ℕ) → repairRefusal f (length out) ≡ suc n → made (Refused (suc n)) out ≡ repairOf f out
+unfolding repairOf repair madeOf repairAnswer answerOf filled
+refused-made f out n e = rw e
+
+pub repair-front : (f out : List ℕ) (r : Front) (n m : ℕ) → r ≡ frontOf f → r ≡ frontAs.Refused n → m ≡ frontRefusal r → made (Refused m) out ≡ repairOf f out
+unfolding frontOf frontBy repairRefusal repairLines
+repair-front f out r n m p q s = go (firstOf (frontLines f)) refl (sym p ∙ q)
+  where
+    go : (j : ℕ) → firstOf (frontLines f) ≡ j → frontBy j (frontHeld f) ≡ frontAs.Refused n → made (Refused m) out ≡ repairOf f out
+    go zero e g = let z : _≡_ {A = ℕ} 0 1 = cc in absurd (omega arith)
+    go (suc j) e g =
+        let k : n ≡ suc j = cc in
+        let l : m ≡ n = s ∙ ap frontRefusal q in
+        rw (l, k) (refused-made f out j (first-append (frontLines f) _ j e))
+
+module _ (f out : List ℕ) (r : Front) (held : FrontHeld) (p : r ≡ frontOf f) (q : r ≡ frontAs.Whole held) where
+  passes : FrontPasses f
+  passes = front-passes f held (sym p ∙ q) .0
+
+  held-is : held ≡ frontHeld f
+  held-is = front-passes f held (sym p ∙ q) .1
+
+  pub repair-whole : (b : Bool) → b ≡ eqb (refusal f) 0 → b ≡ true → made (Refused 16) out ≡ repairOf f out
+  unfolding repairRefusal repairLines
+  repair-whole b s t = refused-made f out 15 (front-pass f _ passes ∙ line-holds 16 _ _ (sym s ∙ t))
+
+  -- the lines of the frames are left
+  lines-are : eqb (refusal f) 0 ≡ false → repairRefusal f (length out) ≡ firstOf (walkLines (walked f) (walkStart f) (length out))
+  unfolding repairRefusal repairLines walkLines keptLength keptCount tail tailOf
+  lines-are e = front-pass f _ passes ∙ line-pass 16 _ _ e
+
+  frames-are : eqb (refusal f) 0 ≡ false → framesRepaired f (length (definedIn f)) (walkStart f) out ≡ repairOf f out
+  unfolding framesRepaired walkRepaired keeping tailOf repairOf repair walked walkOf keptLength keptCount tail
+  frames-are e = rw (lines-are e)
+
+  pub repair-behind : (b : Bool) (a : Repaired) (new : List ℕ) → b ≡ eqb (refusal f) 0 → b ≡ false → made a new ≡ framesRepaired f (held .sections) (held .start) out → made a new ≡ repairOf f out
+  unfolding frontHeld
+  repair-behind b a new s t e = rw held-is at e ∙ frames-are (sym s ∙ t)
+
+pub start-there : (f : List ℕ) (r : Front) (held : FrontHeld) → ((i : ℕ) → Fits w8 (getD f i 0)) → r ≡ frontOf f → r ≡ frontAs.Whole held → held .start ≤ length f
+unfolding frontHeld
+start-there f r held b p q = rw (held-is f [] r held p q) (start-within f (slice-bytes f b) (passes f [] r held p q .system))
+
+pub ruleset order = (opens-whole, opens-not, repair-front, repair-whole, repair-behind, start-there)

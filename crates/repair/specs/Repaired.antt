@@ -1,0 +1,101 @@
+-- What this crate's functions answer, by the layout's walk and its repair.
+use Prim.Native.Nat.{ℕ, zero, suc, _+_}
+use mathlib.Core.Bool.{not, cond}
+use mathlib.Core.List.{List, [], _∷_, _++_}
+use lib.ListN.{length, drop}
+use lib.Seq.{sets}
+use Rattle.number.specs.Number.{bytesOf, readAt}
+use Rattle.layout.specs.Recording.{mostFrames, follow, inOrder, entriesBytes, indexBytes, indexLength, tableBytes}
+use Rattle.layout.specs.Reading.{Walk, walk}
+use Rattle.layout.specs.Opening.{Line, line, firstOf}
+use Rattle.layout.specs.Recorder.{tooLong, noRoom, filled}
+use Rattle.layout.specs.Repair.{Repair, repairAnswer, repair}
+use Rattle.repair.specs.declared.Repaired.{Repaired}
+use Rattle.repair.specs.declared.Repaired.the-variants.{Kept, Refused}
+use Rattle.repair.specs.declared.Walked.{Walked}
+use Rattle.repair.specs.declared.Walked.the-variants.{InOrder, OutOfOrder}
+
+-- ── What repair hands back ──
+
+-- its answer, and what the lent output holds
+pub record Made : Type 0 where
+  pub answer : Repaired
+  pub out : List ℕ
+
+abbrev pub made : Repaired → List ℕ → Made
+made answer out = record { answer = answer; out = out }
+
+-- the kept length, the three header fields and the tail's length; or the refusal number
+unfoldable pub answerOf : (refused : ℕ) → Repair → Repaired
+answerOf zero r = Kept (r .kept) (r .count) (r .index) (r .user) (length (r .tail))
+answerOf (suc n) r = Refused (suc n)
+
+-- "An accepted call fills a lent output from its start and keeps the bytes after the answer"; a refused one has no tail
+unfoldable pub madeOf : (out : List ℕ) → Repair → Made
+madeOf out r = made (answerOf (r .refused) r) (filled out (r .tail))
+
+unfoldable pub repairOf : (f out : List ℕ) → Made
+repairOf f out = madeOf out (repair f (length out))
+
+-- ── The walk ──
+
+-- the frames of a walk from `place` on, behind `count` others of which the last has the time `last`: their number and their end, or that the times
+-- break the rule
+unfoldable pub walkedBehind : Walk → (first last count place : ℕ) → Walked
+walkedBehind w first last count place =
+    cond (follow first last (w .frames)) (InOrder (count + length (w .frames)) (place + w .bytes)) OutOfOrder
+
+unfoldable pub walkedFrom : List ℕ → (sections first left last count place : ℕ) → Walked
+walkedFrom f sections first left last count place = walkedBehind (walk left sections (drop place f)) first last count place
+
+-- all frames from the start of the walk on
+unfoldable pub walkedAll : Walk → (start : ℕ) → Walked
+walkedAll w start = cond (inOrder (w .frames)) (InOrder (length (w .frames)) (start + w .bytes)) OutOfOrder
+
+unfoldable pub walkedIn : List ℕ → (sections start : ℕ) → Walked
+walkedIn f sections start = walkedAll (walk mostFrames sections (drop start f)) start
+
+-- ── The tail ──
+
+-- the entries of at most `count` frames from a place on
+unfoldable pub entriesIn : List ℕ → (sections first count place : ℕ) → List ℕ
+entriesIn f sections first count place = entriesBytes first place (walk count sections (drop place f) .frames)
+
+-- their index, the first frame's time being read behind its mark
+unfoldable pub indexIn : List ℕ → (sections start count : ℕ) → List ℕ
+indexIn f sections start count = bytesOf 4 count ++ entriesIn f sections (readAt f (start + 4) 8) count start
+
+-- the output with that index at its start and an empty table behind it
+unfoldable pub tailed : List ℕ → (sections start count : ℕ) → (out : List ℕ) → List ℕ
+tailed f sections start count out = sets (sets out 0 (indexIn f sections start count)) (indexLength count) (tableBytes [])
+
+-- ── The frames' part of repair: 13, 15, 9 ──
+
+unfoldable pub tailOf : Walk → (start : ℕ) → List ℕ
+tailOf w start = indexBytes start (w .frames) ++ tableBytes []
+
+-- the lines behind 16, of a walk that starts there
+unfoldable pub walkLines : Walk → (start room : ℕ) → List Line
+walkLines w start room =
+    line 13 (not (inOrder (w .frames)))
+    ∷ line 15 (tooLong (start + w .bytes) (length (w .frames)))
+    ∷ line 9 (noRoom room (length (tailOf w start)))
+    ∷ []
+
+-- what is kept and what follows it, where no line holds
+unfoldable pub keeping : Walk → (start : ℕ) → Repair
+keeping w start =
+    record {
+      refused = 0;
+      kept = start + w .bytes;
+      count = length (w .frames);
+      index = start + w .bytes;
+      user = start + w .bytes + indexLength (length (w .frames));
+      tail = tailOf w start;
+    }
+
+unfoldable pub walkRepaired : Walk → (start : ℕ) → (out : List ℕ) → Made
+walkRepaired w start out = madeOf out (repairAnswer (firstOf (walkLines w start (length out))) (keeping w start))
+
+unfoldable pub framesRepaired : List ℕ → (sections start : ℕ) → (out : List ℕ) → Made
+framesRepaired f sections start out = walkRepaired (walk mostFrames sections (drop start f)) start out

@@ -1,0 +1,191 @@
+// Repair of a recording that was cut: its frames are walked, and the index and the empty user table that it lacks are written.
+// Nothing is written before all is accepted.
+use header::Header;
+use opening::FrameAt;
+use opening::Front;
+use opening::Opening;
+ghost use mathlib.Core.Path.{_≡_};
+ghost use mathlib.Core.List.{[]};
+ghost use Prim.Native.Nat.{_+_, _*_, _≤_};
+ghost use lib.ListN.{length};
+ghost use lib.Seq.{sets};
+ghost use Rattle.layout.specs.Recording.{entryBytes, tableBytes};
+ghost use Rattle.layout.specs.Repair.{whole};
+ghost use Rattle.repair.specs.Repaired.{walkedIn, entriesIn, indexIn, tailed, made, framesRepaired, repairOf};
+
+// The kept length, the three header fields, and the length of the tail, which stands at the start of the lent output; or the refusal number.
+pub enum Repaired {
+    Kept {
+        kept: usize,
+        count: usize,
+        index: usize,
+        user: usize,
+        tail: usize,
+    },
+    Refused(u8),
+}
+
+// What the walk found: how many frames there are and where the last one ends, or that their times break the rule.
+enum Walked {
+    InOrder { count: usize, end: usize },
+    OutOfOrder,
+}
+
+// "The walk takes whole frames one behind the other and stops at the first place without one, or after 1,000,000."
+// A time that breaks its rule settles the answer, so the walk goes no further then.
+fn walk(file: &[u8], sections: usize, start: usize) -> Walked
+    requires { ⌜ start ≤ length (now file) ⌝ }
+    ensures { λ r. ⌜ r ≡ walkedIn (now (file .entry)) sections start ⌝ }
+{
+    // the first frame's time stands behind its mark
+    let first = number::read(file, start + 4, 8);
+    let mut count = 0;
+    let mut place = start;
+    let mut last = first;
+    let mut left = Header::MOST_FRAMES;
+    while 0 < left {
+        let frame = opening::frame_at(file, place, sections);
+        let FrameAt::Whole {
+            next,
+            time,
+            exposure: _,
+        } = frame
+        else {
+            return Walked::InOrder { count, end: place };
+        };
+        if opening::follows_last(first, last, time) {} else {
+            return Walked::OutOfOrder;
+        }
+        count += 1;
+        place = next;
+        last = time;
+        left -= 1;
+    }
+    Walked::InOrder { count, end: place }
+}
+
+// An index entry: time since the first frame, offset, length.
+fn write_entry(out: &mut [u8], at: usize, first: u64, time: u64, offset: usize, size: usize)
+    requires { ⌜ at + 16 ≤ length (now out) ⌝ }
+    ensures { λ r. ⌜ now (out .exit) ≡ sets (now (out .entry)) at (entryBytes first time offset size) ⌝ }
+{
+    number::write(out, at, 4, opening::since(first, time));
+    number::write(out, at + 4, 8, offset as u64);
+    number::write(out, at + 12, 4, size as u64);
+}
+
+// The entries of the first `count` frames, behind the index's number of frames.
+fn write_entries(
+    file: &[u8],
+    sections: usize,
+    start: usize,
+    first: u64,
+    count: usize,
+    out: &mut [u8],
+)
+    requires { ⌜ 4 + 16 * count ≤ length (now out) ⌝ }
+    ensures { λ r. ⌜ now (out .exit) ≡ sets (now (out .entry)) 4 (entriesIn (now (file .entry)) sections first count start) ⌝ }
+{
+    let mut place = start;
+    let mut entry = 4;
+    let mut left = count;
+    while 0 < left {
+        let frame = opening::frame_at(file, place, sections);
+        let FrameAt::Whole {
+            next,
+            time,
+            exposure: _,
+        } = frame
+        else {
+            return;
+        };
+        write_entry(out, entry, first, time, place, next - place);
+        place = next;
+        entry += Header::INDEX_ENTRY;
+        left -= 1;
+    }
+}
+
+// The index of the first `count` frames, at the output's start.
+fn write_index(file: &[u8], sections: usize, start: usize, count: usize, out: &mut [u8])
+    requires { ⌜ (start ≤ length (now file)) × (4 + 16 * count ≤ length (now out)) ⌝ }
+    ensures { λ r. ⌜ now (out .exit) ≡ sets (now (out .entry)) 0 (indexIn (now (file .entry)) sections start count) ⌝ }
+{
+    let first = number::read(file, start + 4, 8);
+    number::write(out, 0, 4, count as u64);
+    write_entries(file, sections, start, first, count, out);
+}
+
+// "The user table is always written empty": its number of tags, and none.
+fn write_empty_table(out: &mut [u8], at: usize)
+    requires { ⌜ at + 4 ≤ length (now out) ⌝ }
+    ensures { λ r. ⌜ now (out .exit) ≡ sets (now (out .entry)) at (tableBytes []) ⌝ }
+{
+    number::write(out, at, 4, 0);
+}
+
+// "a tail: the index of the walked frames and an empty user table"
+fn write_tail(file: &[u8], sections: usize, start: usize, count: usize, out: &mut [u8])
+    requires { ⌜ (start ≤ length (now file)) × (4 + 16 * count + 4 ≤ length (now out)) ⌝ }
+    ensures { λ r. ⌜ now (out .exit) ≡ tailed (now (file .entry)) sections start count (now (out .entry)) ⌝ }
+{
+    write_index(file, sections, start, count, out);
+    write_empty_table(out, 4 + Header::INDEX_ENTRY * count);
+}
+
+// 13, 15, 9 of a file whose frames start there; and the tail, where none of them is given.
+fn repair_frames(file: &[u8], sections: usize, start: usize, out: &mut [u8]) -> Repaired
+    requires { ⌜ start ≤ length (now file) ⌝ }
+    ensures { λ r. ⌜ made r (now (out .exit)) ≡ framesRepaired (now (file .entry)) sections start (now (out .entry)) ⌝ }
+{
+    let walked = walk(file, sections, start);
+    let Walked::InOrder { count, end } = walked else {
+        return Repaired::Refused(13);
+    };
+    // the end alone is compared first, so that no sum passes a usize
+    if Header::LARGEST_USER_OFFSET < end {
+        return Repaired::Refused(15);
+    }
+    let index_length = 4 + Header::INDEX_ENTRY * count;
+    let user = end + index_length;
+    if Header::LARGEST_USER_OFFSET < user {
+        return Repaired::Refused(15);
+    }
+    let tail = index_length + 4;
+    if out.len() < tail {
+        return Repaired::Refused(9);
+    }
+    write_tail(file, sections, start, count, out);
+    Repaired::Kept {
+        kept: end,
+        count,
+        index: end,
+        user,
+        tail,
+    }
+}
+
+// 16: "repair of a file that opens"
+fn opens(file: &[u8]) -> bool
+    ensures { λ r. ⌜ r ≡ whole (now (file .entry)) ⌝ }
+{
+    let answer = opening::open(file);
+    let Opening::Opened(_) = answer else {
+        return false;
+    };
+    true
+}
+
+// "Repair: 1 to 4, 16, 13, 15, 9." The output is the tail, from its start; refused, it stays as it is.
+pub fn repair(file: &[u8], out: &mut [u8]) -> Repaired
+    ensures { λ r. ⌜ made r (now (out .exit)) ≡ repairOf (now (file .entry)) (now (out .entry)) ⌝ }
+{
+    let front = opening::open_front(file);
+    let Front::Whole(held) = front else {
+        return Repaired::Refused(opening::front_refusal(front));
+    };
+    if opens(file) {
+        return Repaired::Refused(16);
+    }
+    repair_frames(file, held.sections, held.start, out)
+}
