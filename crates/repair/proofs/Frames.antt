@@ -17,7 +17,7 @@ use Rattle.layout.specs.Recording.{inOrder, indexBytes, tableBytes}
 use Rattle.layout.specs.Reading.{Walk, walk}
 use Rattle.layout.specs.Opening.{line, firstOf}
 use Rattle.layout.specs.Recorder.{tooLong, noRoom, filled}
-use Rattle.layout.specs.Repair.{repairAnswer}
+use Rattle.layout.specs.Repair.{Repair, repairAnswer}
 use Rattle.layout.proofs.Lists.{bytes-drop}
 use Rattle.layout.proofs.Lines.{line-pass, line-holds}
 use Rattle.layout.proofs.Outputs.{sets-append, filled-is}
@@ -48,13 +48,18 @@ walked-ill w start e = go (inOrder (w .frames)) e
 
 -- ── Refused ──
 
-refused-made : (w : Walk) (start n : ℕ) (out : List ℕ) → firstOf (walkLines w start (length out)) ≡ suc n → made (Refused (suc n)) out ≡ walkRepaired w start out
-unfolding walkRepaired madeOf repairAnswer answerOf filled
-refused-made w start n out e = rw e
+-- a refused call answers its number and leaves the output
+pub refused-made : (out : List ℕ) (refused n : ℕ) (r : Repair) → refused ≡ suc n → made (Refused (suc n)) out ≡ madeOf out (repairAnswer refused r)
+unfolding madeOf repairAnswer answerOf filled
+refused-made out refused n r e = rw e
+
+refused-walk : (w : Walk) (start n : ℕ) (out : List ℕ) → firstOf (walkLines w start (length out)) ≡ suc n → made (Refused (suc n)) out ≡ walkRepaired w start out
+unfolding walkRepaired
+refused-walk w start n out e = refused-made out (firstOf (walkLines w start (length out))) n (keeping w start) e
 
 clock-made : (w : Walk) (start : ℕ) (out : List ℕ) → walkedAll w start ≡ OutOfOrder → made (Refused 13) out ≡ walkRepaired w start out
 unfolding walkLines
-clock-made w start out e = refused-made w start 12 out (line-holds 13 _ _ (walked-ill w start e))
+clock-made w start out e = refused-walk w start 12 out (line-holds 13 _ _ (walked-ill w start e))
 
 pub frames-clock : (f out : List ℕ) (k start : ℕ) (r : declared.Walked) → r ≡ walkedIn f k start → r ≡ OutOfOrder → made (Refused 13) out ≡ framesRepaired f k start out
 unfolding walkedIn framesRepaired
@@ -76,7 +81,7 @@ unfolding tooLong
 not-long end count h = le-ltb (2 ^ 40) (end + (4 + 16 * count) + 512004) (omega arith)
 
 long-made : (w : Walk) (start count end : ℕ) (out : List ℕ) → walkedAll w start ≡ InOrder count end → 1099511115772 < end + (4 + 16 * count) → made (Refused 15) out ≡ walkRepaired w start out
-long-made w start count end out e h = refused-made w start 14 out (pass-clock w start (length out) count end e ∙ line-holds 15 _ _ (is-long end count h))
+long-made w start count end out e h = refused-walk w start 14 out (pass-clock w start (length out) count end e ∙ line-holds 15 _ _ (is-long end count h))
 
 pub frames-far : (f out : List ℕ) (k start count end : ℕ) (r : declared.Walked) → r ≡ walkedIn f k start → r ≡ InOrder count end → 1099511115772 < end → made (Refused 15) out ≡ framesRepaired f k start out
 unfolding walkedIn framesRepaired
@@ -95,7 +100,7 @@ pass-long : (w : Walk) (start room count end : ℕ) → walkedAll w start ≡ In
 pass-long w start room count end e h = pass-clock w start room count end e ∙ line-pass 15 _ _ (not-long end count h) ∙ rw (length-tail w start count end e)
 
 room-made : (w : Walk) (start count end : ℕ) (out : List ℕ) → walkedAll w start ≡ InOrder count end → end + (4 + 16 * count) ≤ 1099511115772 → length out < 4 + 16 * count + 4 → made (Refused 9) out ≡ walkRepaired w start out
-room-made w start count end out e h l = refused-made w start 8 out (pass-long w start (length out) count end e h ∙ line-holds 9 _ _ (lt-ltb (length out) (4 + 16 * count + 4) l))
+room-made w start count end out e h l = refused-walk w start 8 out (pass-long w start (length out) count end e h ∙ line-holds 9 _ _ (lt-ltb (length out) (4 + 16 * count + 4) l))
 
 pub frames-room : (f out : List ℕ) (k start count end : ℕ) (r : declared.Walked) → r ≡ walkedIn f k start → r ≡ InOrder count end → end + (4 + 16 * count) ≤ 1099511115772 → length out < 4 + 16 * count + 4 → made (Refused 9) out ≡ framesRepaired f k start out
 unfolding walkedIn framesRepaired

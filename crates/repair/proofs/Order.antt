@@ -1,66 +1,55 @@
 -- The order of repair: 1 to 4, 16, and then the lines of the frames.
 -- Assumes nothing.
-use Prim.Native.Nat.{ℕ, zero, suc, _≤_}
+use Prim.Native.Nat.{ℕ, suc, _≤_}
 use native.Mathlib.Omega.{arith}
-use mathlib.Core.Path.{_≡_, refl, ap, sym, _∙_}
+use mathlib.Core.Path.{_≡_, ap, sym, _∙_}
 use mathlib.Core.Bool.{Bool, true, false}
 use mathlib.Core.List.{List, []}
 use lib.ListN.{length, getD}
 use lib.Dec.{eqb}
-use borrow.Author.Tests.{ne-eqb}
+use borrow.Author.Tests.{eq-eqb, ne-eqb}
 use mir.Syntax.{w8}
 use mir.Val.{Fits}
 use Rattle.number.proofs.Bytes.{slice-bytes}
 use Rattle.layout.specs.Opening.{definedIn, walkStart, walkOf, firstOf, frontLines, refusal}
-use Rattle.layout.specs.Recorder.{filled}
-use Rattle.layout.specs.Repair.{walked, keptLength, keptCount, tail, repairLines, repairRefusal, repairAnswer, repair}
+use Rattle.layout.specs.Repair.{walked, keptLength, keptCount, tail, repairLines, repairRefusal, repair}
 use Rattle.layout.proofs.Lines.{line-pass, line-holds, FrontPasses, front-pass}
-use Rattle.opening.specs.Opened.{frontHeld, frontBy, frontOf, frontRefusal, heldOf, openBy, openOf}
+use Rattle.opening.specs.Opened.{frontHeld, frontOf, frontRefusal, openOf}
 use Rattle.opening.specs.declared.FrontHeld.{FrontHeld}
 use Rattle.opening.specs.declared.Front.{Front}
 use Rattle.opening.specs.declared.Front.the-variants as frontAs
 use Rattle.opening.specs.declared.Held.{Held}
 use Rattle.opening.specs.declared.Opening.{Opening}
 use Rattle.opening.specs.declared.Opening.the-variants as openingAs
-use Rattle.opening.proofs.Lines.{front-passes, first-append, start-within}
-use Rattle.repair.specs.Repaired.{made, answerOf, madeOf, repairOf, tailOf, walkLines, keeping, walkRepaired, framesRepaired}
+use Rattle.opening.proofs.Lines.{front-passes, front-refuses, first-append, start-within, open-opens, open-refuses}
+use Rattle.repair.proofs.Frames.{refused-made}
+use Rattle.repair.specs.Repaired.{made, repairOf, tailOf, walkLines, keeping, walkRepaired, framesRepaired}
 use Rattle.repair.specs.declared.Repaired.{Repaired}
 use Rattle.repair.specs.declared.Repaired.the-variants.{Refused}
 
 -- ── 16 ──
 
 pub opens-whole : (f : List ℕ) (r : Opening) (h : Held) → r ≡ openOf f → r ≡ openingAs.Opened h → true ≡ eqb (refusal f) 0
-unfolding openOf openBy
-opens-whole f r h p q = go (refusal f) (sym p ∙ q)
-  where
-    go : (n : ℕ) → openBy n (heldOf f) ≡ openingAs.Opened h → true ≡ eqb n 0
-    go zero e = refl
-    go (suc n) e = let z : _≡_ {A = ℕ} 0 1 = cc in absurd (omega arith)
+opens-whole f r h p q = sym (eq-eqb (refusal f) 0 (open-opens f h (sym p ∙ q) .0))
 
-pub opens-not : (f : List ℕ) (r : Opening) (m : ℕ) → r ≡ openOf f → r ≡ openingAs.Refused m → false ≡ eqb (refusal f) 0
-unfolding openOf openBy
-opens-not f r m p q = go (refusal f) (sym p ∙ q)
+pub opens-not : (f : List ℕ) (r : Opening) (n : ℕ) → r ≡ openOf f → r ≡ openingAs.Refused n → false ≡ eqb (refusal f) 0
+opens-not f r n p q = go (open-refuses f n (sym p ∙ q))
   where
-    go : (n : ℕ) → openBy n (heldOf f) ≡ openingAs.Refused m → false ≡ eqb n 0
-    go zero e = let z : _≡_ {A = ℕ} 0 1 = cc in absurd (omega arith)
-    go (suc n) e = sym (ne-eqb (suc n) 0 (λ q. omega arith))
+    go : ((m : ℕ) × (n ≡ suc m) × (refusal f ≡ suc m)) → false ≡ eqb (refusal f) 0
+    go (m, k, e) = sym (ne-eqb (refusal f) 0 (λ z. omega arith))
 
 -- ── Each way out ──
 
-refused-made : (f out : List ℕ) (n : ℕ) → repairRefusal f (length out) ≡ suc n → made (Refused (suc n)) out ≡ repairOf f out
-unfolding repairOf repair madeOf repairAnswer answerOf filled
-refused-made f out n e = rw e
+refused-repair : (f out : List ℕ) (n : ℕ) → repairRefusal f (length out) ≡ suc n → made (Refused (suc n)) out ≡ repairOf f out
+unfolding repairOf repair
+refused-repair f out n e = refused-made out (repairRefusal f (length out)) n _ e
 
 pub repair-front : (f out : List ℕ) (r : Front) (n m : ℕ) → r ≡ frontOf f → r ≡ frontAs.Refused n → m ≡ frontRefusal r → made (Refused m) out ≡ repairOf f out
-unfolding frontOf frontBy repairRefusal repairLines
-repair-front f out r n m p q s = go (firstOf (frontLines f)) refl (sym p ∙ q)
+unfolding repairRefusal repairLines
+repair-front f out r n m p q s = go (front-refuses f n (sym p ∙ q)) (s ∙ ap frontRefusal q)
   where
-    go : (j : ℕ) → firstOf (frontLines f) ≡ j → frontBy j (frontHeld f) ≡ frontAs.Refused n → made (Refused m) out ≡ repairOf f out
-    go zero e g = let z : _≡_ {A = ℕ} 0 1 = cc in absurd (omega arith)
-    go (suc j) e g =
-        let k : n ≡ suc j = cc in
-        let l : m ≡ n = s ∙ ap frontRefusal q in
-        rw (l, k) (refused-made f out j (first-append (frontLines f) _ j e))
+    go : ((j : ℕ) × (n ≡ suc j) × (firstOf (frontLines f) ≡ suc j)) → m ≡ n → made (Refused m) out ≡ repairOf f out
+    go (j, k, e) l = rw (l, k) (refused-repair f out j (first-append (frontLines f) _ j e))
 
 module _ (f out : List ℕ) (r : Front) (held : FrontHeld) (p : r ≡ frontOf f) (q : r ≡ frontAs.Whole held) where
   passes : FrontPasses f
@@ -71,7 +60,7 @@ module _ (f out : List ℕ) (r : Front) (held : FrontHeld) (p : r ≡ frontOf f)
 
   pub repair-whole : (b : Bool) → b ≡ eqb (refusal f) 0 → b ≡ true → made (Refused 16) out ≡ repairOf f out
   unfolding repairRefusal repairLines
-  repair-whole b s t = refused-made f out 15 (front-pass f _ passes ∙ line-holds 16 _ _ (sym s ∙ t))
+  repair-whole b s t = refused-repair f out 15 (front-pass f _ passes ∙ line-holds 16 _ _ (sym s ∙ t))
 
   -- the lines of the frames are left
   lines-are : eqb (refusal f) 0 ≡ false → repairRefusal f (length out) ≡ firstOf (walkLines (walked f) (walkStart f) (length out))
