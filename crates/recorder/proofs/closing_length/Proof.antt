@@ -1,0 +1,15 @@
+use Rattle.recorder.proofs.Laws.{laws}
+use Rattle.recorder.proofs.closing_length.Statement.{statement}
+use Rattle.recorder.proofs.closing_length.Tie as tie
+
+returns : tie.Need-returns
+returns c = search laws
+
+returns-2 : tie.Need-returns-2
+returns-2 c = search laws
+
+returns-3 : tie.Need-returns-3
+returns-3 c = search laws
+
+pub closing-length-spec : {M : Type 1} → statement M
+closing-length-spec = tie.close (tie.spec returns returns-2 returns-3)
