@@ -136,7 +136,7 @@ pub section-short : (s : Section) → legalSection s ≡ true → length (s .con
 unfolding legalSection
 section-short s h = leb-true _ _ (both-true (legalSectionName (s .name)) (leb (length (s .configuration)) longestConfiguration) h .1)
 
-defined-legal : (at : ℕ) (ss : List Section) → every legalSection ss ≡ true → at + length (configurationsBytes ss) < 256 ^ 8 → every legalDefinition (definedAt at ss) ≡ true
+pub defined-legal : (at : ℕ) (ss : List Section) → every legalSection ss ≡ true → at + length (configurationsBytes ss) < 256 ^ 8 → every legalDefinition (definedAt at ss) ≡ true
 unfolding every definedAt legalDefinition
 defined-legal at [] h e = refl
 defined-legal at (s ∷ ss) h e =

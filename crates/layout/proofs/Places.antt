@@ -136,7 +136,7 @@ pub frame-stands : (r : Recording) (i : ℕ) → i < length (r .frames) → Stan
 unfolding frameStart frameOf
 frame-stands r i h = stands-one frameBytes (r .frames) i noFrame h (frames-stand r)
 
-length-head : (t e : ℕ) → length (frameHeadBytes t e) ≡ 16
+pub length-head : (t e : ℕ) → length (frameHeadBytes t e) ≡ 16
 unfolding frameHeadBytes
 length-head t e = simp (length-append, length-bytesOf)
 
@@ -154,7 +154,7 @@ every-one ok [] i d e h = absurd (omega arith)
 every-one ok (x ∷ xs) zero d e h = both-true (ok x) (every ok xs) e .0
 every-one ok (x ∷ xs) (suc i) d e h = every-one ok xs i d (both-true (ok x) (every ok xs) e .1) (omega arith)
 
-frame-sections : (k : ℕ) (x : Frame) → legalFrame k x ≡ true → length (x .sections) ≡ k
+pub frame-sections : (k : ℕ) (x : Frame) → legalFrame k x ≡ true → length (x .sections) ≡ k
 unfolding legalFrame
 frame-sections k x l =
     let times = leb (suc (x .time)) (2 ^ 64) && leb (suc (x .exposure)) (2 ^ 32) in

@@ -3,9 +3,16 @@ mod check;
 mod lend;
 mod print;
 mod reading_vectors;
+mod recorder_vectors;
 mod repair_vectors;
 
 use print::say;
+
+const ADD: u8 = b'a';
+
+const BEGIN: u8 = b'b';
+
+const CLOSE: u8 = b'c';
 
 const FRAME: u8 = b'f';
 
@@ -21,6 +28,7 @@ fn answer(kind: u8, fields: &[u8]) {
         OPEN => reading_vectors::open(fields),
         FRAME => reading_vectors::frame(fields),
         PART => reading_vectors::part(fields),
+        ADD | BEGIN | CLOSE => recorder_vectors::run(kind, fields),
         REPAIR => repair_vectors::repair(fields),
         _ => print::no_vector(),
     }

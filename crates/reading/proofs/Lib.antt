@@ -1,0 +1,6 @@
+pub mod Standing
+pub mod Opened
+pub mod Laws
+pub mod Held
+pub mod Answers
+pub mod Outcomes
