@@ -17,6 +17,7 @@ use Rattle.text.proofs.tag_name
 use Rattle.text.proofs.tag_value
 use Rattle.text.proofs.equal
 use Rattle.text.proofs.copy
+use Rattle.text.proofs.entry_end
 use Rattle.text.proofs.row_at
 use Rattle.text.proofs.row_start
 use Rattle.text.proofs.find_name
@@ -49,6 +50,9 @@ module _ {M : Type 1} (𝓤 : URA M) (H : Heap 𝓤) (A : Atoms 𝓤) (mem : Mem
 
   pub copy-one : Determines 𝓤 copy.ended (copy.clauses 𝓤 H A mem run)
   copy-one κs a g x y v w = agree 𝓤 (λ p q. (refl, λ i. (v .0, (v .1 .0, ((p ∙ sym q) i, v .1 .1 .1)))))
+
+  pub entry-end-one : Determines 𝓤 «entry_end».ended («entry_end».clauses 𝓤 H A mem run)
+  entry-end-one κs a g x y v w = agree 𝓤 (λ p q. (p ∙ sym q, refl))
 
   pub row-at-one : Determines 𝓤 «row_at».ended («row_at».clauses 𝓤 H A mem run)
   row-at-one κs a g x y v w = agree 𝓤 (λ p q. (p ∙ sym q, refl))

@@ -112,14 +112,14 @@ set-up-row =
     (λ t x n e. (x, e)) (λ s. s .name) (λ v x. refl)
 
 -- the value of an entry, or none, by its kind
-entryValue : ℕ → Reader (List ℕ)
+unfoldable pub entryValue : ℕ → Reader (List ℕ)
 entryValue kind = cond (eqb kind 1) string (give [])
 
 no-value : (kind m : ℕ) (t : List ℕ) → eqb kind 1 ≡ false → m ≡ 0 → (r : List ℕ) × (entryValue kind t ≡ good r m)
 unfolding entryValue give
 no-value kind m t e z = ([], rw (e, z))
 
-entry-leads : (kind m : ℕ) (t : List ℕ) (x : Entry) → entryOf kind t ≡ good x m → (r : List ℕ) × (entryValue kind t ≡ good r m)
+pub entry-leads : (kind m : ℕ) (t : List ℕ) (x : Entry) → entryOf kind t ≡ good x m → (r : List ℕ) × (entryValue kind t ≡ good r m)
 unfolding entryOf entryValue malformed give tagValue
 entry-leads kind m t x e = go (eqb kind 0) (eqb kind 1) refl refl e
   where
@@ -129,7 +129,7 @@ entry-leads kind m t x e = go (eqb kind 0) (eqb kind 1) refl refl e
     go false true p q h = give-parts tagValue holds t x m h (λ v i o. (v, rw q (only-parts legalTagValue string t v m i .0)))
     go false false p q h = let z : _≡_ {A = ℕ} 0 1 = cc in absurd (omega arith)
 
-seen-leads : (kind m : ℕ) (t : List ℕ) (x : Seen) → seenOf kind t ≡ good x m → (r : List ℕ) × (entryValue kind t ≡ good r m)
+pub seen-leads : (kind m : ℕ) (t : List ℕ) (x : Seen) → seenOf kind t ≡ good x m → (r : List ℕ) × (entryValue kind t ≡ good r m)
 unfolding seenOf give
 seen-leads kind m t x e = go (eqb kind 2) (eqb kind 1) refl refl e
   where
@@ -138,7 +138,7 @@ seen-leads kind m t x e = go (eqb kind 2) (eqb kind 1) refl refl e
     go true false p q h = no-value kind m t q cc
     go false b p q h = give-parts (entryOf kind) saw t x m h (λ en i o. entry-leads kind m t en i)
 
-kind-leads : {A : Type 0} (q : ℕ → Reader A) → ((kind m : ℕ) (t : List ℕ) (x : A) → q kind t ≡ good x m → (r : List ℕ) × (entryValue kind t ≡ good r m)) → (t : List ℕ) (x : A) (m : ℕ) → (number 1 then q) t ≡ good x m → (r : List ℕ) × (entry t ≡ good r m)
+pub kind-leads : {A : Type 0} (q : ℕ → Reader A) → ((kind m : ℕ) (t : List ℕ) (x : A) → q kind t ≡ good x m → (r : List ℕ) × (entryValue kind t ≡ good r m)) → (t : List ℕ) (x : A) (m : ℕ) → (number 1 then q) t ≡ good x m → (r : List ℕ) × (entry t ≡ good r m)
 unfolding entry entryValue
 kind-leads q leads t x m e =
     then-parts (number 1) q t x m e (λ kind n k f g h.

@@ -42,7 +42,7 @@ end-later f bad at n = refl
 end-later f (good y m) at n = ap place.End (omega arith)
 
 -- the second is read where the first ends
-then-end : {A B : Type 0} (p : Reader A) (q : A → Reader B) (s : List ℕ) (at : ℕ) (x : A) (n : ℕ) → p (drop at s) ≡ good x n → endOf at ((p then q) (drop at s)) ≡ endOf (at + n) (q x (drop (at + n) s))
+pub then-end : {A B : Type 0} (p : Reader A) (q : A → Reader B) (s : List ℕ) (at : ℕ) (x : A) (n : ℕ) → p (drop at s) ≡ good x n → endOf at ((p then q) (drop at s)) ≡ endOf (at + n) (q x (drop (at + n) s))
 then-end p q s at x n e = ap (endOf at) (then-good p q (drop at s) x n e) ∙ rw (drop-drop n at s) (end-later (λ y. y) (q x (drop (at + n) s)) at n)
 
 -- ── Numbers, blocks and short strings at a place ──
@@ -93,7 +93,7 @@ sized-whole s at n r l h e f =
     f ∙ sym (then-end (number 2) block s at n 2 (rw e (number-there 2 s at (omega arith) l h)))
 
 -- the kind of an entry, which is one byte
-entry-kind : (s : List ℕ) (at : ℕ) → at < length s → number 1 (drop at s) ≡ good (getD s at 0) 1
+pub entry-kind : (s : List ℕ) (at : ℕ) → at < length s → number 1 (drop at s) ≡ good (getD s at 0) 1
 unfolding number numberOf
 entry-kind s at h =
     let e : getD s at 0 + 256 * 0 ≡ getD s at 0 = omega arith in

@@ -238,7 +238,7 @@ fn sized_end(s: &[u8], at: usize) -> Place
 }
 
 // An entry of a change: its kind and, for kind 1, a value.
-fn entry_end(s: &[u8], at: usize) -> Place
+pub fn entry_end(s: &[u8], at: usize) -> Place
     ensures { λ r. ⌜ r ≡ endOf at (entry (drop at (now (s .entry)))) ⌝ }
 {
     if s.len() <= at {

@@ -1,0 +1,40 @@
+use Rattle.browser.proofs.Laws.{laws}
+use borrow.Author.Needs.{needs}
+use Rattle.browser.proofs.next_number.Statement.{statement}
+use Rattle.browser.proofs.next_number.Tie as tie
+use Rattle.browser.proofs.next_number.Reads as reads
+use Rattle.browser.proofs.next_number.Lts as lts
+use Rattle.browser.proofs.tags_of.Reads as tags-of-reads
+
+-- src/lib.rt:94:9
+tags-of-requires : tie.Need-tags-of-requires
+tags-of-requires c κs = search needs
+
+-- src/lib.rt:95:21
+enum-known-tags : tie.Need-enum-known-tags
+enum-known-tags c = search needs
+
+-- src/lib.rt:96:9
+enum-told : tie.Need-enum-told
+enum-told c = search needs
+
+-- src/lib.rt:96:9
+returns : tie.Need-returns
+returns c = search laws
+
+-- src/lib.rt:99:9
+add-result : tie.Need-add-result
+add-result c = search needs
+
+-- src/lib.rt:91:1
+returns-2 : tie.Need-returns-2
+returns-2 c = search laws
+
+-- src/lib.rt:91:1
+returns-3 : tie.Need-returns-3
+returns-3 c = search laws
+
+pub next-number-spec : {M : Type 1} → statement M
+next-number-spec =
+    tie.close
+    (tie.spec tags-of-requires enum-known-tags enum-told returns add-result returns-2 returns-3)

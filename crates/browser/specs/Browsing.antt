@@ -1,0 +1,27 @@
+-- What the browser answers, by the layout's browser.
+use Prim.Native.Nat.{ℕ}
+use mathlib.Core.List.{List}
+use lib.ListN.{length}
+use Rattle.layout.specs.Recording.{Tag}
+use Rattle.layout.specs.Reading.{Parsed, bad, good}
+use Rattle.layout.specs.Browser as layout
+use Rattle.text.specs.declared.TagFound.{TagFound}
+use Rattle.text.specs.declared.TagFound.the-variants as found
+use Rattle.browser.specs.declared.Tags.{Tags}
+use Rattle.browser.specs.declared.Tags.the-variants as tags
+use Rattle.browser.specs.declared.Browsed.{Browsed}
+use Rattle.browser.specs.declared.Browsed.the-variants as browsed
+
+unfoldable pub tagsOf : Parsed (List Tag) → Tags
+tagsOf bad = tags.Broken
+tagsOf (good ts n) = tags.Whole (length ts)
+
+unfoldable pub browsedTag : TagFound → Browsed
+browsedTag (found.At name nameLength value valueLength) = browsed.Tag name nameLength value valueLength
+browsedTag found.Nothing = browsed.End
+
+-- the layout's answer in the code's own enum
+unfoldable pub browsedAs : layout.Browsed → Browsed
+browsedAs (layout.tag name value) = browsed.Tag (name .start) (name .len) (value .start) (value .len)
+browsedAs layout.end = browsed.End
+browsedAs (layout.refused n) = browsed.Refused n

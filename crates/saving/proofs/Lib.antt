@@ -1,0 +1,9 @@
+pub mod Sheets
+pub mod Values
+pub mod Looks
+pub mod Parts
+pub mod Sizes
+pub mod Legal
+pub mod Applies
+pub mod Saves
+pub mod Outcomes

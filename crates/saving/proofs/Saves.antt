@@ -1,0 +1,205 @@
+-- The save's order: 1 to 7, 10, 11, 17, 9.
+-- Assumes nothing.
+use Prim.Native.Nat.{ℕ, zero, suc, _+_, _*_, _-_, _^_, _<_, _≤_}
+use native.Mathlib.Omega.{arith}
+use mathlib.Core.Path.{_≡_, refl, ap, sym, _∙_}
+use mathlib.Core.Bool.{Bool, true, false, cond}
+use mathlib.Core.List.{List, [], _∷_, _++_, append-nil}
+use lib.ListN.{length, take, drop}
+use lib.Dec.{ltb, leb, eqb}
+use borrow.Author.Needs.{needs}
+use borrow.Author.Tests.{leb-true, ne-eqb, le-ltb}
+use mir.Syntax.{w64}
+use mir.Val.{Fits}
+use Rattle.number.proofs.Bytes.{both-true}
+use Rattle.layout.specs.Recording.{Tag, mostTags, within, distinct, tagNames, tableBytes}
+use Rattle.layout.specs.Reading.{Parsed, bad, good, _then_, only, times, exactly, number, tag, table, isBad, valueOr}
+use Rattle.layout.specs.Opening.{Line, line, firstOf, frontLines, openingLines, refusal, shown, userOffset, readUser, badUser}
+use Rattle.layout.specs.Recorder.{filled, noRoom}
+use Rattle.layout.specs.Saving.{Change, change, changeNames, mostChanges, sheet, changesOf, someConflict, conflictPlace, applied, userTags, newTable, saveLines, saveRefusal, saveAnswer, save}
+use Rattle.layout.proofs.Readers.{exactly-good, number-good}
+use Rattle.layout.proofs.Lines.{line-pass, line-holds, opening-pass, opens-passes}
+use Rattle.layout.proofs.Orders.{without, lines-other}
+use Rattle.text.proofs.Readers.{then-parts, only-parts}
+use Rattle.text.proofs.Places.{table-read}
+use Rattle.text.proofs.Times.{times-length}
+use Rattle.opening.specs.Opened.{openOf, openRefusal, heldOf}
+use Rattle.opening.specs.declared.Held.{Held}
+use Rattle.opening.specs.declared.Opening.{Opening}
+use Rattle.opening.specs.declared.Opening.the-variants as openingAs
+use Rattle.opening.proofs.Lines.{open-opens, open-refuses}
+use Rattle.saving.specs.Sheet.{sheetOf}
+use Rattle.saving.specs.Rows.{tagsAt, changesAt, lookedAt}
+use Rattle.saving.specs.Save.{Outcome, outcome, appliedTo, appliedIn, appliedAt, savedBy, savedAs, saveOf}
+use Rattle.saving.specs.declared.Sheet.{Sheet}
+use Rattle.saving.specs.declared.Sheet.the-variants as sheet
+use Rattle.saving.specs.declared.Looked.{Looked}
+use Rattle.saving.specs.declared.Looked.the-variants as looked
+use Rattle.saving.specs.declared.Saved.{Saved}
+use Rattle.saving.specs.declared.Saved.the-variants as saved
+use Rattle.saving.proofs.Looks.{looked-is}
+use Rattle.saving.proofs.Legal.{tags-are, changes-are}
+
+-- ── A save's answer ──
+
+answer-refused : (n place : ℕ) (ts : List Tag) (out : List ℕ) → (n ≡ 0 → ⊥) → (n ≡ 11 → ⊥) → savedAs (saveAnswer n place ts) out ≡ outcome (saved.Refused n) out
+unfolding savedAs saveAnswer savedBy filled
+answer-refused zero place ts out z h = absurd (z refl)
+answer-refused (suc n) place ts out z h = rw (ne-eqb (suc n) 11 h)
+
+answer-conflict : (place : ℕ) (ts : List Tag) (out : List ℕ) → savedAs (saveAnswer 11 place ts) out ≡ outcome (saved.Conflict place) out
+unfolding savedAs saveAnswer savedBy filled
+answer-conflict place ts out = refl
+
+answer-table : (place : ℕ) (ts : List Tag) (out : List ℕ) → savedAs (saveAnswer 0 place ts) out ≡ outcome (saved.Table (length (tableBytes ts))) (filled out (tableBytes ts))
+unfolding savedAs saveAnswer savedBy
+answer-table place ts out = refl
+
+-- the answer goes by the first line that holds
+answer-by : (f bytes out : List ℕ) (r : ℕ) → saveRefusal f bytes (length out) ≡ r → saveOf f bytes out ≡ savedAs (saveAnswer r (conflictPlace (userTags f) (changesOf bytes)) (newTable f bytes)) out
+unfolding saveOf save
+answer-by f bytes out r e = ap (λ (z : ℕ). savedAs (saveAnswer z (conflictPlace (userTags f) (changesOf bytes)) (newTable f bytes)) out) e
+
+-- 17, 9, or the new table
+answer-applied : (place : ℕ) (ts : List Tag) (out : List ℕ) → savedAs (saveAnswer (firstOf (line 17 (ltb mostTags (length ts)) ∷ line 9 (noRoom (length out) (length (tableBytes ts))) ∷ [])) place ts) out ≡ appliedTo ts out
+unfolding appliedTo firstOf
+answer-applied place ts out = go (ltb mostTags (length ts)) (ltb (length out) (length (tableBytes ts)))
+  where
+    go : (a b : Bool) → savedAs (saveAnswer (firstOf (line 17 a ∷ line 9 b ∷ [])) place ts) out ≡ cond a (outcome (saved.Refused 17) out) (cond b (outcome (saved.Refused 9) out) (outcome (saved.Table (length (tableBytes ts))) (filled out (tableBytes ts))))
+    go true b = answer-refused 17 place ts out (λ z. omega arith) (λ z. omega arith)
+    go false true = answer-refused 9 place ts out (λ z. omega arith) (λ z. omega arith)
+    go false false = answer-table place ts out
+
+-- ── A file that does not open ──
+
+-- the first line that holds is the first of more
+first-stays : (ls ms : List Line) (n : ℕ) → firstOf ls ≡ suc n → firstOf (ls ++ ms) ≡ suc n
+unfolding firstOf
+first-stays [] ms n e = absurd (omega arith)
+first-stays (l ∷ ls) ms n e = go (l .holds) e (first-stays ls ms n)
+  where
+    go : (b : Bool) → elim b [ true ↦ l .number | false ↦ firstOf ls ] ≡ suc n → (firstOf ls ≡ suc n → firstOf (ls ++ ms) ≡ suc n) → elim b [ true ↦ l .number | false ↦ firstOf (ls ++ ms) ] ≡ suc n
+    go true h ih = h
+    go false h ih = ih h
+
+not-eleven : (f : List ℕ) → refusal f ≡ 11 → ⊥
+unfolding refusal openingLines frontLines without
+not-eleven f e =
+    let z = lines-other (openingLines f) [] 11 refl (ap firstOf (append-nil (openingLines f)) ∙ e) .0 in
+    let o : _≡_ {A = ℕ} 0 11 = sym z ∙ e in
+    omega arith
+
+pub save-refused : (f bytes out : List ℕ) (o : Opening) (n m : ℕ) → o ≡ openOf f → o ≡ openingAs.Refused n → m ≡ openRefusal o → outcome (saved.Refused m) out ≡ saveOf f bytes out
+unfolding saveRefusal saveLines refusal
+save-refused f bytes out o n m e g h =
+    let (j, a, b) = open-refuses f n (sym e ∙ g) in
+    let c : m ≡ suc j = h ∙ ap openRefusal g ∙ a in
+    sym (answer-by f bytes out (suc j) (first-stays (openingLines f) _ j b)
+    ∙ answer-refused (suc j) _ _ out (λ z. omega arith) (λ z. not-eleven f (b ∙ z))
+    ∙ ap (λ (z : ℕ). outcome (saved.Refused z) out) (sym c))
+
+-- ── The sheet ──
+
+sheet-read : (bytes : List ℕ) (cs : List Change) (m : ℕ) → exactly sheet bytes ≡ good cs m → (length cs ≤ 64) × (changesAt bytes 1 (length cs) ≡ cs)
+unfolding sheet
+sheet-read bytes cs m e =
+    then-parts (only (within 0 mostChanges) (number 1)) (λ n. times n change) bytes cs m (only-parts (λ ds. distinct (changeNames ds)) (only (within 0 mostChanges) (number 1) then λ n. times n change) bytes cs m (exactly-good (only (λ ds. distinct (changeNames ds)) (only (within 0 mostChanges) (number 1) then λ n. times n change)) bytes cs m e .0) .0) (λ c a k f g h.
+    let p = only-parts (within 0 mostChanges) (number 1) bytes c a f in
+    let l = leb-true c mostChanges (both-true (leb 0 c) (leb c mostChanges) (p .1) .1) in
+    let q : 1 ≡ a = number-good 1 bytes c a (p .0) .2 in
+    let o : length cs ≡ c = times-length change c (drop a bytes) cs k g in
+    (omega arith, rw o (changes-are bytes 1 c k cs (rw q g))))
+
+sheet-known : (bytes : List ℕ) (s : Sheet) (k : ℕ) → s ≡ sheetOf (exactly sheet bytes) → s ≡ sheet.Whole k → (isBad (exactly sheet bytes) ≡ false) × (k ≤ 64) × (changesAt bytes 1 k ≡ changesOf bytes)
+unfolding changesOf valueOr sheetOf
+sheet-known bytes s k e f = go (exactly sheet bytes) refl (sym e ∙ f)
+  where
+    go : (p : Parsed (List Change)) → exactly sheet bytes ≡ p → sheetOf p ≡ sheet.Whole k → (isBad p ≡ false) × (k ≤ 64) × (changesAt bytes 1 k ≡ valueOr [] p)
+    go bad g h = let z : _≡_ {A = ℕ} 0 1 = cc in absurd (omega arith)
+    go (good cs m) g h =
+        let (l, p) = sheet-read bytes cs m g in
+        let q : length cs ≡ k = cc in
+        (refl, omega arith, rw (← q) p)
+
+sheet-is-bad : (p : Parsed (List Change)) → sheetOf p ≡ sheet.Broken → isBad p ≡ true
+unfolding sheetOf
+sheet-is-bad bad e = refl
+sheet-is-bad (good cs n) e = let z : _≡_ {A = ℕ} 0 1 = cc in absurd (omega arith)
+
+-- what the look tells
+agree-none : (b : Bool) (p : ℕ) → cond b (looked.Conflict p) looked.Agrees ≡ looked.Agrees → b ≡ false
+agree-none true p e = let z : _≡_ {A = ℕ} 0 1 = cc in absurd (omega arith)
+agree-none false p e = refl
+
+conflict-some : (b : Bool) (p q : ℕ) → cond b (looked.Conflict p) looked.Agrees ≡ looked.Conflict q → (b ≡ true) × (p ≡ q)
+conflict-some true p q e = (refl, cc)
+conflict-some false p q e = let z : _≡_ {A = ℕ} 0 1 = cc in absurd (omega arith)
+
+-- ── A file that opens ──
+
+-- its user table
+user-table : (f : List ℕ) → refusal f ≡ 0 → (m : ℕ) × (table (drop (userOffset f) f) ≡ good (userTags f) m)
+unfolding userTags shown badUser readUser valueOr
+user-table f o = go (exactly table (drop (userOffset f) f)) refl (opens-passes f o .user)
+  where
+    go : (p : Parsed (List Tag)) → exactly table (drop (userOffset f) f) ≡ p → isBad p ≡ false → (m : ℕ) × (table (drop (userOffset f) f) ≡ good (valueOr [] p) m)
+    go bad e b = let z : _≡_ {A = ℕ} 0 1 = cc in absurd (omega arith)
+    go (good ts n) e b = (n, exactly-good table (drop (userOffset f) f) ts n e .0)
+
+table-few : (t : List ℕ) (ts : List Tag) (m : ℕ) → table t ≡ good ts m → length ts ≤ 1000
+unfolding table
+table-few t ts m e =
+    then-parts (only (within 0 mostTags) (number 4)) (λ n. times n tag) t ts m (only-parts (λ ts. distinct (tagNames ts)) (only (within 0 mostTags) (number 4) then λ n. times n tag) t ts m e .0) (λ c a k f g h.
+    let l = leb-true c mostTags (both-true (leb 0 c) (leb c mostTags) (only-parts (within 0 mostTags) (number 4) t c a f .1) .1) in
+    let o = times-length tag c (drop a t) ts k g in
+    omega arith)
+
+module _ (f : List ℕ) (o : Opening) (held : Held) (e : o ≡ openOf f) (g : o ≡ openingAs.Opened held) where
+  opens : (refusal f ≡ 0) × (held ≡ heldOf f)
+  opens = open-opens f held (sym e ∙ g)
+
+  tags-found : (held .user + 4 ≤ length f) × (held .«user_tags» ≤ 1000) × (tagsAt f (held .user + 4) (held .«user_tags») ≡ userTags f)
+  unfolding heldOf userTags
+  tags-found =
+      let (m, p) = user-table f (opens .0) in
+      let u : held .user ≡ userOffset f = ap (λ (z : Held). z .user) (opens .1) in
+      let n : held .«user_tags» ≡ length (userTags f) = ap (λ (z : Held). z .«user_tags») (opens .1) in
+      let l = table-few (drop (userOffset f) f) (userTags f) m p in
+      table-read f (userOffset f) m (userTags f) p (λ k a b c d.
+      (omega arith, omega arith, rw (u, n) (tags-are f (userOffset f + 4) (length (userTags f)) k (userTags f) c)))
+
+  pub user-fits : length f < 2 ^ 64 → Fits w64 (held .user + 4)
+  user-fits h = let l = tags-found .0 in record { fits = omega arith }
+
+  -- past the lines of opening
+  opened-lines : (bytes : List ℕ) (room : ℕ) → saveRefusal f bytes room ≡ firstOf (line 10 (isBad (exactly sheet bytes)) ∷ line 11 (someConflict (userTags f) (changesOf bytes)) ∷ line 17 (ltb mostTags (length (newTable f bytes))) ∷ line 9 (noRoom room (length (tableBytes (newTable f bytes)))) ∷ [])
+  unfolding saveRefusal saveLines
+  opened-lines bytes room = opening-pass f _ (opens-passes f (opens .0))
+
+  pub save-bad-sheet : (bytes out : List ℕ) (s : Sheet) → s ≡ sheetOf (exactly sheet bytes) → s ≡ sheet.Broken → outcome (saved.Refused 10) out ≡ saveOf f bytes out
+  save-bad-sheet bytes out s h i =
+      sym (answer-by f bytes out 10 (opened-lines bytes (length out) ∙ line-holds 10 _ _ (sheet-is-bad (exactly sheet bytes) (sym h ∙ i)))
+      ∙ answer-refused 10 _ _ out (λ z. omega arith) (λ z. omega arith))
+
+  module _ (bytes : List ℕ) (s : Sheet) (k : ℕ) (h : s ≡ sheetOf (exactly sheet bytes)) (i : s ≡ sheet.Whole k) where
+    look-is : lookedAt f (held .user + 4) (held .«user_tags») bytes k ≡ cond (someConflict (userTags f) (changesOf bytes)) (looked.Conflict (0 + conflictPlace (userTags f) (changesOf bytes))) looked.Agrees
+    unfolding lookedAt
+    look-is = rw (tags-found .2, sheet-known bytes s k h i .2) (looked-is (userTags f) (changesOf bytes) 0)
+
+    pub save-conflict : (out : List ℕ) (l : Looked) (p : ℕ) → l ≡ lookedAt f (held .user + 4) (held .«user_tags») bytes k → l ≡ looked.Conflict p → outcome (saved.Conflict p) out ≡ saveOf f bytes out
+    save-conflict out l p a b =
+        let (c, d) = conflict-some (someConflict (userTags f) (changesOf bytes)) _ p (sym look-is ∙ sym a ∙ b) in
+        let j : conflictPlace (userTags f) (changesOf bytes) ≡ p = omega arith in
+        sym (answer-by f bytes out 11 (opened-lines bytes (length out) ∙ line-pass 10 _ _ (sheet-known bytes s k h i .0) ∙ line-holds 11 _ _ c)
+        ∙ answer-conflict _ _ out ∙ ap (λ (z : ℕ). outcome (saved.Conflict z) out) j)
+
+    pub save-applied : (out o′ : List ℕ) (l : Looked) (r : Saved) → l ≡ lookedAt f (held .user + 4) (held .«user_tags») bytes k → l ≡ looked.Agrees → outcome r o′ ≡ appliedAt f (held .user + 4) (held .«user_tags») bytes k out → outcome r o′ ≡ saveOf f bytes out
+    unfolding appliedAt appliedIn newTable
+    save-applied out o′ l r a b c =
+        let d = agree-none (someConflict (userTags f) (changesOf bytes)) _ (sym look-is ∙ sym a ∙ b) in
+        c
+        ∙ rw (le-ltb mostTags (held .«user_tags») (tags-found .1), le-ltb mostChanges k (sheet-known bytes s k h i .1), tags-found .2, sheet-known bytes s k h i .2)
+        (sym (answer-by f bytes out _ (opened-lines bytes (length out) ∙ line-pass 10 _ _ (sheet-known bytes s k h i .0) ∙ line-pass 11 _ _ d)
+        ∙ answer-applied (conflictPlace (userTags f) (changesOf bytes)) (newTable f bytes) out))
+
+pub ruleset laws = (needs, save-refused, user-fits, save-bad-sheet, save-conflict, save-applied)

@@ -1,0 +1,53 @@
+use Rattle.saving.proofs.Parts.{laws}
+use borrow.Author.Needs.{needs}
+use Rattle.saving.proofs.changed_value.Statement.{statement}
+use Rattle.saving.proofs.changed_value.Tie as tie
+use Rattle.saving.proofs.changed_value.Reads as reads
+use Rattle.saving.proofs.changed_value.Lts as lts
+use Rattle.saving.proofs.new_value.Reads as new-value-reads
+use Rattle.text.proofs.row_at.Reads as row-at-reads
+
+-- src/lib.rt:290:9
+row-at-requires : tie.Need-row-at-requires
+row-at-requires c κs = search needs
+
+-- src/lib.rt:291:25
+enum-known-row : tie.Need-enum-known-row
+enum-known-row c = search needs
+
+-- src/lib.rt:292:9
+enum-told : tie.Need-enum-told
+enum-told c = search needs
+
+-- src/lib.rt:292:9
+returns : tie.Need-returns
+returns c = search laws
+
+-- src/lib.rt:294:22
+add-new-value : tie.Need-add-new-value
+add-new-value c = search laws
+
+-- src/lib.rt:294:22
+add-new-value-2 : tie.Need-add-new-value-2
+add-new-value-2 c = search laws
+
+-- src/lib.rt:294:5
+new-value-requires : tie.Need-new-value-requires
+new-value-requires c κs = search needs
+
+-- src/lib.rt:287:1
+returns-2 : tie.Need-returns-2
+returns-2 c = search laws
+
+pub changed-value-spec : {M : Type 1} → statement M
+changed-value-spec =
+    tie.close
+    (tie.spec
+    row-at-requires
+    enum-known-row
+    enum-told
+    returns
+    add-new-value
+    add-new-value-2
+    new-value-requires
+    returns-2)

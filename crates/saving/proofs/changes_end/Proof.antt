@@ -1,0 +1,69 @@
+use mathlib.Core.Path.{_≡_}
+use lib.ListN.{drop}
+use Rattle.layout.specs.Reading.{times}
+use Rattle.layout.specs.Saving.{change}
+use Rattle.text.specs.Rows.{endOf}
+use Rattle.saving.proofs.Sheets.{laws}
+use Rattle.saving.proofs.changes_end.Statement.{statement}
+use Rattle.saving.proofs.changes_end.Tie as tie
+use Rattle.saving.proofs.changes_end.Reads as reads
+use Rattle.saving.proofs.changes_end.Lts as lts
+use Rattle.saving.proofs.change_end.Reads as change-end-reads
+
+abbrev Inv-loop : tie.InvT-loop
+Inv-loop s at n place₀ left₀ place left = endOf place (times left change (drop place s)) ≡ endOf at (times n change (drop at s))
+
+abbrev μ-loop : tie.MeasureT-loop
+μ-loop s at n place₀ left₀ place left = left
+
+-- src/lib.rt:81:5
+loop-holds : tie.Need-loop-holds Inv-loop μ-loop
+loop-holds c = search laws
+
+-- src/lib.rt:82:13
+change-end-requires : tie.Need-change-end-requires Inv-loop μ-loop
+change-end-requires c κs = search laws
+
+-- src/lib.rt:83:24
+enum-known-found : tie.Need-enum-known-found Inv-loop μ-loop
+enum-known-found c = search laws
+
+-- src/lib.rt:84:13
+enum-told : tie.Need-enum-told Inv-loop μ-loop
+enum-told c = search laws
+
+-- src/lib.rt:84:13
+returns : tie.Need-returns Inv-loop μ-loop
+returns c = search laws
+
+-- src/lib.rt:87:9
+sub-left : tie.Need-sub-left Inv-loop μ-loop
+sub-left c = search laws
+
+-- src/lib.rt:81:5
+loop-less : tie.Need-loop-less Inv-loop μ-loop
+loop-less c = search laws
+
+-- src/lib.rt:81:5
+loop-again : tie.Need-loop-again Inv-loop μ-loop
+loop-again c = search laws
+
+-- src/lib.rt:76:1
+returns-2 : tie.Need-returns-2 Inv-loop μ-loop
+returns-2 c = search laws
+
+pub changes-end-spec : {M : Type 1} → statement M
+changes-end-spec =
+    tie.close
+    (tie.spec
+    Inv-loop
+    μ-loop
+    loop-holds
+    change-end-requires
+    enum-known-found
+    enum-told
+    returns
+    sub-left
+    loop-less
+    loop-again
+    returns-2)

@@ -1,0 +1,64 @@
+use Rattle.saving.proofs.Looks.{laws}
+use borrow.Author.Needs.{needs}
+use Rattle.saving.proofs.disagrees.Statement.{statement}
+use Rattle.saving.proofs.disagrees.Tie as tie
+use Rattle.saving.proofs.disagrees.Reads as reads
+use Rattle.saving.proofs.disagrees.Lts as lts
+use Rattle.saving.proofs.entry_value.Reads as entry-value-reads
+use Rattle.saving.proofs.look_up.Reads as look-up-reads
+use Rattle.saving.proofs.same_value.Reads as same-value-reads
+
+-- src/lib.rt:223:16
+add-seen : tie.Need-add-seen
+add-seen c = search needs
+
+-- src/lib.rt:223:16
+add-seen-2 : tie.Need-add-seen-2
+add-seen-2 c = search needs
+
+-- src/lib.rt:224:12
+shared-slice-read-if1 : tie.Need-shared-slice-read-if1
+shared-slice-read-if1 c = search needs
+
+-- src/lib.rt:225:9
+returns : tie.Need-returns
+returns c = search laws
+
+-- src/lib.rt:227:9
+entry-value-requires : tie.Need-entry-value-requires
+entry-value-requires c κs = search needs
+
+-- src/lib.rt:228:30
+add-look-up : tie.Need-add-look-up
+add-look-up c = search needs
+
+-- src/lib.rt:228:9
+look-up-requires : tie.Need-look-up-requires
+look-up-requires c κs = search needs
+
+-- src/lib.rt:229:8
+same-value-requires : tie.Need-same-value-requires
+same-value-requires c κs = search needs
+
+-- src/lib.rt:212:1
+returns-2 : tie.Need-returns-2
+returns-2 c = search laws
+
+-- src/lib.rt:212:1
+returns-3 : tie.Need-returns-3
+returns-3 c = search laws
+
+pub disagrees-spec : {M : Type 1} → statement M
+disagrees-spec =
+    tie.close
+    (tie.spec
+    add-seen
+    add-seen-2
+    shared-slice-read-if1
+    returns
+    entry-value-requires
+    add-look-up
+    look-up-requires
+    same-value-requires
+    returns-2
+    returns-3)

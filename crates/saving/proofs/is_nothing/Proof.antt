@@ -1,0 +1,25 @@
+use Rattle.saving.proofs.Looks.{laws}
+use borrow.Author.Needs.{needs}
+use Rattle.saving.proofs.is_nothing.Statement.{statement}
+use Rattle.saving.proofs.is_nothing.Tie as tie
+use Rattle.saving.proofs.is_nothing.Reads as reads
+use Rattle.saving.proofs.is_nothing.Lts as lts
+
+-- src/lib.rt:206:28
+enum-told : tie.Need-enum-told
+enum-told c = search needs
+
+-- src/lib.rt:207:27
+enum-told-2 : tie.Need-enum-told-2
+enum-told-2 c = search needs
+
+-- src/lib.rt:202:1
+returns : tie.Need-returns
+returns c = search laws
+
+-- src/lib.rt:202:1
+returns-2 : tie.Need-returns-2
+returns-2 c = search laws
+
+pub is-nothing-spec : {M : Type 1} → statement M
+is-nothing-spec = tie.close (tie.spec enum-told enum-told-2 returns returns-2)

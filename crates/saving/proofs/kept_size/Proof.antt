@@ -1,0 +1,95 @@
+use Prim.Native.Nat.{_+_, _*_, _≤_}
+use mathlib.Core.Path.{_≡_}
+use Rattle.saving.specs.Rows.{tagsAt, changesAt}
+use Rattle.saving.specs.Parts.{keptPart, sizeOf, plus}
+use Rattle.saving.proofs.Sizes.{laws}
+use Rattle.saving.proofs.kept_size.Statement.{statement}
+use Rattle.saving.proofs.kept_size.Tie as tie
+use Rattle.saving.proofs.kept_size.Reads as reads
+use Rattle.saving.proofs.kept_size.Lts as lts
+use Rattle.saving.proofs.kept_part.Reads as kept-part-reads
+use Rattle.saving.proofs.tags_in.Reads as tags-in-reads
+use Rattle.text.proofs.row_at.Reads as row-at-reads
+
+abbrev Inv-loop : tie.InvT-loop
+Inv-loop table at n sheet changes place₀ tags₀ bytes₀ left₀ place tags bytes left = (n ≤ 1000) × (tags + left ≤ n) × (bytes + 512 * left ≤ 512 * n) × (plus tags bytes (sizeOf (keptPart (changesAt sheet 1 changes)) (tagsAt table place left)) ≡ sizeOf (keptPart (changesAt sheet 1 changes)) (tagsAt table at n))
+
+abbrev μ-loop : tie.MeasureT-loop
+μ-loop table at n sheet changes place₀ tags₀ bytes₀ left₀ place tags bytes left = left
+
+-- src/lib.rt:358:5
+loop-holds : tie.Need-loop-holds Inv-loop μ-loop
+loop-holds c = search laws
+
+-- src/lib.rt:359:13
+row-at-requires : tie.Need-row-at-requires Inv-loop μ-loop
+row-at-requires c κs = search laws
+
+-- src/lib.rt:360:29
+enum-known-row : tie.Need-enum-known-row Inv-loop μ-loop
+enum-known-row c = search laws
+
+-- src/lib.rt:361:13
+enum-told : tie.Need-enum-told Inv-loop μ-loop
+enum-told c = search laws
+
+-- src/lib.rt:361:13
+returns : tie.Need-returns Inv-loop μ-loop
+returns c = search laws
+
+-- src/lib.rt:363:13
+kept-part-requires : tie.Need-kept-part-requires Inv-loop μ-loop
+kept-part-requires c κs = search laws
+
+-- src/lib.rt:364:20
+add-more : tie.Need-add-more Inv-loop μ-loop
+add-more c = search laws
+
+-- src/lib.rt:365:17
+tags-in-requires : tie.Need-tags-in-requires Inv-loop μ-loop
+tags-in-requires c κs = search laws
+
+-- src/lib.rt:365:9
+add-tags : tie.Need-add-tags Inv-loop μ-loop
+add-tags c = search laws
+
+-- src/lib.rt:366:9
+add-bytes : tie.Need-add-bytes Inv-loop μ-loop
+add-bytes c = search laws
+
+-- src/lib.rt:368:9
+sub-left : tie.Need-sub-left Inv-loop μ-loop
+sub-left c = search laws
+
+-- src/lib.rt:358:5
+loop-less : tie.Need-loop-less Inv-loop μ-loop
+loop-less c = search laws
+
+-- src/lib.rt:358:5
+loop-again : tie.Need-loop-again Inv-loop μ-loop
+loop-again c = search laws
+
+-- src/lib.rt:350:1
+returns-2 : tie.Need-returns-2 Inv-loop μ-loop
+returns-2 c = search laws
+
+pub kept-size-spec : {M : Type 1} → statement M
+kept-size-spec =
+    tie.close
+    (tie.spec
+    Inv-loop
+    μ-loop
+    loop-holds
+    row-at-requires
+    enum-known-row
+    enum-told
+    returns
+    kept-part-requires
+    add-more
+    tags-in-requires
+    add-tags
+    add-bytes
+    sub-left
+    loop-less
+    loop-again
+    returns-2)

@@ -1,0 +1,37 @@
+use Rattle.saving.proofs.Values.{laws}
+use borrow.Author.Needs.{needs}
+use Rattle.saving.proofs.new_value.Statement.{statement}
+use Rattle.saving.proofs.new_value.Tie as tie
+use Rattle.saving.proofs.new_value.Reads as reads
+use Rattle.saving.proofs.new_value.Lts as lts
+use Rattle.saving.proofs.entry_value.Reads as entry-value-reads
+use Rattle.text.proofs.entry_end.Reads as entry-end-reads
+
+-- src/lib.rt:155:9
+entry-end-requires : tie.Need-entry-end-requires
+entry-end-requires c κs = search needs
+
+-- src/lib.rt:156:20
+enum-known-end : tie.Need-enum-known-end
+enum-known-end c = search needs
+
+-- src/lib.rt:157:9
+enum-told : tie.Need-enum-told
+enum-told c = search needs
+
+-- src/lib.rt:157:9
+returns : tie.Need-returns
+returns c = search laws
+
+-- src/lib.rt:159:5
+entry-value-requires : tie.Need-entry-value-requires
+entry-value-requires c κs = search needs
+
+-- src/lib.rt:152:1
+returns-2 : tie.Need-returns-2
+returns-2 c = search laws
+
+pub new-value-spec : {M : Type 1} → statement M
+new-value-spec =
+    tie.close
+    (tie.spec entry-end-requires enum-known-end enum-told returns entry-value-requires returns-2)

@@ -1,0 +1,16 @@
+use Rattle.saving.proofs.Sizes.{laws}
+use Rattle.saving.proofs.tags_in.Statement.{statement}
+use Rattle.saving.proofs.tags_in.Tie as tie
+use Rattle.saving.proofs.tags_in.Reads as reads
+use Rattle.saving.proofs.tags_in.Lts as lts
+
+-- src/lib.rt:339:1
+returns : tie.Need-returns
+returns c = search laws
+
+-- src/lib.rt:339:1
+returns-2 : tie.Need-returns-2
+returns-2 c = search laws
+
+pub tags-in-spec : {M : Type 1} → statement M
+tags-in-spec = tie.close (tie.spec returns returns-2)

@@ -1,0 +1,100 @@
+use mathlib.Core.List.{flatMap}
+use Rattle.saving.specs.Rows.{tagsAt, changesAt}
+use Rattle.saving.specs.Parts.{keptPart, keptBytes}
+use Rattle.saving.proofs.Sizes.{Storing}
+use Rattle.saving.proofs.Sizes.{laws}
+use Rattle.saving.proofs.write_kept.Statement.{statement}
+use Rattle.saving.proofs.write_kept.Tie as tie
+use Rattle.saving.proofs.write_kept.Reads as reads
+use Rattle.saving.proofs.write_kept.Lts as lts
+use Rattle.saving.proofs.kept_part.Reads as kept-part-reads
+use Rattle.saving.proofs.put_part.Reads as put-part-reads
+use Rattle.text.proofs.row_at.Reads as row-at-reads
+
+abbrev Inv-loop : tie.InvT-loop
+Inv-loop table at n sheet changes out₀ start place₀ to₀ left₀ out place to left = Storing to (flatMap (keptPart (changesAt sheet 1 changes)) (tagsAt table place left)) out out₀ start (keptBytes table at n sheet changes)
+
+abbrev μ-loop : tie.MeasureT-loop
+μ-loop table at n sheet changes out₀ start place₀ to₀ left₀ out place to left = left
+
+-- src/lib.rt:429:5
+loop-holds : tie.Need-loop-holds Inv-loop μ-loop
+loop-holds c = search laws
+
+-- src/lib.rt:430:13
+row-at-requires : tie.Need-row-at-requires Inv-loop μ-loop
+row-at-requires c κs = search laws
+
+-- src/lib.rt:431:29
+enum-known-row : tie.Need-enum-known-row Inv-loop μ-loop
+enum-known-row c = search laws
+
+-- src/lib.rt:432:13
+enum-told : tie.Need-enum-told Inv-loop μ-loop
+enum-told c = search laws
+
+-- src/lib.rt:432:13
+same-length : tie.Need-same-length Inv-loop μ-loop
+same-length c = search laws
+
+-- src/lib.rt:432:13
+returns : tie.Need-returns Inv-loop μ-loop
+returns c = search laws
+
+-- src/lib.rt:434:13
+kept-part-requires : tie.Need-kept-part-requires Inv-loop μ-loop
+kept-part-requires c κs = search laws
+
+-- src/lib.rt:435:9
+put-part-requires : tie.Need-put-part-requires Inv-loop μ-loop
+put-part-requires c κs = search laws
+
+-- src/lib.rt:436:15
+add-to : tie.Need-add-to Inv-loop μ-loop
+add-to c = search laws
+
+-- src/lib.rt:436:9
+add-to-2 : tie.Need-add-to-2 Inv-loop μ-loop
+add-to-2 c = search laws
+
+-- src/lib.rt:438:9
+sub-left : tie.Need-sub-left Inv-loop μ-loop
+sub-left c = search laws
+
+-- src/lib.rt:429:5
+loop-less : tie.Need-loop-less Inv-loop μ-loop
+loop-less c = search laws
+
+-- src/lib.rt:429:5
+loop-again : tie.Need-loop-again Inv-loop μ-loop
+loop-again c = search laws
+
+-- src/lib.rt:414:1
+same-length-2 : tie.Need-same-length-2 Inv-loop μ-loop
+same-length-2 c = search laws
+
+-- src/lib.rt:414:1
+returns-2 : tie.Need-returns-2 Inv-loop μ-loop
+returns-2 c = search laws
+
+pub write-kept-spec : {M : Type 1} → statement M
+write-kept-spec =
+    tie.close
+    (tie.spec
+    Inv-loop
+    μ-loop
+    loop-holds
+    row-at-requires
+    enum-known-row
+    enum-told
+    same-length
+    returns
+    kept-part-requires
+    put-part-requires
+    add-to
+    add-to-2
+    sub-left
+    loop-less
+    loop-again
+    same-length-2
+    returns-2)

@@ -1,0 +1,33 @@
+use Rattle.saving.proofs.Applies.{laws}
+use borrow.Author.Needs.{needs}
+use Rattle.saving.proofs.write_table.Statement.{statement}
+use Rattle.saving.proofs.write_table.Tie as tie
+use Rattle.saving.proofs.write_table.Reads as reads
+use Rattle.saving.proofs.write_table.Lts as lts
+use Rattle.number.proofs.write.Reads as write-reads
+use Rattle.saving.proofs.write_kept.Reads as write-kept-reads
+use Rattle.saving.proofs.write_new.Reads as write-new-reads
+
+-- src/lib.rt:479:5
+write-requires : tie.Need-write-requires
+write-requires c κs = search needs
+
+-- src/lib.rt:480:9
+write-kept-requires : tie.Need-write-kept-requires
+write-kept-requires c κs = search needs
+
+-- src/lib.rt:481:5
+write-new-requires : tie.Need-write-new-requires
+write-new-requires c κs = search needs
+
+-- src/lib.rt:467:1
+same-length : tie.Need-same-length
+same-length c = search needs
+
+-- src/lib.rt:467:1
+returns : tie.Need-returns
+returns c = search laws
+
+pub write-table-spec : {M : Type 1} → statement M
+write-table-spec =
+    tie.close (tie.spec write-requires write-kept-requires write-new-requires same-length returns)

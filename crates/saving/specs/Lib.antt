@@ -1,0 +1,4 @@
+pub mod Sheet
+pub mod Rows
+pub mod Parts
+pub mod Save
