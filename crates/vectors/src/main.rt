@@ -5,6 +5,7 @@ mod print;
 mod reading_vectors;
 mod recorder_vectors;
 mod repair_vectors;
+mod tag_vectors;
 
 use print::say;
 
@@ -18,9 +19,15 @@ const FRAME: u8 = b'f';
 
 const OPEN: u8 = b'o';
 
+const NAMED: u8 = b'n';
+
 const PART: u8 = b'p';
 
 const REPAIR: u8 = b'r';
+
+const SAVE: u8 = b's';
+
+const TAG: u8 = b't';
 
 // The call that a vector holds, by its first byte.
 fn answer(kind: u8, fields: &[u8]) {
@@ -30,6 +37,9 @@ fn answer(kind: u8, fields: &[u8]) {
         PART => reading_vectors::part(fields),
         ADD | BEGIN | CLOSE => recorder_vectors::run(kind, fields),
         REPAIR => repair_vectors::repair(fields),
+        SAVE => tag_vectors::save(fields),
+        TAG => tag_vectors::browse(fields),
+        NAMED => tag_vectors::named(fields),
         _ => print::no_vector(),
     }
 }
