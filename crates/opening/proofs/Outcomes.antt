@@ -9,11 +9,7 @@ use prog.Memory.{Memory}
 use prog.Routine.{Routine}
 use prog.Wp.{Heap}
 use Rattle.outcome.specs.Outcome.{Determines, agree}
-use Rattle.opening.proofs.not_fstf
-use Rattle.opening.proofs.other_revision
 use Rattle.opening.proofs.definition_at
-use Rattle.opening.proofs.later_offsets
-use Rattle.opening.proofs.sections_in
 use Rattle.opening.proofs.open_front
 use Rattle.opening.proofs.front_refusal
 use Rattle.opening.proofs.sized
@@ -25,20 +21,8 @@ use Rattle.opening.proofs.open
 use Rattle.opening.proofs.open_refusal
 
 module _ {M : Type 1} (𝓤 : URA M) (H : Heap 𝓤) (A : Atoms 𝓤) (mem : Memory → SProp 𝓤) (run : Routine → Fun 𝓤) where
-  pub not-fstf-one : Determines 𝓤 «not_fstf».ended («not_fstf».clauses 𝓤 H A mem run)
-  not-fstf-one κs a g x y v w = agree 𝓤 (λ p q. (p ∙ sym q, refl))
-
-  pub other-revision-one : Determines 𝓤 «other_revision».ended («other_revision».clauses 𝓤 H A mem run)
-  other-revision-one κs a g x y v w = agree 𝓤 (λ p q. (p ∙ sym q, refl))
-
   pub definition-at-one : Determines 𝓤 «definition_at».ended («definition_at».clauses 𝓤 H A mem run)
   definition-at-one κs a g x y v w = agree 𝓤 (λ p q. (p ∙ sym q, refl))
-
-  pub later-offsets-one : Determines 𝓤 «later_offsets».ended («later_offsets».clauses 𝓤 H A mem run)
-  later-offsets-one κs a g x y v w = agree 𝓤 (λ p q. (p ∙ sym q, refl))
-
-  pub sections-in-one : Determines 𝓤 «sections_in».ended («sections_in».clauses 𝓤 H A mem run)
-  sections-in-one κs a g x y v w = agree 𝓤 (λ p q. (p ∙ sym q, refl))
 
   pub open-front-one : Determines 𝓤 «open_front».ended («open_front».clauses 𝓤 H A mem run)
   open-front-one κs a g x y v w = agree 𝓤 (λ p q. (p ∙ sym q, refl))

@@ -13,7 +13,7 @@ ghost use Rattle.layout.specs.Opening.{notFstf, otherRevision};
 ghost use Rattle.opening.specs.Opened.{notClosedBy, sizedAt, sectionsAt, frameAt, sinceFirst, otherEntry, otherFrames, badIndexBy, definitionAt, offsetsAt, sectionsOf, systemTable, frontOf, frontRefusal, openOf, openRefusal};
 
 // 1: "under 34 bytes, or the first four differ"
-pub fn not_fstf(file: &[u8]) -> bool
+fn not_fstf(file: &[u8]) -> bool
     ensures { λ r. ⌜ r ≡ notFstf (now (file .entry)) ⌝ }
 {
     if file.len() < Header::LENGTH + 1 {
@@ -26,7 +26,7 @@ pub fn not_fstf(file: &[u8]) -> bool
 }
 
 // 2: "not 1"
-pub fn other_revision(file: &[u8]) -> bool
+fn other_revision(file: &[u8]) -> bool
     ensures { λ r. ⌜ r ≡ otherRevision (now (file .entry)) ⌝ }
 {
     if number::read(file, Header::REVISION_PLACE, 1) == Header::REVISION {
@@ -67,7 +67,7 @@ pub enum Offsets {
 }
 
 // The definitions behind one whose configuration is at `offset`: none starts ahead of the one before it, or more than 65,535 bytes behind it.
-pub fn later_offsets(file: &[u8], at: usize, definitions: usize, offset: usize) -> Offsets
+fn later_offsets(file: &[u8], at: usize, definitions: usize, offset: usize) -> Offsets
     ensures { λ r. ⌜ r ≡ offsetsAt (now (file .entry)) at definitions offset ⌝ }
 {
     let mut place = at;
@@ -102,7 +102,7 @@ pub enum Sections {
 }
 
 // 3: "definitions or configuration offsets break the layout"
-pub fn sections_in(file: &[u8]) -> Sections
+fn sections_in(file: &[u8]) -> Sections
     ensures { λ r. ⌜ r ≡ sectionsOf (now (file .entry)) ⌝ }
 {
     if file.len() <= Header::LENGTH {

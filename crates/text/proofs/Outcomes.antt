@@ -9,8 +9,6 @@ use prog.Memory.{Memory}
 use prog.Routine.{Routine}
 use prog.Wp.{Heap}
 use Rattle.outcome.specs.Outcome.{Determines, agree}
-use Rattle.text.proofs.is_name_byte
-use Rattle.text.proofs.is_tag_byte
 use Rattle.text.proofs.string
 use Rattle.text.proofs.section_name
 use Rattle.text.proofs.tag_name
@@ -22,17 +20,10 @@ use Rattle.text.proofs.row_at
 use Rattle.text.proofs.row_start
 use Rattle.text.proofs.find_name
 use Rattle.text.proofs.distinct_names
-use Rattle.text.proofs.tag
 use Rattle.text.proofs.table
 use Rattle.text.proofs.tag_found
 
 module _ {M : Type 1} (𝓤 : URA M) (H : Heap 𝓤) (A : Atoms 𝓤) (mem : Memory → SProp 𝓤) (run : Routine → Fun 𝓤) where
-  pub is-name-byte-one : Determines 𝓤 «is_name_byte».ended («is_name_byte».clauses 𝓤 H A mem run)
-  is-name-byte-one κs a g x y v w = agree 𝓤 (λ p q. (p ∙ sym q, refl))
-
-  pub is-tag-byte-one : Determines 𝓤 «is_tag_byte».ended («is_tag_byte».clauses 𝓤 H A mem run)
-  is-tag-byte-one κs a g x y v w = agree 𝓤 (λ p q. (p ∙ sym q, refl))
-
   pub string-one : Determines 𝓤 string.ended (string.clauses 𝓤 H A mem run)
   string-one κs a g x y v w = agree 𝓤 (λ p q. (p ∙ sym q, refl))
 
@@ -65,9 +56,6 @@ module _ {M : Type 1} (𝓤 : URA M) (H : Heap 𝓤) (A : Atoms 𝓤) (mem : Mem
 
   pub distinct-names-one : Determines 𝓤 «distinct_names».ended («distinct_names».clauses 𝓤 H A mem run)
   distinct-names-one κs a g x y v w = agree 𝓤 (λ p q. (p ∙ sym q, refl))
-
-  pub tag-one : Determines 𝓤 tag.ended (tag.clauses 𝓤 H A mem run)
-  tag-one κs a g x y v w = agree 𝓤 (λ p q. (p ∙ sym q, refl))
 
   pub table-one : Determines 𝓤 table.ended (table.clauses 𝓤 H A mem run)
   table-one κs a g x y v w = agree 𝓤 (λ p q. (p ∙ sym q, refl))

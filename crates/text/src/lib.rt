@@ -22,7 +22,7 @@ enum Class {
 }
 
 // "each a digit, a capital or a small letter"
-pub fn is_name_byte(b: u8) -> bool
+fn is_name_byte(b: u8) -> bool
     ensures { λ r. ⌜ r ≡ isNameByte b ⌝ }
 {
     match b {
@@ -34,7 +34,7 @@ pub fn is_name_byte(b: u8) -> bool
 }
 
 // "Bytes 32 to 126 only"
-pub fn is_tag_byte(b: u8) -> bool
+fn is_tag_byte(b: u8) -> bool
     ensures { λ r. ⌜ r ≡ isTagByte b ⌝ }
 {
     match b {
@@ -386,7 +386,7 @@ pub enum TablePlace {
     Broken,
 }
 
-pub fn tag(s: &[u8], at: usize) -> TagPlace
+fn tag(s: &[u8], at: usize) -> TagPlace
     ensures { λ r. ⌜ r ≡ tagPlaceOf (tag (drop at (now (s .entry)))) ⌝ }
 {
     let name = tag_name(s, at);
