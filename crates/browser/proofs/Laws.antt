@@ -1,21 +1,21 @@
 -- What the functions of this crate leave to be shown, as laws about the definitions.
 -- Assumes nothing.
-use Prim.Native.Nat.{ℕ, zero, suc, _+_, _^_, _<_, _≤_}
+use Prim.Native.Nat.{ℕ, _+_, _<_, _≤_}
 use native.Mathlib.Omega.{arith}
 use mathlib.Core.Path.{_≡_, refl, ap, sym, _∙_}
 use mathlib.Core.Bool.{Bool, true, false, cond}
-use mathlib.Core.List.{List, [], _∷_}
-use lib.ListN.{length, take, drop, getD}
+use mathlib.Core.List.{List}
+use lib.ListN.{length, drop}
 use lib.Seq.{take-length}
 use lib.Dec.{ltb, eqb}
 use borrow.Author.Needs.{needs}
 use borrow.Author.Tests.{lt-ltb, le-ltb, ltb-true, ltb-false, eq-eqb, ne-eqb}
-use Rattle.layout.specs.Recording.{Tag, same, among, tagNames}
-use Rattle.layout.specs.Reading.{Parsed, bad, good, onward, exactly, times, tag, table}
-use Rattle.layout.specs.Items.{noTag, nameStart, valueStart}
+use Rattle.layout.specs.Recording.{Tag, among, tagNames}
+use Rattle.layout.specs.Reading.{Parsed, bad, good, onward, exactly, tag, table}
+use Rattle.layout.specs.Items.{noTag}
 use Rattle.layout.specs.Browser.{tagAt, browse, cursorAfter, numberOfTag, tagNamed}
 use Rattle.layout.specs.Browser as layout
-use Rattle.layout.proofs.Readers.{exactly-good, exactly-is}
+use Rattle.layout.proofs.Readers.{exactly-good}
 use Rattle.text.specs.Rows.{rowName, found, findName}
 use Rattle.text.specs.Table.{tablePlaceOf, tagFound}
 use Rattle.text.specs.declared.Row.the-variants as row

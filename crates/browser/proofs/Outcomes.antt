@@ -9,7 +9,6 @@ use prog.Memory.{Memory}
 use prog.Routine.{Routine}
 use prog.Wp.{Heap}
 use Rattle.outcome.specs.Outcome.{Determines, agree}
-use Rattle.browser.proofs.tags_of
 use Rattle.browser.proofs.tag_at
 use Rattle.browser.proofs.tag_named
 use Rattle.browser.proofs.next_number
@@ -18,9 +17,6 @@ use Rattle.browser.proofs.tag
 use Rattle.browser.proofs.rest
 
 module _ {M : Type 1} (𝓤 : URA M) (H : Heap 𝓤) (A : Atoms 𝓤) (mem : Memory → SProp 𝓤) (run : Routine → Fun 𝓤) where
-  pub tags-of-one : Determines 𝓤 «tags_of».ended («tags_of».clauses 𝓤 H A mem run)
-  tags-of-one κs a g x y v w = agree 𝓤 (λ p q. (p ∙ sym q, refl))
-
   pub tag-at-one : Determines 𝓤 «tag_at».ended («tag_at».clauses 𝓤 H A mem run)
   tag-at-one κs a g x y v w = agree 𝓤 (λ p q. (p ∙ sym q, refl))
 

@@ -1,5 +1,4 @@
 -- What the browser answers, by the layout's browser.
-use Prim.Native.Nat.{ℕ}
 use mathlib.Core.List.{List}
 use lib.ListN.{length}
 use Rattle.layout.specs.Recording.{Tag}

@@ -6,7 +6,6 @@ use text::TagFound;
 ghost use mathlib.Core.Path.{_≡_};
 ghost use Rattle.layout.specs.Reading.{exactly, table};
 ghost use Rattle.layout.specs.Browser.{browse, cursorAfter, tagNamed};
-ghost use Rattle.text.specs.Table.{tagFound};
 ghost use Rattle.browser.specs.Browsing.{tagsOf, browsedTag, browsedAs};
 
 // A tag by the places and lengths of its name and its value; the end; or the refusal.
@@ -22,12 +21,12 @@ pub enum Browsed {
 }
 
 // The number of tags of bytes that are exactly a legal table.
-pub enum Tags {
+enum Tags {
     Whole(usize),
     Broken,
 }
 
-pub fn tags_of(bytes: &[u8]) -> Tags
+fn tags_of(bytes: &[u8]) -> Tags
     ensures { λ r. ⌜ r ≡ tagsOf (exactly table (now (bytes .entry))) ⌝ }
 {
     let read = text::table(bytes, 0);

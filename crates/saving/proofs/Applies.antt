@@ -1,13 +1,12 @@
 -- The new table is what the layout says: its tags, its bytes, and that it fills the output from its start.
 -- Assumes nothing.
-use Prim.Native.Nat.{ℕ, zero, suc, _+_, _*_, _-_, _^_, _<_, _≤_}
+use Prim.Native.Nat.{ℕ, _+_, _<_, _≤_}
 use native.Mathlib.Omega.{arith}
 use mathlib.Core.Path.{_≡_, refl, ap, sym, _∙_}
 use mathlib.Core.Bool.{Bool, true, false, cond}
-use mathlib.Core.List.{List, [], _∷_, _++_, flatMap, append-assoc}
-use lib.ListN.{length, take, drop, length-append}
+use mathlib.Core.List.{List, [], _∷_, _++_, flatMap}
+use lib.ListN.{length, drop, length-append}
 use lib.Seq.{sets, length-sets, sets-eq}
-use lib.Dec.{ltb}
 use borrow.Author.Needs.{needs}
 use borrow.Author.Tests.{lt-ltb, le-ltb}
 use Rattle.number.specs.Number.{bytesOf, writeAt}
@@ -19,7 +18,7 @@ use Rattle.layout.proofs.Lists.{flatMap-append}
 use Rattle.text.proofs.Laws.{there}
 use Rattle.saving.specs.Rows.{tagsAt, changesAt}
 use Rattle.saving.specs.Parts.{keptPart, newPart, tagsIn, adding, sizeOf, keptBytes, newBytes, Written}
-use Rattle.saving.specs.Save.{Outcome, outcome, appliedTo, appliedIn, appliedAt}
+use Rattle.saving.specs.Save.{outcome, appliedTo, appliedIn, appliedAt}
 use Rattle.saving.specs.declared.Size.{Size}
 use Rattle.saving.specs.declared.Saved.{Saved}
 use Rattle.saving.specs.declared.Saved.the-variants as saved

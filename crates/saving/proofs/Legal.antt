@@ -1,23 +1,22 @@
 -- Legal tags and legal changes are rows, of which the length and kind bytes make the same tags and changes.
 -- Assumes nothing.
-use Prim.Native.Nat.{ℕ, zero, suc, _+_, _-_, _<_, _≤_}
+use Prim.Native.Nat.{ℕ, zero, suc, _+_, _≤_}
 use native.Mathlib.Omega.{arith}
 use mathlib.Core.Path.{_≡_, refl, ap, sym, _∙_}
 use mathlib.Core.Bool.{Bool, true, false, cond}
 use mathlib.Core.List.{List, [], _∷_}
-use lib.ListN.{length, take, drop, getD}
-use lib.Seq.{drop-drop, drop-cons}
-use lib.Dec.{eqb, ltb, leb}
-use borrow.Author.Tests.{eqb-true, eqb-false, lt-ltb, le-ltb, eq-eqb, ne-eqb, leb-true}
+use lib.ListN.{length, drop, getD}
+use lib.Dec.{eqb, ltb}
+use borrow.Author.Tests.{eqb-true, lt-ltb, le-ltb}
 use Rattle.number.specs.Number.{numberOf}
-use Rattle.layout.specs.Recording.{Tag, shortString, legalTagName, legalTagValue, within, distinct, tagNames, mostTags}
-use Rattle.layout.specs.Reading.{Parsed, Reader, bad, good, onward, _then_, only, give, times, exactly, number, string, tag, table, valueOr}
-use Rattle.layout.specs.Saving.{Entry, Seen, Change, absent, holds, saw, nobodyLooked, change, changeNames, entryOf, seenOf, tagValue, malformed, sheet, mostChanges}
-use Rattle.layout.proofs.Readers.{number-good, exactly-good}
+use Rattle.layout.specs.Recording.{Tag, shortString, legalTagName, legalTagValue}
+use Rattle.layout.specs.Reading.{Reader, good, onward, _then_, only, give, times, number, string, tag, valueOr}
+use Rattle.layout.specs.Saving.{Entry, Seen, Change, absent, holds, saw, nobodyLooked, change, entryOf, seenOf, tagValue, malformed}
+use Rattle.layout.proofs.Readers.{number-good}
 use Rattle.text.specs.Rows.{entry, rowName}
 use Rattle.text.specs.declared.Row.{Row}
 use Rattle.text.specs.declared.Row.the-variants as row
-use Rattle.text.proofs.Readers.{then-parts, give-parts, only-parts, tag-row, change-row, kind-leads, seen-leads, entry-leads}
+use Rattle.text.proofs.Readers.{then-parts, give-parts, only-parts, tag-row, change-row, kind-leads, seen-leads}
 use Rattle.text.proofs.Places.{string-taken}
 use Rattle.text.proofs.Times.{times-parts}
 use Rattle.saving.specs.Rows.{rows, rowWith, textEntry, textIn, entryIn, entryBehind, newIn, tagWithName, changeWithName, tagsAt, changesAt}
@@ -133,9 +132,7 @@ change-follows t x n e =
 -- ── A legal table and a sheet ──
 
 pub tags-are : (s : List ℕ) (at n m : ℕ) (ts : List Tag) → times n tag (drop at s) ≡ good ts m → tagsAt s at n ≡ ts
-unfolding tagsAt
 tags-are s at n m ts e = rows-times tag (rowWith row.Tag tagWithName) tag-follows n (drop at s) ts m e
 
 pub changes-are : (s : List ℕ) (at n m : ℕ) (cs : List Change) → times n change (drop at s) ≡ good cs m → changesAt s at n ≡ cs
-unfolding changesAt
 changes-are s at n m cs e = rows-times change (rowWith row.Change changeWithName) change-follows n (drop at s) cs m e

@@ -1,21 +1,20 @@
 -- The look: what a table has under a name, and whether what was seen agrees with it.
 -- Assumes nothing.
-use Prim.Native.Nat.{ℕ, zero, suc, _+_, _*_, _-_, _^_, _<_, _≤_}
+use Prim.Native.Nat.{ℕ, zero, suc, _+_, _-_, _^_, _<_, _≤_}
 use native.Mathlib.Omega.{arith}
 use mathlib.Core.Path.{_≡_, refl, ap, sym, _∙_}
 use mathlib.Core.Bool.{Bool, true, false, not, _||_, cond}
 use mathlib.Core.List.{List, [], _∷_}
 use lib.ListN.{length, take, drop, getD}
 use lib.Seq.{drop-drop}
-use lib.Dec.{eqb, ltb}
 use borrow.Author.Needs.{needs}
 use borrow.Author.Tests.{lt-ltb, le-ltb}
 use mir.Syntax.{w64}
 use mir.Val.{Fits}
-use Rattle.layout.specs.Recording.{Tag, same}
-use Rattle.layout.specs.Reading.{Parsed, Reader, bad, good, _then_, give, number, string}
-use Rattle.layout.specs.Saving.{Entry, Seen, Change, absent, holds, saw, nobodyLooked, lookUp, sameEntry, agrees, conflicts, someConflict, conflictPlace}
-use Rattle.text.specs.Text.{textOf, samePart}
+use Rattle.layout.specs.Recording.{Tag}
+use Rattle.layout.specs.Reading.{Reader, good, number, string}
+use Rattle.layout.specs.Saving.{Change, absent, holds, lookUp, sameEntry, agrees, conflicts, someConflict, conflictPlace}
+use Rattle.text.specs.Text.{samePart}
 use Rattle.text.specs.Rows.{entry, rest, rowName, rowOf, found, findName}
 use Rattle.text.specs.declared.Row.{Row}
 use Rattle.text.specs.declared.Row.the-variants as row
@@ -23,12 +22,11 @@ use Rattle.text.specs.declared.RowPlace.{RowPlace}
 use Rattle.text.specs.declared.RowPlace.the-variants as rowPlace
 use Rattle.text.specs.declared.Found.{Found}
 use Rattle.text.specs.declared.Found.the-variants as found
-use Rattle.text.proofs.Laws.{string-parts}
 use Rattle.text.proofs.Rows.{row-broken}
 use Rattle.text.proofs.Names.{find-there, name-other, name-same}
 use Rattle.text.proofs.Readers.{then-parts}
 use Rattle.text.proofs.Places.{number-parts}
-use Rattle.saving.specs.Rows.{rows, rowWith, entryIn, tagWithName, changeWithName, tagsAt, changesAt, valueIn, isNothing, Stands, Finds, made, tagHolds, lookedFrom, lookedAt}
+use Rattle.saving.specs.Rows.{rows, rowWith, entryIn, tagWithName, changeWithName, tagsAt, changesAt, valueIn, isNothing, Stands, Finds, tagHolds, lookedFrom, lookedAt}
 use Rattle.saving.specs.declared.Value.{Value}
 use Rattle.saving.specs.declared.Value.the-variants as value
 use Rattle.saving.specs.declared.Looked.{Looked}
@@ -38,7 +36,7 @@ use Rattle.saving.proofs.Values.{string-stands, first-byte, row-rest, r
 -- ── What a table has under a name ──
 
 lookUp-found : (name s : List ℕ) (n i at : ℕ) → lookUp name (tagsAt s at n) ≡ foundIn tagHolds (rowWith row.Tag tagWithName) absent s (found name n (rowName row.Tag) s i at)
-unfolding tagsAt lookUp tagWithName
+unfolding lookUp tagWithName
 lookUp-found name s n i at = by-found row.Tag tagWithName name (lookUp name) (λ t. holds (t .value)) absent absent refl (λ v t xs. refl) n s i at
 
 pub look-nothing : (a s : List ℕ) (here len at n : ℕ) (r : Found) → here + len ≤ length a → r ≡ findName a here len s at n row.Tag → r ≡ found.Nothing → Finds s value.Nothing (lookUp (take len (drop here a)) (tagsAt s at n))
@@ -140,15 +138,15 @@ unfolding lookedAt
 looked-start table sheet at n k = refl
 
 pub looked-done : (ts : List Tag) (s : List ℕ) (at left i : ℕ) (all : Looked) → left ≤ 0 → lookedFrom ts (changesAt s at left) i ≡ all → looked.Agrees ≡ all
-unfolding changesAt lookedFrom
+unfolding lookedFrom
 looked-done ts s at left i all h e = sym (rw (rows-done (rowWith row.Change changeWithName) s at left h)) ∙ e
 
 pub looked-stop : (ts : List Tag) (s : List ℕ) (at left i : ℕ) (r : RowPlace) (all : Looked) → r ≡ rowOf at (rowName row.Change (drop at s)) → r ≡ rowPlace.Broken → lookedFrom ts (changesAt s at left) i ≡ all → looked.Agrees ≡ all
-unfolding changesAt lookedFrom
+unfolding lookedFrom
 looked-stop ts s at left i r all f g e = sym (rw (rows-stop row.Change changeWithName s at left r f g)) ∙ e
 
 looked-one : (ts : List Tag) (s : List ℕ) (at left len end i : ℕ) (r : RowPlace) → 0 < left → r ≡ rowOf at (rowName row.Change (drop at s)) → r ≡ rowPlace.Whole len end → lookedFrom ts (changesAt s at left) i ≡ cond (conflicts ts (changeWithName (take len (drop (at + 1) s)) (drop (at + 1 + len) s))) (looked.Conflict i) (lookedFrom ts (changesAt s end (left - 1)) (i + 1))
-unfolding changesAt lookedFrom
+unfolding lookedFrom
 looked-one ts s at left len end i r h f g = rw (rows-step row.Change changeWithName s at left len end r h f g)
 
 pub looked-hit : (ts : List Tag) (s : List ℕ) (at left len end i : ℕ) (r : RowPlace) (d : Bool) (all : Looked) → 0 < left → r ≡ rowOf at (rowName row.Change (drop at s)) → r ≡ rowPlace.Whole len end → d ≡ conflicts ts (changeWithName (take len (drop (at + 1) s)) (drop (at + 1 + len) s)) → d ≡ true → lookedFrom ts (changesAt s at left) i ≡ all → looked.Conflict i ≡ all

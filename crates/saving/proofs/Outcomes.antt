@@ -9,16 +9,12 @@ use prog.Memory.{Memory}
 use prog.Routine.{Routine}
 use prog.Wp.{Heap}
 use Rattle.outcome.specs.Outcome.{Determines, agree}
-use Rattle.saving.proofs.change_end
 use Rattle.saving.proofs.changes_of
 use Rattle.saving.proofs.compare
 use Rattle.saving.proofs.apply
 use Rattle.saving.proofs.save
 
 module _ {M : Type 1} (𝓤 : URA M) (H : Heap 𝓤) (A : Atoms 𝓤) (mem : Memory → SProp 𝓤) (run : Routine → Fun 𝓤) where
-  pub change-end-one : Determines 𝓤 «change_end».ended («change_end».clauses 𝓤 H A mem run)
-  change-end-one κs a g x y v w = agree 𝓤 (λ p q. (p ∙ sym q, refl))
-
   pub changes-of-one : Determines 𝓤 «changes_of».ended («changes_of».clauses 𝓤 H A mem run)
   changes-of-one κs a g x y v w = agree 𝓤 (λ p q. (p ∙ sym q, refl))
 

@@ -1,23 +1,20 @@
 -- What a tag of the table and a change of the sheet add to the new table, and how much that is.
 -- Assumes nothing.
-use Prim.Native.Nat.{ℕ, zero, suc, _+_, _*_, _-_, _^_, _<_, _≤_}
+use Prim.Native.Nat.{ℕ, suc, _+_, _-_, _^_, _<_, _≤_}
 use native.Mathlib.Omega.{arith}
 use mathlib.Core.Path.{_≡_, refl, ap, sym, _∙_}
-use mathlib.Core.Bool.{Bool, true, false, not, _||_, cond}
-use mathlib.Core.List.{List, [], _∷_, _++_, map, flatMap, append-nil}
-use lib.ListN.{length, take, drop, getD, length-append, length-drop}
-use lib.Seq.{drop-drop, drop-cons, take-add, length-take-le}
-use lib.Dec.{eqb, ltb}
+use mathlib.Core.Bool.{Bool, true, false, _||_, cond}
+use mathlib.Core.List.{List, [], _++_, flatMap, append-nil}
+use lib.ListN.{length, take, drop, getD}
+use lib.Seq.{drop-drop, drop-cons, take-add}
 use borrow.Author.Needs.{needs}
-use borrow.Author.Tests.{lt-ltb, le-ltb}
 use mir.Syntax.{w8, w64}
 use mir.Val.{Fits}
 use Rattle.layout.specs.Recording.{Tag, same, among, tagNames, shortString, tagBytes}
-use Rattle.layout.specs.Reading.{Parsed, Reader, bad, good, _then_, give, string, valueOr}
+use Rattle.layout.specs.Reading.{Parsed, bad, good, _then_, give, string, valueOr}
 use Rattle.layout.specs.Saving.{Entry, Change, absent, holds, newEntry, tagWith}
 use Rattle.text.specs.Text.{textOf}
 use Rattle.text.specs.Rows.{rest, rowName, rowOf, found, findName}
-use Rattle.text.specs.declared.Text.{Text}
 use Rattle.text.specs.declared.Text.the-variants as text
 use Rattle.text.specs.declared.Row.{Row}
 use Rattle.text.specs.declared.Row.the-variants as row
@@ -30,14 +27,12 @@ use Rattle.text.proofs.Rows.{row-parts, row-broken}
 use Rattle.text.proofs.Names.{find-there}
 use Rattle.text.proofs.Readers.{then-parts, give-parts}
 use Rattle.text.proofs.Finding.{same-sym}
-use Rattle.saving.specs.Rows.{rows, rowWith, newIn, tagWithName, changeWithName, tagsAt, changesAt, valueIn, Stands, Finds, made, changeMakes}
-use Rattle.saving.specs.Parts.{keptPart, newPart, partWith, valueLength, Short, partBytes, Makes, tagsIn, adding, sizeOf, plus}
+use Rattle.saving.specs.Rows.{rowWith, newIn, tagWithName, changeWithName, tagsAt, changesAt, valueIn, Stands, Finds, made, changeMakes}
+use Rattle.saving.specs.Parts.{keptPart, newPart, partWith, valueLength, Short, partBytes, Makes}
 use Rattle.saving.specs.declared.Value.{Value}
 use Rattle.saving.specs.declared.Value.the-variants as value
 use Rattle.saving.specs.declared.Part.{Part}
-use Rattle.saving.specs.declared.Size.{Size}
 use Rattle.saving.proofs.Values.{string-stands, tag-row-parts, row-makes, row-makes-none, row-fits-1, row-fits-2, tag-row-value, foundIn, by-found}
-use Rattle.saving.proofs.Looks.{rows-done, rows-stop, rows-step}
 
 -- ── Short strings in their place ──
 
@@ -143,13 +138,13 @@ with-makes s t at len value.Nothing e w x h f =
 
 -- what a sheet says of the name of a tag
 newEntry-found : (s : List ℕ) (t : Tag) (k i at : ℕ) → newEntry (changesAt s at k) t ≡ foundIn changeMakes (rowWith row.Change changeWithName) (holds (t .value)) s (found (t .name) k (rowName row.Change) s i at)
-unfolding changesAt newEntry changeWithName
+unfolding newEntry changeWithName
 newEntry-found s t k i at =
     by-found row.Change changeWithName (t .name) (λ cs. newEntry cs t) (λ c. c .new) (holds (t .value)) absent refl (λ v u xs. rw (same-sym v (t .name))) k s i at
 
 -- whether a table has a name
 among-found : (name s : List ℕ) (n i at : ℕ) → among name (tagNames (tagsAt s at n)) ≡ foundIn (made (λ t. true) true) (rowWith row.Tag tagWithName) false s (found name n (rowName row.Tag) s i at)
-unfolding tagsAt among tagNames tagWithName
+unfolding among tagNames tagWithName
 among-found name s n i at =
     by-found row.Tag tagWithName name (λ ts. among name (tagNames ts)) (λ t. true) false true refl (λ v t xs. or-cond (same name v) (among name (tagNames xs))) n s i at
   where

@@ -1,12 +1,12 @@
 -- The save's order: 1 to 7, 10, 11, 17, 9.
 -- Assumes nothing.
-use Prim.Native.Nat.{ℕ, zero, suc, _+_, _*_, _-_, _^_, _<_, _≤_}
+use Prim.Native.Nat.{ℕ, zero, suc, _+_, _^_, _<_, _≤_}
 use native.Mathlib.Omega.{arith}
 use mathlib.Core.Path.{_≡_, refl, ap, sym, _∙_}
 use mathlib.Core.Bool.{Bool, true, false, cond}
 use mathlib.Core.List.{List, [], _∷_, _++_, append-nil}
-use lib.ListN.{length, take, drop}
-use lib.Dec.{ltb, leb, eqb}
+use lib.ListN.{length, drop}
+use lib.Dec.{ltb, leb}
 use borrow.Author.Needs.{needs}
 use borrow.Author.Tests.{leb-true, ne-eqb, le-ltb}
 use mir.Syntax.{w64}
@@ -16,7 +16,7 @@ use Rattle.layout.specs.Recording.{Tag, mostTags, within, distinct, tagNames, t
 use Rattle.layout.specs.Reading.{Parsed, bad, good, _then_, only, times, exactly, number, tag, table, isBad, valueOr}
 use Rattle.layout.specs.Opening.{Line, line, firstOf, frontLines, openingLines, refusal, shown, userOffset, readUser, badUser}
 use Rattle.layout.specs.Recorder.{filled, noRoom}
-use Rattle.layout.specs.Saving.{Change, change, changeNames, mostChanges, sheet, changesOf, someConflict, conflictPlace, applied, userTags, newTable, saveLines, saveRefusal, saveAnswer, save}
+use Rattle.layout.specs.Saving.{Change, change, changeNames, mostChanges, sheet, changesOf, someConflict, conflictPlace, userTags, newTable, saveLines, saveRefusal, saveAnswer, save}
 use Rattle.layout.proofs.Readers.{exactly-good, number-good}
 use Rattle.layout.proofs.Lines.{line-pass, line-holds, opening-pass, opens-passes}
 use Rattle.layout.proofs.Orders.{without, lines-other}
@@ -30,7 +30,7 @@ use Rattle.opening.specs.declared.Opening.the-variants as openingAs
 use Rattle.opening.proofs.Lines.{open-opens, open-refuses}
 use Rattle.saving.specs.Sheet.{sheetOf}
 use Rattle.saving.specs.Rows.{tagsAt, changesAt, lookedAt}
-use Rattle.saving.specs.Save.{Outcome, outcome, appliedTo, appliedIn, appliedAt, savedBy, savedAs, saveOf}
+use Rattle.saving.specs.Save.{outcome, appliedTo, appliedIn, appliedAt, savedBy, savedAs, saveOf}
 use Rattle.saving.specs.declared.Sheet.{Sheet}
 use Rattle.saving.specs.declared.Sheet.the-variants as sheet
 use Rattle.saving.specs.declared.Looked.{Looked}

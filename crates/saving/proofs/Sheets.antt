@@ -1,19 +1,18 @@
 -- A change and a sheet of changes are read as the layout says.
 -- Assumes nothing.
-use Prim.Native.Nat.{ℕ, zero, suc, _+_, _*_, _-_, _^_, _<_, _≤_}
+use Prim.Native.Nat.{ℕ, _+_, _-_, _<_, _≤_}
 use native.Mathlib.Omega.{arith}
 use mathlib.Core.Path.{_≡_, refl, ap, sym, _∙_}
 use mathlib.Core.Bool.{Bool, true, false, cond}
-use mathlib.Core.List.{List, [], _∷_}
+use mathlib.Core.List.{List}
 use lib.ListN.{length, take, drop, getD}
-use lib.Seq.{drop-drop}
-use lib.Dec.{eqb, leb}
+use lib.Dec.{eqb}
 use borrow.Author.Needs.{needs}
-use borrow.Author.Tests.{eq-eqb, ne-eqb}
+use borrow.Author.Tests.{ne-eqb}
 use Rattle.number.specs.Number.{readAt}
 use Rattle.layout.specs.Recording.{within, distinct, legalTagName, legalTagValue}
 use Rattle.layout.specs.Reading.{Parsed, Reader, bad, good, onward, _then_, only, give, times, exactly, number, string}
-use Rattle.layout.specs.Saving.{Entry, Seen, Change, absent, holds, saw, nobodyLooked, entryOf, seenOf, tagValue, malformed, change, changeNames, mostChanges, sheet}
+use Rattle.layout.specs.Saving.{Seen, Change, holds, saw, entryOf, seenOf, tagValue, malformed, change, changeNames, mostChanges, sheet}
 use Rattle.text.specs.Text.{textOf}
 use Rattle.text.specs.Rows.{endOf, distinctNames}
 use Rattle.text.specs.declared.Text.{Text}

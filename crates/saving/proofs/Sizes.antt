@@ -1,27 +1,24 @@
 -- How much the new table takes, and that it is stored part by part.
 -- Assumes nothing.
-use Prim.Native.Nat.{ℕ, zero, suc, _+_, _*_, _-_, _^_, _<_, _≤_}
+use Prim.Native.Nat.{ℕ, suc, _+_, _-_, _^_, _<_, _≤_}
 use native.Mathlib.Omega.{arith}
 use mathlib.Core.Path.{_≡_, refl, ap, sym, _∙_}
-use mathlib.Core.Bool.{Bool, true, false, cond}
 use mathlib.Core.List.{List, [], _∷_, _++_, flatMap}
-use lib.ListN.{length, take, drop, getD, length-append, length-drop, set}
+use lib.ListN.{length, take, drop, length-append, length-drop, set}
 use lib.Seq.{length-take-le, sets, length-sets}
-use lib.Dec.{ltb}
 use borrow.Author.Needs.{needs}
 use borrow.Author.Tests.{lt-ltb, le-ltb}
 use mir.Syntax.{w64}
 use mir.Val.{Fits}
-use Rattle.layout.specs.Recording.{Tag}
-use Rattle.layout.specs.Saving.{Change}
 use Rattle.text.specs.Text.{copied}
 use Rattle.text.specs.Rows.{rowName, rowOf}
 use Rattle.text.specs.declared.Row.{Row}
-use Rattle.text.specs.declared.Row.the-variants as row
 use Rattle.text.specs.declared.RowPlace.{RowPlace}
 use Rattle.text.specs.declared.RowPlace.the-variants as rowPlace
 use Rattle.text.proofs.Laws.{copied-there}
-use Rattle.saving.specs.Rows.{rowWith, tagWithName, changeWithName, tagsAt, changesAt}
+use Rattle.layout.specs.Reading.{Reader}
+use Rattle.layout.proofs.Outputs
+use Rattle.saving.specs.Rows.{rows, rowWith, tagsAt, changesAt}
 use Rattle.saving.specs.Parts.{keptPart, newPart, partBytes, Makes, tagsIn, adding, sizeOf, plus, keptBytes, newBytes, Written}
 use Rattle.saving.specs.declared.Part.{Part}
 use Rattle.saving.specs.declared.Size.{Size}
@@ -71,38 +68,21 @@ pub tags-one : (n : ℕ) → 0 < n → 1 ≡ tagsIn n
 unfolding tagsIn
 tags-one n h = rw (lt-ltb 0 n h)
 
--- of the tags that are kept
-pub kept-size-done : (part : Tag → List ℕ) (s : List ℕ) (at left a b : ℕ) (all : Size) → left ≤ 0 → plus a b (sizeOf part (tagsAt s at left)) ≡ all → record { tags = a; bytes = b } ≡ all
-unfolding tagsAt
-kept-size-done part s at left a b all h e = size-end part a b _ all (rows-done (rowWith row.Tag tagWithName) s at left h) e
+-- of rows, one by one
+pub size-done : {A : Type 0} (p : Reader A) (part : A → List ℕ) (s : List ℕ) (at left a b : ℕ) (all : Size) → left ≤ 0 → plus a b (sizeOf part (rows left p (drop at s))) ≡ all → record { tags = a; bytes = b } ≡ all
+size-done p part s at left a b all h e = size-end part a b _ all (rows-done p s at left h) e
 
-pub kept-size-stop : (part : Tag → List ℕ) (s : List ℕ) (at left a b : ℕ) (r : RowPlace) (all : Size) → r ≡ rowOf at (rowName row.Tag (drop at s)) → r ≡ rowPlace.Broken → plus a b (sizeOf part (tagsAt s at left)) ≡ all → record { tags = a; bytes = b } ≡ all
-unfolding tagsAt
-kept-size-stop part s at left a b r all f g e = size-end part a b _ all (rows-stop row.Tag tagWithName s at left r f g) e
+pub size-stop : {A : Type 0} (k : Row) (make : List ℕ → List ℕ → A) (part : A → List ℕ) (s : List ℕ) (at left a b : ℕ) (r : RowPlace) (all : Size) → r ≡ rowOf at (rowName k (drop at s)) → r ≡ rowPlace.Broken → plus a b (sizeOf part (rows left (rowWith k make) (drop at s))) ≡ all → record { tags = a; bytes = b } ≡ all
+size-stop k make part s at left a b r all f g e = size-end part a b _ all (rows-stop k make s at left r f g) e
 
-pub kept-size-step : (part : Tag → List ℕ) (s t : List ℕ) (at left len end a b d : ℕ) (r : RowPlace) (p : Part) (all : Size) → 0 < left → r ≡ rowOf at (rowName row.Tag (drop at s)) → r ≡ rowPlace.Whole len end → Makes s at t p (part (tagWithName (take len (drop (at + 1) s)) (drop (at + 1 + len) s))) → d ≡ tagsIn (p .first + p .second) → plus a b (sizeOf part (tagsAt s at left)) ≡ all → plus (a + d) (b + (p .first + p .second)) (sizeOf part (tagsAt s end (left - 1))) ≡ all
-unfolding tagsAt
-kept-size-step part s t at left len end a b d r p all h f g m e i = size-more part a b d _ _ _ s t at p all (rows-step row.Tag tagWithName s at left len end r h f g) m e i
-
--- of the changes that are new
-pub new-size-done : (part : Change → List ℕ) (s : List ℕ) (at left a b : ℕ) (all : Size) → left ≤ 0 → plus a b (sizeOf part (changesAt s at left)) ≡ all → record { tags = a; bytes = b } ≡ all
-unfolding changesAt
-new-size-done part s at left a b all h e = size-end part a b _ all (rows-done (rowWith row.Change changeWithName) s at left h) e
-
-pub new-size-stop : (part : Change → List ℕ) (s : List ℕ) (at left a b : ℕ) (r : RowPlace) (all : Size) → r ≡ rowOf at (rowName row.Change (drop at s)) → r ≡ rowPlace.Broken → plus a b (sizeOf part (changesAt s at left)) ≡ all → record { tags = a; bytes = b } ≡ all
-unfolding changesAt
-new-size-stop part s at left a b r all f g e = size-end part a b _ all (rows-stop row.Change changeWithName s at left r f g) e
-
-pub new-size-step : (part : Change → List ℕ) (s t : List ℕ) (at left len end a b d : ℕ) (r : RowPlace) (p : Part) (all : Size) → 0 < left → r ≡ rowOf at (rowName row.Change (drop at s)) → r ≡ rowPlace.Whole len end → Makes s at t p (part (changeWithName (take len (drop (at + 1) s)) (drop (at + 1 + len) s))) → d ≡ tagsIn (p .first + p .second) → plus a b (sizeOf part (changesAt s at left)) ≡ all → plus (a + d) (b + (p .first + p .second)) (sizeOf part (changesAt s end (left - 1))) ≡ all
-unfolding changesAt
-new-size-step part s t at left len end a b d r p all h f g m e i = size-more part a b d _ _ _ s t at p all (rows-step row.Change changeWithName s at left len end r h f g) m e i
+pub size-step : {A : Type 0} (k : Row) (make : List ℕ → List ℕ → A) (part : A → List ℕ) (s t : List ℕ) (at left len end a b d : ℕ) (r : RowPlace) (p : Part) (all : Size) → 0 < left → r ≡ rowOf at (rowName k (drop at s)) → r ≡ rowPlace.Whole len end → Makes s at t p (part (make (take len (drop (at + 1) s)) (drop (at + 1 + len) s))) → d ≡ tagsIn (p .first + p .second) → plus a b (sizeOf part (rows left (rowWith k make) (drop at s))) ≡ all → plus (a + d) (b + (p .first + p .second)) (sizeOf part (rows (left - 1) (rowWith k make) (drop end s))) ≡ all
+size-step k make part s t at left len end a b d r p all h f g m e i = size-more part a b d _ _ _ s t at p all (rows-step k make s at left len end r h f g) m e i
 
 -- ── Storing ──
 
 -- one part stored behind another
 pub sets-append : (o : List ℕ) (at : ℕ) (x y : List ℕ) → sets (sets o at x) (at + length x) y ≡ sets o at (x ++ y)
-sets-append o at [] y = ap (λ (n : ℕ). sets o n y) (omega arith)
-sets-append o at (b ∷ x) y = ap (λ (n : ℕ). sets (sets (set o at b) (suc at) x) n y) (omega arith) ∙ sets-append (set o at b) (suc at) x y
+sets-append o at x y = sym (Outputs.sets-append o at x y)
 
 pub put-both : (s t o o₁ o₂ : List ℕ) (place to : ℕ) (p : Part) → place + p .first ≤ length s → p .value + p .second ≤ length t → to + (p .first + p .second) ≤ length o → o₁ ≡ copied s place o to (p .first) → o₂ ≡ copied t (p .value) o₁ (to + p .first) (p .second) → o₂ ≡ sets o to (partBytes s place t p)
 unfolding partBytes
@@ -160,60 +140,34 @@ storing-room part x xs ys s t at p to out before start bytes e m g =
     let r = g .room in
     omega arith
 
--- the tags that are kept
+-- rows, one by one
 pub kept-write-start : (table sheet out : List ℕ) (at n k start : ℕ) → start + length (keptBytes table at n sheet k) ≤ length out → Storing start (flatMap (keptPart (changesAt sheet 1 k)) (tagsAt table at n)) out out start (keptBytes table at n sheet k)
 unfolding keptBytes
 kept-write-start table sheet out at n k start h = record { room = h; place = refl; long = refl; stored = refl }
 
-pub kept-write-done : (part : Tag → List ℕ) (s : List ℕ) (at left to : ℕ) (out before : List ℕ) (start : ℕ) (bytes : List ℕ) → left ≤ 0 → Storing to (flatMap part (tagsAt s at left)) out before start bytes → Written to before out start bytes
-unfolding tagsAt flatMap
-kept-write-done part s at left to out before start bytes h g = storing-end to _ out before start bytes (ap (flatMap part) (rows-done (rowWith row.Tag tagWithName) s at left h)) g
-
-pub kept-write-stop : (part : Tag → List ℕ) (s : List ℕ) (at left to : ℕ) (out before : List ℕ) (start : ℕ) (bytes : List ℕ) (r : RowPlace) → r ≡ rowOf at (rowName row.Tag (drop at s)) → r ≡ rowPlace.Broken → Storing to (flatMap part (tagsAt s at left)) out before start bytes → Written to before out start bytes
-unfolding tagsAt flatMap
-kept-write-stop part s at left to out before start bytes r e f g = storing-end to _ out before start bytes (ap (flatMap part) (rows-stop row.Tag tagWithName s at left r e f)) g
-
-pub kept-write-step : (part : Tag → List ℕ) (s t : List ℕ) (at left len end to : ℕ) (p : Part) (out out₁ before : List ℕ) (start : ℕ) (bytes : List ℕ) (r : RowPlace) → 0 < left → r ≡ rowOf at (rowName row.Tag (drop at s)) → r ≡ rowPlace.Whole len end → Makes s at t p (part (tagWithName (take len (drop (at + 1) s)) (drop (at + 1 + len) s))) → out₁ ≡ sets out to (partBytes s at t p) → Storing to (flatMap part (tagsAt s at left)) out before start bytes → Storing (to + (p .first + p .second)) (flatMap part (tagsAt s end (left - 1))) out₁ before start bytes
-unfolding tagsAt
-kept-write-step part s t at left len end to p out out₁ before start bytes r h e f m o g =
-    storing-more part _ _ _ s t at p to out out₁ before start bytes (rows-step row.Tag tagWithName s at left len end r h e f) m o g
-
-pub kept-write-room : (part : Tag → List ℕ) (s t : List ℕ) (at left len end to : ℕ) (p : Part) (out before : List ℕ) (start : ℕ) (bytes : List ℕ) (r : RowPlace) → 0 < left → r ≡ rowOf at (rowName row.Tag (drop at s)) → r ≡ rowPlace.Whole len end → Makes s at t p (part (tagWithName (take len (drop (at + 1) s)) (drop (at + 1 + len) s))) → Storing to (flatMap part (tagsAt s at left)) out before start bytes → to + (p .first + p .second) ≤ length out
-unfolding tagsAt
-kept-write-room part s t at left len end to p out before start bytes r h e f m g =
-    storing-room part _ _ _ s t at p to out before start bytes (rows-step row.Tag tagWithName s at left len end r h e f) m g
-
-pub kept-write-fits : (part : Tag → List ℕ) (s t : List ℕ) (at left len end to : ℕ) (p : Part) (out before : List ℕ) (start : ℕ) (bytes : List ℕ) (r : RowPlace) → length out < 2 ^ 64 → 0 < left → r ≡ rowOf at (rowName row.Tag (drop at s)) → r ≡ rowPlace.Whole len end → Makes s at t p (part (tagWithName (take len (drop (at + 1) s)) (drop (at + 1 + len) s))) → Storing to (flatMap part (tagsAt s at left)) out before start bytes → Fits w64 (to + (p .first + p .second))
-kept-write-fits part s t at left len end to p out before start bytes r l h e f m g =
-    let k = kept-write-room part s t at left len end to p out before start bytes r h e f m g in
-    record { fits = omega arith }
-
--- the changes that are new
 pub new-write-start : (table sheet out : List ℕ) (at n k start : ℕ) → start + length (newBytes table at n sheet k) ≤ length out → Storing start (flatMap (newPart (tagsAt table at n)) (changesAt sheet 1 k)) out out start (newBytes table at n sheet k)
 unfolding newBytes
 new-write-start table sheet out at n k start h = record { room = h; place = refl; long = refl; stored = refl }
 
-pub new-write-done : (part : Change → List ℕ) (s : List ℕ) (at left to : ℕ) (out before : List ℕ) (start : ℕ) (bytes : List ℕ) → left ≤ 0 → Storing to (flatMap part (changesAt s at left)) out before start bytes → Written to before out start bytes
-unfolding changesAt flatMap
-new-write-done part s at left to out before start bytes h g = storing-end to _ out before start bytes (ap (flatMap part) (rows-done (rowWith row.Change changeWithName) s at left h)) g
+pub write-done : {A : Type 0} (p : Reader A) (part : A → List ℕ) (s : List ℕ) (at left to : ℕ) (out before : List ℕ) (start : ℕ) (bytes : List ℕ) → left ≤ 0 → Storing to (flatMap part (rows left p (drop at s))) out before start bytes → Written to before out start bytes
+unfolding flatMap
+write-done p part s at left to out before start bytes h g = storing-end to _ out before start bytes (ap (flatMap part) (rows-done p s at left h)) g
 
-pub new-write-stop : (part : Change → List ℕ) (s : List ℕ) (at left to : ℕ) (out before : List ℕ) (start : ℕ) (bytes : List ℕ) (r : RowPlace) → r ≡ rowOf at (rowName row.Change (drop at s)) → r ≡ rowPlace.Broken → Storing to (flatMap part (changesAt s at left)) out before start bytes → Written to before out start bytes
-unfolding changesAt flatMap
-new-write-stop part s at left to out before start bytes r e f g = storing-end to _ out before start bytes (ap (flatMap part) (rows-stop row.Change changeWithName s at left r e f)) g
+pub write-stop : {A : Type 0} (k : Row) (make : List ℕ → List ℕ → A) (part : A → List ℕ) (s : List ℕ) (at left to : ℕ) (out before : List ℕ) (start : ℕ) (bytes : List ℕ) (r : RowPlace) → r ≡ rowOf at (rowName k (drop at s)) → r ≡ rowPlace.Broken → Storing to (flatMap part (rows left (rowWith k make) (drop at s))) out before start bytes → Written to before out start bytes
+unfolding flatMap
+write-stop k make part s at left to out before start bytes r e f g = storing-end to _ out before start bytes (ap (flatMap part) (rows-stop k make s at left r e f)) g
 
-pub new-write-step : (part : Change → List ℕ) (s t : List ℕ) (at left len end to : ℕ) (p : Part) (out out₁ before : List ℕ) (start : ℕ) (bytes : List ℕ) (r : RowPlace) → 0 < left → r ≡ rowOf at (rowName row.Change (drop at s)) → r ≡ rowPlace.Whole len end → Makes s at t p (part (changeWithName (take len (drop (at + 1) s)) (drop (at + 1 + len) s))) → out₁ ≡ sets out to (partBytes s at t p) → Storing to (flatMap part (changesAt s at left)) out before start bytes → Storing (to + (p .first + p .second)) (flatMap part (changesAt s end (left - 1))) out₁ before start bytes
-unfolding changesAt
-new-write-step part s t at left len end to p out out₁ before start bytes r h e f m o g =
-    storing-more part _ _ _ s t at p to out out₁ before start bytes (rows-step row.Change changeWithName s at left len end r h e f) m o g
+pub write-step : {A : Type 0} (k : Row) (make : List ℕ → List ℕ → A) (part : A → List ℕ) (s t : List ℕ) (at left len end to : ℕ) (p : Part) (out out₁ before : List ℕ) (start : ℕ) (bytes : List ℕ) (r : RowPlace) → 0 < left → r ≡ rowOf at (rowName k (drop at s)) → r ≡ rowPlace.Whole len end → Makes s at t p (part (make (take len (drop (at + 1) s)) (drop (at + 1 + len) s))) → out₁ ≡ sets out to (partBytes s at t p) → Storing to (flatMap part (rows left (rowWith k make) (drop at s))) out before start bytes → Storing (to + (p .first + p .second)) (flatMap part (rows (left - 1) (rowWith k make) (drop end s))) out₁ before start bytes
+write-step k make part s t at left len end to p out out₁ before start bytes r h e f m o g =
+    storing-more part _ _ _ s t at p to out out₁ before start bytes (rows-step k make s at left len end r h e f) m o g
 
-pub new-write-room : (part : Change → List ℕ) (s t : List ℕ) (at left len end to : ℕ) (p : Part) (out before : List ℕ) (start : ℕ) (bytes : List ℕ) (r : RowPlace) → 0 < left → r ≡ rowOf at (rowName row.Change (drop at s)) → r ≡ rowPlace.Whole len end → Makes s at t p (part (changeWithName (take len (drop (at + 1) s)) (drop (at + 1 + len) s))) → Storing to (flatMap part (changesAt s at left)) out before start bytes → to + (p .first + p .second) ≤ length out
-unfolding changesAt
-new-write-room part s t at left len end to p out before start bytes r h e f m g =
-    storing-room part _ _ _ s t at p to out before start bytes (rows-step row.Change changeWithName s at left len end r h e f) m g
+pub write-room : {A : Type 0} (k : Row) (make : List ℕ → List ℕ → A) (part : A → List ℕ) (s t : List ℕ) (at left len end to : ℕ) (p : Part) (out before : List ℕ) (start : ℕ) (bytes : List ℕ) (r : RowPlace) → 0 < left → r ≡ rowOf at (rowName k (drop at s)) → r ≡ rowPlace.Whole len end → Makes s at t p (part (make (take len (drop (at + 1) s)) (drop (at + 1 + len) s))) → Storing to (flatMap part (rows left (rowWith k make) (drop at s))) out before start bytes → to + (p .first + p .second) ≤ length out
+write-room k make part s t at left len end to p out before start bytes r h e f m g =
+    storing-room part _ _ _ s t at p to out before start bytes (rows-step k make s at left len end r h e f) m g
 
-pub new-write-fits : (part : Change → List ℕ) (s t : List ℕ) (at left len end to : ℕ) (p : Part) (out before : List ℕ) (start : ℕ) (bytes : List ℕ) (r : RowPlace) → length out < 2 ^ 64 → 0 < left → r ≡ rowOf at (rowName row.Change (drop at s)) → r ≡ rowPlace.Whole len end → Makes s at t p (part (changeWithName (take len (drop (at + 1) s)) (drop (at + 1 + len) s))) → Storing to (flatMap part (changesAt s at left)) out before start bytes → Fits w64 (to + (p .first + p .second))
-new-write-fits part s t at left len end to p out before start bytes r l h e f m g =
-    let k = new-write-room part s t at left len end to p out before start bytes r h e f m g in
+pub write-fits : {A : Type 0} (k : Row) (make : List ℕ → List ℕ → A) (part : A → List ℕ) (s t : List ℕ) (at left len end to : ℕ) (p : Part) (out before : List ℕ) (start : ℕ) (bytes : List ℕ) (r : RowPlace) → length out < 2 ^ 64 → 0 < left → r ≡ rowOf at (rowName k (drop at s)) → r ≡ rowPlace.Whole len end → Makes s at t p (part (make (take len (drop (at + 1) s)) (drop (at + 1 + len) s))) → Storing to (flatMap part (rows left (rowWith k make) (drop at s))) out before start bytes → Fits w64 (to + (p .first + p .second))
+write-fits k make part s t at left len end to p out before start bytes r l h e f m g =
+    let room = write-room k make part s t at left len end to p out before start bytes r h e f m g in
     record { fits = omega arith }
 
-pub ruleset laws = (needs, row-known, row-string, size-start, tags-none, tags-one, kept-size-done, kept-size-stop, kept-size-step, new-size-done, new-size-stop, new-size-step, put-both, kept-write-start, kept-write-done, kept-write-stop, kept-write-step, kept-write-room, kept-write-fits, new-write-start, new-write-done, new-write-stop, new-write-step, new-write-room, new-write-fits)
+pub ruleset laws = (needs, row-known, row-string, size-start, tags-none, tags-one, size-done, size-stop, size-step, put-both, kept-write-start, new-write-start, write-done, write-stop, write-step, write-room, write-fits)

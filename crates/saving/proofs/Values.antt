@@ -1,22 +1,20 @@
 -- Rows taken apart, and the values that stand in them.
 -- Assumes nothing.
-use Prim.Native.Nat.{ℕ, zero, suc, _+_, _*_, _-_, _^_, _<_, _≤_}
+use Prim.Native.Nat.{ℕ, zero, suc, _+_, _-_, _^_, _<_, _≤_}
 use native.Mathlib.Omega.{arith}
 use mathlib.Core.Path.{_≡_, refl, ap, sym, _∙_}
-use mathlib.Core.Bool.{Bool, true, false, not, cond}
+use mathlib.Core.Bool.{Bool, true, false, cond}
 use mathlib.Core.List.{List, [], _∷_}
 use lib.ListN.{length, take, drop, getD, drop-of-length-le}
 use lib.Seq.{drop-drop, drop-cons}
-use lib.Dec.{eqb, ltb}
 use borrow.Author.Needs.{needs}
-use borrow.Author.Tests.{eq-eqb, ne-eqb, lt-ltb, le-ltb}
+use borrow.Author.Tests.{eq-eqb, ne-eqb}
 use mir.Syntax.{w64}
 use mir.Val.{Fits}
 use Rattle.layout.specs.Recording.{Tag, same, shortString}
-use Rattle.layout.specs.Reading.{Parsed, Reader, bad, good, onward, _then_, give, number, string, valueOr}
-use Rattle.layout.specs.Saving.{Entry, Seen, Change, absent, holds, saw, nobodyLooked, lookUp, sameEntry, agrees, conflicts}
-use Rattle.text.specs.Text.{textOf, samePart}
-use Rattle.text.specs.Rows.{endOf, entry, rest, rowName, rowOf, found, findName}
+use Rattle.layout.specs.Reading.{Parsed, Reader, bad, good, onward, _then_, give, string, valueOr}
+use Rattle.text.specs.Text.{textOf}
+use Rattle.text.specs.Rows.{endOf, entry, rest, rowName, rowOf, found}
 use Rattle.text.specs.declared.Text.{Text}
 use Rattle.text.specs.declared.Text.the-variants as text
 use Rattle.text.specs.declared.Place.{Place}
@@ -27,12 +25,11 @@ use Rattle.text.specs.declared.RowPlace.{RowPlace}
 use Rattle.text.specs.declared.RowPlace.the-variants as rowPlace
 use Rattle.text.specs.declared.Found.{Found}
 use Rattle.text.specs.declared.Found.the-variants as found
-use Rattle.text.proofs.Laws.{string-parts, textOf-broken, part-length, text-place}
+use Rattle.text.proofs.Laws.{string-parts, textOf-broken, part-length}
 use Rattle.text.proofs.Rows.{end-good, end-bad, row-parts, row-broken}
-use Rattle.text.proofs.Names.{find-there, name-other, name-same}
 use Rattle.text.proofs.Readers.{then-parts, give-parts}
-use Rattle.text.proofs.Places.{string-taken, number-parts}
-use Rattle.saving.specs.Rows.{rows, rowWith, textEntry, textIn, entryIn, entryBehind, newIn, tagWithName, changeWithName, tagsAt, valueIn, isNothing, Stands, Finds, made, tagHolds, changeMakes}
+use Rattle.text.proofs.Places.{string-taken}
+use Rattle.saving.specs.Rows.{rows, rowWith, textEntry, textIn, entryIn, entryBehind, newIn, tagWithName, valueIn, Stands, Finds, made, tagHolds}
 use Rattle.saving.specs.declared.Value.{Value}
 use Rattle.saving.specs.declared.Value.the-variants as value
 

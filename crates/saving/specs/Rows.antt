@@ -53,11 +53,11 @@ changeWithName name t =
     record { name = name; seen = cond (ltb 1 (getD t 0 0)) nobodyLooked (saw (entryIn t)); new = newIn t }
 
 -- the n tags that stand from a place on
-unfoldable pub tagsAt : List ℕ → (at n : ℕ) → List Tag
+abbrev pub tagsAt : List ℕ → (at n : ℕ) → List Tag
 tagsAt s at n = rows n (rowWith row.Tag tagWithName) (drop at s)
 
 -- the n changes that stand from a place on
-unfoldable pub changesAt : List ℕ → (at n : ℕ) → List Change
+abbrev pub changesAt : List ℕ → (at n : ℕ) → List Change
 changesAt s at n = rows n (rowWith row.Change changeWithName) (drop at s)
 
 -- ── Values that stand in bytes ──

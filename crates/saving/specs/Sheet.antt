@@ -1,5 +1,4 @@
 -- A change sheet by its number of changes.
-use Prim.Native.Nat.{ℕ}
 use mathlib.Core.List.{List}
 use lib.ListN.{length}
 use Rattle.layout.specs.Reading.{Parsed, bad, good}

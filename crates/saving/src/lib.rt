@@ -7,13 +7,13 @@ use text::Row;
 use text::RowPlace;
 use text::Text;
 ghost use mathlib.Core.Path.{_≡_};
+ghost use mathlib.Core.List.{_++_};
 ghost use Prim.Native.Nat.{_+_, _*_, _<_, _≤_};
 ghost use lib.ListN.{length, take, drop};
-ghost use Rattle.layout.specs.Reading.{Reader, _then_, number, times, exactly, string};
-ghost use Rattle.layout.specs.Saving.{entryOf, seenOf, change, sheet, lookUp, sameEntry, conflicts};
-ghost use mathlib.Core.List.{_++_};
 ghost use lib.Seq.{sets};
 ghost use Rattle.number.specs.Number.{bytesOf};
+ghost use Rattle.layout.specs.Reading.{_then_, number, times, exactly, string};
+ghost use Rattle.layout.specs.Saving.{entryOf, seenOf, change, sheet, lookUp, sameEntry, conflicts};
 ghost use Rattle.text.specs.Text.{textOf};
 ghost use Rattle.text.specs.Rows.{endOf, rowName, rowOf};
 ghost use Rattle.saving.specs.Sheet.{sheetOf};
@@ -27,6 +27,38 @@ const MOST_CHANGES: usize = 64;
 pub enum Sheet {
     Whole(usize),
     Broken,
+}
+
+// Whether the seen entries agree with the table, or the lowest place that does not, from 0.
+pub enum Looked {
+    Agrees,
+    Conflict(usize),
+}
+
+// What a save answers: the length of the new table, a refusal's number, or 11 with its place.
+pub enum Saved {
+    Table(usize),
+    Refused(u8),
+    Conflict(usize),
+}
+
+// A value that stands in some bytes: the place of its short string, and its number of bytes; or nothing.
+enum Value {
+    At(usize, usize),
+    Nothing,
+}
+
+// What a tag or a change adds to the new table: bytes from its own place on, and a value of the sheet behind them.
+struct Part {
+    first: usize,
+    value: usize,
+    second: usize,
+}
+
+// The number of tags that are added to a table, and of their bytes.
+struct Size {
+    tags: usize,
+    bytes: usize,
 }
 
 // What a kind byte asks for: "0 absent, 1 a value, which follows".
@@ -70,7 +102,7 @@ fn new_end(s: &[u8], at: usize) -> Place
 }
 
 // "per change a name; a seen kind ..; a new kind .."
-pub fn change_end(s: &[u8], at: usize) -> Place
+fn change_end(s: &[u8], at: usize) -> Place
     ensures { λ r. ⌜ r ≡ endOf at (change (drop at (now (s .entry)))) ⌝ }
 {
     let name = text::tag_name(s, at);
@@ -125,18 +157,6 @@ pub fn changes_of(s: &[u8]) -> Sheet
     } else {
         Sheet::Broken
     }
-}
-
-// A value that stands in some bytes: the place of its short string, and its number of bytes; or nothing.
-pub enum Value {
-    At(usize, usize),
-    Nothing,
-}
-
-// Whether the seen entries agree with the table, or the lowest place that does not, from 0.
-pub enum Looked {
-    Agrees,
-    Conflict(usize),
 }
 
 // The value of an entry, by its kind byte.
@@ -254,19 +274,6 @@ pub fn compare(table: &[u8], at: usize, n: usize, sheet: &[u8], changes: usize) 
         left -= 1;
     }
     Looked::Agrees
-}
-
-// What a tag or a change adds to the new table: bytes from its own place on, and a value of the sheet behind them.
-pub struct Part {
-    pub first: usize,
-    pub value: usize,
-    pub second: usize,
-}
-
-// The number of tags that are added to a table, and of their bytes.
-pub struct Size {
-    pub tags: usize,
-    pub bytes: usize,
 }
 
 // A name of `len` bytes with a value of the sheet; or nothing.
@@ -480,13 +487,6 @@ fn write_table(
     number::write(out, 0, 4, tags);
     let end = write_kept(table, at, n, sheet, changes, out, 4);
     write_new(table, at, n, sheet, changes, out, end);
-}
-
-// What a save answers: the length of the new table, a refusal's number, or 11 with its place.
-pub enum Saved {
-    Table(usize),
-    Refused(u8),
-    Conflict(usize),
 }
 
 // The new user table, where its tags are not too many and it has room. Nothing is written before that is known.
