@@ -6,6 +6,7 @@ mod reading_vectors;
 mod recorder_vectors;
 mod repair_vectors;
 mod tag_vectors;
+mod whole_vectors;
 
 use print::say;
 
@@ -29,6 +30,8 @@ const SAVE: u8 = b's';
 
 const TAG: u8 = b't';
 
+const WHOLE: u8 = b'w';
+
 // The call that a vector holds, by its first byte.
 fn answer(kind: u8, fields: &[u8]) {
     match kind {
@@ -40,6 +43,7 @@ fn answer(kind: u8, fields: &[u8]) {
         SAVE => tag_vectors::save(fields),
         TAG => tag_vectors::browse(fields),
         NAMED => tag_vectors::named(fields),
+        WHOLE => whole_vectors::whole(fields),
         _ => print::no_vector(),
     }
 }

@@ -42,12 +42,13 @@ pub fn hex(bytes: &[u8]) {
     }
 }
 
-// A word and a check of bytes, sixteen digits.
-pub fn with_check(word: &[u8], bytes: &[u8]) {
+// A word and a check, sixteen digits.
+pub fn with_sum(word: &[u8], sum: u64) {
     say(word);
-    io::print_hex(
-        STDOUT_FILENO,
-        crate::check::bytes(crate::check::START, bytes),
-        16,
-    );
+    io::print_hex(STDOUT_FILENO, sum, 16);
+}
+
+// The same with the check of bytes.
+pub fn with_check(word: &[u8], bytes: &[u8]) {
+    with_sum(word, crate::check::bytes(crate::check::START, bytes));
 }
