@@ -1,0 +1,34 @@
+use Rattle.fstf.proofs.Laws.{laws}
+use borrow.Author.Needs.{needs}
+use Rattle.fstf.proofs.fstf_close.Statement.{statement}
+use Rattle.fstf.proofs.fstf_close.Tie as tie
+use Rattle.fstf.proofs.fstf_close.Reads as reads
+use Rattle.fstf.proofs.fstf_close.Lts as lts
+use Rattle.fstf.proofs.recorder_asked.Reads as recorder-asked-reads
+use Rattle.fstf.proofs.taken_flat.Reads as taken-flat-reads
+use Rattle.recorder.proofs.Recorder.close.Reads as close-reads
+
+-- src/lib.rt:351:9
+recorder-asked-requires : tie.Need-recorder-asked-requires
+recorder-asked-requires c κs = search needs
+
+-- src/lib.rt:352:9
+close-requires : tie.Need-close-requires
+close-requires c κs = search needs
+
+-- src/lib.rt:353:5
+taken-flat-requires : tie.Need-taken-flat-requires
+taken-flat-requires c κs = search needs
+
+-- src/lib.rt:347:1
+same-length : tie.Need-same-length
+same-length c = search needs
+
+-- src/lib.rt:347:1
+returns : tie.Need-returns
+returns c = search laws
+
+pub fstf-close-spec : {M : Type 1} → statement M
+fstf-close-spec =
+    tie.close
+    (tie.spec recorder-asked-requires close-requires taken-flat-requires same-length returns)

@@ -1,0 +1,18 @@
+use Rattle.fstf.proofs.Laws.{laws}
+use borrow.Author.Needs.{needs}
+use Rattle.fstf.proofs.recorder_asked.Statement.{statement}
+use Rattle.fstf.proofs.recorder_asked.Tie as tie
+use Rattle.fstf.proofs.recorder_asked.Reads as reads
+use Rattle.fstf.proofs.recorder_asked.Lts as lts
+use Rattle.fstf.proofs.stage_asked.Reads as stage-asked-reads
+
+-- src/lib.rt:233:9
+stage-asked-requires : tie.Need-stage-asked-requires
+stage-asked-requires c κs = search needs
+
+-- src/lib.rt:230:1
+returns : tie.Need-returns
+returns c = search laws
+
+pub recorder-asked-spec : {M : Type 1} → statement M
+recorder-asked-spec = tie.close (tie.spec stage-asked-requires returns)

@@ -1,0 +1,162 @@
+/* FSTF revision 1: opening, reading, recording, repairing and tagging files that are lent as bytes.
+ *
+ * Link target/staticlib/libfstf.a, which `rt staticlib fstf` writes (x86-64 Linux).
+ * No call allocates, keeps a pointer, reads or writes a file, or fails in any other way than by a refusal number.
+ * A slice is passed as a pointer and a length. The pointer is never null, also where the length is 0; the length is below 2^63.
+ * Slices that a call writes (notes, out) overlap no other slice of that call.
+ * A refused call changes nothing of what is lent to it. An accepted one fills `out` from its start and leaves the bytes behind the answer.
+ */
+#ifndef FSTF_H
+#define FSTF_H
+
+#include <stddef.h>
+#include <stdint.h>
+
+#ifdef __cplusplus
+extern "C" {
+#endif
+
+/* The refusals: what the member `refused` of every answer holds. */
+enum {
+    FSTF_TAKEN = 0, /* not refused */
+    FSTF_NOT_FSTF = 1, /* not FSTF: The file is no FSTF recording, or shorter than a header. */
+    FSTF_REVISION = 2, /* revision: The file is of another revision; this library reads revision 1. */
+    FSTF_SECTIONS = 3, /* sections: The section names or their configuration offsets are broken. */
+    FSTF_SYSTEM_TABLE = 4, /* system table: The system table is missing, misplaced or malformed. */
+    FSTF_NOT_CLOSED = 5, /* not closed: The recording was never closed: repair it. */
+    FSTF_INDEX = 6, /* index: Frames, times and index do not agree: repair it. */
+    FSTF_USER_TABLE = 7, /* user table: The user table is malformed or does not end the file. */
+    FSTF_NO_SUCH_ITEM = 8, /* no such item: Ask for an item number below its count. */
+    FSTF_NO_ROOM = 9, /* no room: Lend a longer output (or longer notes). */
+    FSTF_SHEET = 10, /* sheet: The change sheet, or the set-up list, is malformed. */
+    FSTF_CONFLICT = 11, /* conflict: Somebody changed the tag at this place of the sheet since it was looked at: look again. */
+    FSTF_STAGE = 12, /* stage: The recorder's state does not take this call. */
+    FSTF_CLOCK = 13, /* clock: The frame's time is before the last one's or too far behind the first. */
+    FSTF_FRAME_SHAPE = 14, /* frame shape: The sections given are not what the recording was begun with, or one is too large. */
+    FSTF_FULL = 15, /* full: The recording can hold no more. */
+    FSTF_WHOLE = 16, /* whole: Nothing to repair: the file opens. */
+    FSTF_TABLE_FULL = 17 /* table full: More than 1,000 tags after the save. */
+};
+
+/* ── Opening ── refused 1 to 7, the first that holds; then all other members are 0. */
+typedef struct {
+    uint64_t refused;
+    uint64_t frames;      /* how many frames the file has */
+    uint64_t sections;    /* how many sections every frame has, 1 to 8 */
+    uint64_t system_tags; /* how many tags the system table has */
+    uint64_t user_tags;   /* how many tags the user table has */
+    uint64_t start;       /* where the first frame starts */
+    uint64_t index;       /* where the index starts */
+    uint64_t user;        /* where the user table starts */
+} FstfOpened;
+
+FstfOpened fstf_open(const uint8_t *file, size_t file_length);
+
+/* ── Reading ── opens the file first: refused 1 to 7, then 8; then all other members are 0. Numbers count from 0. */
+typedef struct {
+    uint64_t refused;
+    uint64_t place;    /* where the frame starts in the file */
+    uint64_t length;   /* the number of its bytes */
+    int64_t time;      /* its time in milliseconds */
+    uint64_t exposure; /* as the frame's head says it, below 2^32 */
+} FstfFrame;
+
+FstfFrame fstf_frame(const uint8_t *file, size_t file_length, uint64_t i);
+
+/* Where the bytes of an item stand in the file. */
+typedef struct {
+    uint64_t refused;
+    uint64_t start;
+    uint64_t length;
+} FstfPart;
+
+/* What `kind` asks for; any other kind is answered as an item that is not there. */
+enum {
+    FSTF_SECTION = 0,       /* section j of frame i */
+    FSTF_SECTION_NAME = 1,  /* the name of section i; j is not looked at, nor below */
+    FSTF_CONFIGURATION = 2, /* the configuration of section i */
+    FSTF_SYSTEM_NAME = 3,   /* the name of system tag i */
+    FSTF_SYSTEM_VALUE = 4,  /* its value */
+    FSTF_USER_NAME = 5,     /* the name of user tag i */
+    FSTF_USER_VALUE = 6     /* its value */
+};
+
+FstfPart fstf_part(const uint8_t *file, size_t file_length, uint64_t kind, uint64_t i, uint64_t j);
+
+/* ── Recording ── begin once, add each frame, close five times. Each call is given the state and hands back the next one; the caller stores the
+ * piece, the first `length` bytes of `out`, at `place` in the file. Refused, the state is handed back as it was given. */
+typedef struct {
+    uint64_t stage;    /* 0 fresh, 1 running, 2 closing, 3 closed; any other number is taken as closed */
+    uint64_t piece;    /* closing: the next piece, 0 to 4; else 0 */
+    uint64_t sections; /* how many sections every frame has */
+    uint64_t frames;   /* how many frames were added */
+    int64_t first;     /* the first frame's time */
+    int64_t last;      /* the last frame's time */
+    uint64_t end;      /* where the next frame goes */
+} FstfRecorder;
+
+typedef struct {
+    uint64_t refused;
+    uint64_t place;  /* where the piece goes in the file */
+    uint64_t length; /* how many bytes of `out` are the piece */
+    FstfRecorder recorder;
+} FstfTaken;
+
+/* A fresh recorder. */
+FstfRecorder fstf_new(void);
+
+/* The set-up list: the number of sections in a byte, and for each a name (a byte of length, its bytes) and a configuration (two bytes of length, low
+ * byte first, its bytes). `system` is the system table as it stands in the file. `notes` keep the index: 4 bytes, and 16 more for each frame.
+ * Refused 12, 10, 3, 4, 9. */
+FstfTaken fstf_begin(FstfRecorder recorder, const uint8_t *setup, size_t setup_length, const uint8_t *system, size_t system_length, uint8_t *notes,
+                     size_t notes_length, uint8_t *out, size_t out_length);
+
+/* `sections`: for each section four bytes of length, low byte first, and its bytes. Refused 12, 14, 15, 13, 9. */
+FstfTaken fstf_add(FstfRecorder recorder, int64_t time, uint32_t exposure, const uint8_t *sections, size_t sections_length, uint8_t *notes,
+                   size_t notes_length, uint8_t *out, size_t out_length);
+
+/* One closing piece: the index, the empty user table, and three header fields. */
+FstfTaken fstf_close(FstfRecorder recorder, const uint8_t *notes, size_t notes_length, uint8_t *out, size_t out_length);
+
+/* ── Repair ── of a file that was cut: keep its first `kept` bytes, put the tail behind them, and set the header's count, index offset and user
+ * offset. Refused 1 to 4, 16, 13, 15, 9; then all other members are 0. */
+typedef struct {
+    uint64_t refused;
+    uint64_t kept;
+    uint64_t count;
+    uint64_t index;
+    uint64_t user;
+    uint64_t tail; /* how many bytes of `out` are the tail */
+} FstfRepaired;
+
+FstfRepaired fstf_repair(const uint8_t *file, size_t file_length, uint8_t *out, size_t out_length);
+
+/* ── Saving tags ── the new user table, to be stored from the user table's place on, where the file then ends. The change sheet: the number of
+ * changes in a byte, at most 64; for each a name; what was seen (0 absent, 1 and a value, 2 nobody looked); what is new (0 absent, 1 and a value).
+ * Refused 1 to 7, 10, 11, 17, 9. */
+typedef struct {
+    uint64_t refused;
+    uint64_t place;  /* refused 11: the lowest change, from 0, whose seen entry is not the table's; else 0 */
+    uint64_t length; /* how many bytes of `out` are the new table */
+} FstfSaved;
+
+FstfSaved fstf_save(const uint8_t *file, size_t file_length, const uint8_t *sheet, size_t sheet_length, uint8_t *out, size_t out_length);
+
+/* ── Tags of a table ── `table` is exactly a table, as it stands in a file: else refused 7. */
+typedef struct {
+    uint64_t refused;
+    uint64_t found;        /* 1, or 0 where there is no such tag; then the places and lengths are 0 */
+    uint64_t name;         /* where its name's bytes start in the table */
+    uint64_t name_length;
+    uint64_t value;        /* where its value's bytes start in the table */
+    uint64_t value_length;
+} FstfTag;
+
+FstfTag fstf_tag_at(const uint8_t *table, size_t table_length, uint64_t number);
+FstfTag fstf_tag_named(const uint8_t *table, size_t table_length, const uint8_t *name, size_t name_length);
+
+#ifdef __cplusplus
+}
+#endif
+
+#endif

@@ -1,0 +1,71 @@
+/* A frame at the limit of a section's bytes and one past it, over the static library: one line per check. */
+#include <stdio.h>
+#include <stdlib.h>
+#include <string.h>
+#include "fstf.h"
+
+#define LIMIT 16777216u
+
+static int failures = 0;
+
+static void check(const char *what, int holds) {
+    printf("%s: %s\n", holds ? "ok" : "FAILED", what);
+    if (!holds) failures++;
+}
+
+/* A piece, stored at its place in the file. */
+static uint64_t store(uint8_t *file, uint64_t length, const uint8_t *out, FstfTaken taken) {
+    memcpy(file + taken.place, out, taken.length);
+    uint64_t end = taken.place + taken.length;
+    return length < end ? end : length;
+}
+
+int main(void) {
+    /* one section: its name "image", and a configuration of no bytes */
+    static const uint8_t setup[] = {1, 5, 'i', 'm', 'a', 'g', 'e', 0, 0};
+    static const uint8_t system[] = {0, 0, 0, 0};
+    size_t room = LIMIT + 4096u;
+    uint8_t *sections = malloc(room), *out = malloc(room), *before = malloc(room), *file = calloc(1, room);
+    uint8_t notes[64], notes_before[64];
+    if (!sections || !out || !before || !file) return 2;
+    memset(notes, 0xA5, sizeof notes);
+    memset(out, 0x5A, room);
+    for (size_t k = 0; k < room; k++) sections[k] = (uint8_t)(k * 31u + (k >> 8));
+    uint64_t length = 0;
+
+    FstfTaken taken = fstf_begin(fstf_new(), setup, sizeof setup, system, sizeof system, notes, sizeof notes, out, room);
+    check("begin is taken", taken.refused == 0 && taken.recorder.stage == 1 && taken.place == 0);
+    length = store(file, length, out, taken);
+
+    uint32_t size = LIMIT;
+    for (int k = 0; k < 4; k++) sections[k] = (uint8_t)(size >> (8 * k));
+    uint64_t place = taken.recorder.end;
+    taken = fstf_add(taken.recorder, 1000, 20, sections, 4u + size, notes, sizeof notes, out, room);
+    check("a section of 16777216 bytes is taken", taken.refused == 0 && taken.place == place && taken.length == 16u + 4u + size && taken.recorder.frames == 1);
+    check("its bytes stand behind the frame's head", memcmp(out + 16, sections, 4u + size) == 0);
+    length = store(file, length, out, taken);
+
+    size = LIMIT + 1;
+    for (int k = 0; k < 4; k++) sections[k] = (uint8_t)(size >> (8 * k));
+    FstfRecorder state = taken.recorder;
+    memcpy(notes_before, notes, sizeof notes);
+    memcpy(before, out, room);
+    taken = fstf_add(state, 1001, 20, sections, 4u + size, notes, sizeof notes, out, room);
+    check("a section of 16777217 bytes is refused 14", taken.refused == FSTF_FRAME_SHAPE);
+    check("the refusal leaves the notes", memcmp(notes, notes_before, sizeof notes) == 0);
+    check("the refusal leaves the output", memcmp(out, before, room) == 0);
+    check("the refusal leaves the state", memcmp(&taken.recorder, &state, sizeof state) == 0);
+
+    int closed = 1;
+    for (int k = 0; k < 5; k++) {
+        taken = fstf_close(taken.recorder, notes, sizeof notes, out, room);
+        if (taken.refused != 0) { closed = 0; break; }
+        length = store(file, length, out, taken);
+    }
+    check("five close calls are taken and the recorder is closed", closed && taken.recorder.stage == 3);
+
+    FstfOpened opened = fstf_open(file, length);
+    check("the file opens with one frame and one section", opened.refused == 0 && opened.frames == 1 && opened.sections == 1);
+    printf("%d failed\n", failures);
+    return failures != 0;
+}
