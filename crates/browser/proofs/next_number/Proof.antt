@@ -6,31 +6,24 @@ use Rattle.browser.proofs.next_number.Reads as reads
 use Rattle.browser.proofs.next_number.Lts as lts
 use Rattle.browser.proofs.tags_of.Reads as tags-of-reads
 
--- src/lib.rt:93:9
 tags-of-requires : tie.Need-tags-of-requires
 tags-of-requires c κs = search needs
 
--- src/lib.rt:94:21
 enum-known-tags : tie.Need-enum-known-tags
 enum-known-tags c = search needs
 
--- src/lib.rt:95:9
 enum-told : tie.Need-enum-told
 enum-told c = search needs
 
--- src/lib.rt:95:9
 returns : tie.Need-returns
 returns c = search laws
 
--- src/lib.rt:98:9
 add-result : tie.Need-add-result
 add-result c = search needs
 
--- src/lib.rt:90:1
 returns-2 : tie.Need-returns-2
 returns-2 c = search laws
 
--- src/lib.rt:90:1
 returns-3 : tie.Need-returns-3
 returns-3 c = search laws
 

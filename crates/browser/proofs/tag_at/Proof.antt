@@ -8,31 +8,24 @@ use Rattle.browser.proofs.tag_or_end.Reads as tag-or-end-reads
 use Rattle.browser.proofs.tags_of.Reads as tags-of-reads
 use Rattle.text.proofs.tag_found.Reads as tag-found-reads
 
--- src/lib.rt:67:9
 tags-of-requires : tie.Need-tags-of-requires
 tags-of-requires c κs = search needs
 
--- src/lib.rt:68:21
 enum-known-tags : tie.Need-enum-known-tags
 enum-known-tags c = search needs
 
--- src/lib.rt:69:9
 enum-told : tie.Need-enum-told
 enum-told c = search needs
 
--- src/lib.rt:69:9
 returns : tie.Need-returns
 returns c = search laws
 
--- src/lib.rt:71:16
 tag-found-requires : tie.Need-tag-found-requires
 tag-found-requires c κs = search needs
 
--- src/lib.rt:71:5
 tag-or-end-requires : tie.Need-tag-or-end-requires
 tag-or-end-requires c κs = search needs
 
--- src/lib.rt:64:1
 returns-2 : tie.Need-returns-2
 returns-2 c = search laws
 

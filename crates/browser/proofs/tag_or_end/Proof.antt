@@ -5,19 +5,15 @@ use Rattle.browser.proofs.tag_or_end.Tie as tie
 use Rattle.browser.proofs.tag_or_end.Reads as reads
 use Rattle.browser.proofs.tag_or_end.Lts as lts
 
--- src/lib.rt:49:13
 enum-known-found : tie.Need-enum-known-found
 enum-known-found c = search needs
 
--- src/lib.rt:59:30
 enum-told : tie.Need-enum-told
 enum-told c = search needs
 
--- src/lib.rt:44:1
 returns : tie.Need-returns
 returns c = search laws
 
--- src/lib.rt:44:1
 returns-2 : tie.Need-returns-2
 returns-2 c = search laws
 

@@ -6,27 +6,21 @@ use Rattle.browser.proofs.tags_of.Reads as reads
 use Rattle.browser.proofs.tags_of.Lts as lts
 use Rattle.text.proofs.table.Reads as table-reads
 
--- src/lib.rt:32:9
 table-requires : tie.Need-table-requires
 table-requires c κs = search needs
 
--- src/lib.rt:33:27
 enum-known-read : tie.Need-enum-known-read
 enum-known-read c = search needs
 
--- src/lib.rt:34:9
 enum-told : tie.Need-enum-told
 enum-told c = search needs
 
--- src/lib.rt:34:9
 returns : tie.Need-returns
 returns c = search laws
 
--- src/lib.rt:29:1
 returns-2 : tie.Need-returns-2
 returns-2 c = search laws
 
--- src/lib.rt:29:1
 returns-3 : tie.Need-returns-3
 returns-3 c = search laws
 

@@ -5,27 +5,21 @@ use Rattle.fstf.proofs.frame_flat.Tie as tie
 use Rattle.fstf.proofs.frame_flat.Reads as reads
 use Rattle.fstf.proofs.frame_flat.Lts as lts
 
--- src/lib.rt:89:13
 enum-known-answer : tie.Need-enum-known-answer
 enum-known-answer c = search needs
 
--- src/lib.rt:98:23
 cast-t10 : tie.Need-cast-t10
 cast-t10 c = search needs
 
--- src/lib.rt:100:28
 enum-known-answer-2 : tie.Need-enum-known-answer-2
 enum-known-answer-2 c = search needs
 
--- src/lib.rt:101:22
 cast-t11 : tie.Need-cast-t11
 cast-t11 c = search needs
 
--- src/lib.rt:84:1
 returns : tie.Need-returns
 returns c = search laws
 
--- src/lib.rt:84:1
 returns-2 : tie.Need-returns-2
 returns-2 c = search laws
 

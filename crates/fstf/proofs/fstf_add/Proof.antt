@@ -8,27 +8,21 @@ use Rattle.fstf.proofs.recorder_asked.Reads as recorder-asked-reads
 use Rattle.fstf.proofs.taken_flat.Reads as taken-flat-reads
 use Rattle.recorder.proofs.Recorder.add.Reads as add-reads
 
--- src/lib.rt:342:9
 recorder-asked-requires : tie.Need-recorder-asked-requires
 recorder-asked-requires c κs = search needs
 
--- src/lib.rt:343:9
 add-requires : tie.Need-add-requires
 add-requires c κs = search needs
 
--- src/lib.rt:344:5
 taken-flat-requires : tie.Need-taken-flat-requires
 taken-flat-requires c κs = search needs
 
--- src/lib.rt:331:1
 same-length : tie.Need-same-length
 same-length c = search needs
 
--- src/lib.rt:331:1
 same-length-2 : tie.Need-same-length-2
 same-length-2 c = search needs
 
--- src/lib.rt:331:1
 returns : tie.Need-returns
 returns c = search laws depth 9 fits 4000
 

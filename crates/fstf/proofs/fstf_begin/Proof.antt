@@ -8,27 +8,21 @@ use Rattle.fstf.proofs.recorder_asked.Reads as recorder-asked-reads
 use Rattle.fstf.proofs.taken_flat.Reads as taken-flat-reads
 use Rattle.recorder.proofs.Recorder.begin.Reads as begin-reads
 
--- src/lib.rt:326:9
 recorder-asked-requires : tie.Need-recorder-asked-requires
 recorder-asked-requires c κs = search needs
 
--- src/lib.rt:327:9
 begin-requires : tie.Need-begin-requires
 begin-requires c κs = search needs
 
--- src/lib.rt:328:5
 taken-flat-requires : tie.Need-taken-flat-requires
 taken-flat-requires c κs = search needs
 
--- src/lib.rt:316:1
 same-length : tie.Need-same-length
 same-length c = search needs
 
--- src/lib.rt:316:1
 same-length-2 : tie.Need-same-length-2
 same-length-2 c = search needs
 
--- src/lib.rt:316:1
 returns : tie.Need-returns
 returns c = search laws
 

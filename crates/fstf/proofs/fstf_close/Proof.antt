@@ -8,23 +8,18 @@ use Rattle.fstf.proofs.recorder_asked.Reads as recorder-asked-reads
 use Rattle.fstf.proofs.taken_flat.Reads as taken-flat-reads
 use Rattle.recorder.proofs.Recorder.close.Reads as close-reads
 
--- src/lib.rt:351:9
 recorder-asked-requires : tie.Need-recorder-asked-requires
 recorder-asked-requires c κs = search needs
 
--- src/lib.rt:352:9
 close-requires : tie.Need-close-requires
 close-requires c κs = search needs
 
--- src/lib.rt:353:5
 taken-flat-requires : tie.Need-taken-flat-requires
 taken-flat-requires c κs = search needs
 
--- src/lib.rt:347:1
 same-length : tie.Need-same-length
 same-length c = search needs
 
--- src/lib.rt:347:1
 returns : tie.Need-returns
 returns c = search laws
 

@@ -7,15 +7,12 @@ use Rattle.fstf.proofs.fstf_frame.Lts as lts
 use Rattle.fstf.proofs.frame_flat.Reads as frame-flat-reads
 use Rattle.reading.proofs.frame.Reads as frame-reads
 
--- src/lib.rt:114:16
 frame-requires : tie.Need-frame-requires
 frame-requires c κs = search needs
 
--- src/lib.rt:114:5
 frame-flat-requires : tie.Need-frame-flat-requires
 frame-flat-requires c κs = search needs
 
--- src/lib.rt:110:1
 returns : tie.Need-returns
 returns c = search laws
 

@@ -7,15 +7,12 @@ use Rattle.fstf.proofs.fstf_new.Lts as lts
 use Rattle.fstf.proofs.recorder_flat.Reads as recorder-flat-reads
 use Rattle.recorder.proofs.Recorder.new.Reads as new-reads
 
--- src/lib.rt:313:19
 new-requires : tie.Need-new-requires
 new-requires c κs = search needs
 
--- src/lib.rt:313:5
 recorder-flat-requires : tie.Need-recorder-flat-requires
 recorder-flat-requires c κs = search needs
 
--- src/lib.rt:309:1
 returns : tie.Need-returns
 returns c = search laws
 

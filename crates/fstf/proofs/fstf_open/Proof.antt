@@ -7,15 +7,12 @@ use Rattle.fstf.proofs.fstf_open.Lts as lts
 use Rattle.fstf.proofs.opened_flat.Reads as opened-flat-reads
 use Rattle.opening.proofs.open.Reads as open-reads
 
--- src/lib.rt:69:17
 open-requires : tie.Need-open-requires
 open-requires c κs = search needs
 
--- src/lib.rt:69:5
 opened-flat-requires : tie.Need-opened-flat-requires
 opened-flat-requires c κs = search needs
 
--- src/lib.rt:65:1
 returns : tie.Need-returns
 returns c = search laws
 

@@ -8,19 +8,15 @@ use Rattle.fstf.proofs.item_asked.Reads as item-asked-reads
 use Rattle.fstf.proofs.part_flat.Reads as part-flat-reads
 use Rattle.reading.proofs.find.Reads as find-reads
 
--- src/lib.rt:177:35
 item-asked-requires : tie.Need-item-asked-requires
 item-asked-requires c κs = search needs
 
--- src/lib.rt:177:15
 find-requires : tie.Need-find-requires
 find-requires c κs = search needs
 
--- src/lib.rt:177:5
 part-flat-requires : tie.Need-part-flat-requires
 part-flat-requires c κs = search needs
 
--- src/lib.rt:173:1
 returns : tie.Need-returns
 returns c = search laws
 

@@ -7,19 +7,15 @@ use Rattle.fstf.proofs.fstf_repair.Lts as lts
 use Rattle.fstf.proofs.repaired_flat.Reads as repaired-flat-reads
 use Rattle.repair.proofs.repair.Reads as repair-reads
 
--- src/lib.rt:402:19
 repair-requires : tie.Need-repair-requires
 repair-requires c κs = search needs
 
--- src/lib.rt:402:5
 repaired-flat-requires : tie.Need-repaired-flat-requires
 repaired-flat-requires c κs = search needs
 
--- src/lib.rt:398:1
 same-length : tie.Need-same-length
 same-length c = search needs
 
--- src/lib.rt:398:1
 returns : tie.Need-returns
 returns c = search laws
 

@@ -7,19 +7,15 @@ use Rattle.fstf.proofs.fstf_save.Lts as lts
 use Rattle.fstf.proofs.saved_flat.Reads as saved-flat-reads
 use Rattle.saving.proofs.save.Reads as save-reads
 
--- src/lib.rt:441:16
 save-requires : tie.Need-save-requires
 save-requires c κs = search needs
 
--- src/lib.rt:441:5
 saved-flat-requires : tie.Need-saved-flat-requires
 saved-flat-requires c κs = search needs
 
--- src/lib.rt:437:1
 same-length : tie.Need-same-length
 same-length c = search needs
 
--- src/lib.rt:437:1
 returns : tie.Need-returns
 returns c = search laws
 

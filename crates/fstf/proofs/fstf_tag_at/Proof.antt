@@ -7,15 +7,12 @@ use Rattle.fstf.proofs.fstf_tag_at.Lts as lts
 use Rattle.browser.proofs.tag_at.Reads as tag-at-reads
 use Rattle.fstf.proofs.tag_flat.Reads as tag-flat-reads
 
--- src/lib.rt:497:14
 tag-at-requires : tie.Need-tag-at-requires
 tag-at-requires c κs = search needs
 
--- src/lib.rt:497:5
 tag-flat-requires : tie.Need-tag-flat-requires
 tag-flat-requires c κs = search needs
 
--- src/lib.rt:493:1
 returns : tie.Need-returns
 returns c = search laws
 

@@ -7,15 +7,12 @@ use Rattle.fstf.proofs.fstf_tag_named.Lts as lts
 use Rattle.browser.proofs.tag_named.Reads as tag-named-reads
 use Rattle.fstf.proofs.tag_flat.Reads as tag-flat-reads
 
--- src/lib.rt:504:14
 tag-named-requires : tie.Need-tag-named-requires
 tag-named-requires c κs = search needs
 
--- src/lib.rt:504:5
 tag-flat-requires : tie.Need-tag-flat-requires
 tag-flat-requires c κs = search needs
 
--- src/lib.rt:500:1
 returns : tie.Need-returns
 returns c = search laws
 

@@ -4,35 +4,27 @@ use Rattle.fstf.proofs.item_asked.Tie as tie
 use Rattle.fstf.proofs.item_asked.Reads as reads
 use Rattle.fstf.proofs.item_asked.Lts as lts
 
--- src/lib.rt:150:9
 returns : tie.Need-returns
 returns c = search laws
 
--- src/lib.rt:153:9
 returns-2 : tie.Need-returns-2
 returns-2 c = search laws
 
--- src/lib.rt:156:9
 returns-3 : tie.Need-returns-3
 returns-3 c = search laws
 
--- src/lib.rt:159:9
 returns-4 : tie.Need-returns-4
 returns-4 c = search laws
 
--- src/lib.rt:162:9
 returns-5 : tie.Need-returns-5
 returns-5 c = search laws
 
--- src/lib.rt:165:9
 returns-6 : tie.Need-returns-6
 returns-6 c = search laws
 
--- src/lib.rt:168:9
 returns-7 : tie.Need-returns-7
 returns-7 c = search laws
 
--- src/lib.rt:146:1
 returns-8 : tie.Need-returns-8
 returns-8 c = search laws
 

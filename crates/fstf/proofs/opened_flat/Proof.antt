@@ -5,23 +5,18 @@ use Rattle.fstf.proofs.opened_flat.Tie as tie
 use Rattle.fstf.proofs.opened_flat.Reads as reads
 use Rattle.fstf.proofs.opened_flat.Lts as lts
 
--- src/lib.rt:42:25
 enum-known-answer : tie.Need-enum-known-answer
 enum-known-answer c = search needs
 
--- src/lib.rt:52:26
 enum-known-answer-2 : tie.Need-enum-known-answer-2
 enum-known-answer-2 c = search needs
 
--- src/lib.rt:53:22
 cast-t12 : tie.Need-cast-t12
 cast-t12 c = search needs
 
--- src/lib.rt:38:1
 returns : tie.Need-returns
 returns c = search laws
 
--- src/lib.rt:38:1
 returns-2 : tie.Need-returns-2
 returns-2 c = search laws
 

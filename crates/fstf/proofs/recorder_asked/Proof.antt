@@ -6,11 +6,9 @@ use Rattle.fstf.proofs.recorder_asked.Reads as reads
 use Rattle.fstf.proofs.recorder_asked.Lts as lts
 use Rattle.fstf.proofs.stage_asked.Reads as stage-asked-reads
 
--- src/lib.rt:233:9
 stage-asked-requires : tie.Need-stage-asked-requires
 stage-asked-requires c κs = search needs
 
--- src/lib.rt:230:1
 returns : tie.Need-returns
 returns c = search laws
 

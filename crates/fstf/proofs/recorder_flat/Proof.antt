@@ -7,15 +7,12 @@ use Rattle.fstf.proofs.recorder_flat.Lts as lts
 use Rattle.fstf.proofs.piece_number.Reads as piece-number-reads
 use Rattle.fstf.proofs.stage_number.Reads as stage-number-reads
 
--- src/lib.rt:271:16
 stage-number-requires : tie.Need-stage-number-requires
 stage-number-requires c κs = search needs
 
--- src/lib.rt:272:16
 piece-number-requires : tie.Need-piece-number-requires
 piece-number-requires c κs = search needs
 
--- src/lib.rt:266:1
 returns : tie.Need-returns
 returns c = search laws
 

@@ -5,23 +5,18 @@ use Rattle.fstf.proofs.repaired_flat.Tie as tie
 use Rattle.fstf.proofs.repaired_flat.Reads as reads
 use Rattle.fstf.proofs.repaired_flat.Lts as lts
 
--- src/lib.rt:374:13
 enum-known-answer : tie.Need-enum-known-answer
 enum-known-answer c = search needs
 
--- src/lib.rt:387:27
 enum-known-answer-2 : tie.Need-enum-known-answer-2
 enum-known-answer-2 c = search needs
 
--- src/lib.rt:388:22
 cast-t14 : tie.Need-cast-t14
 cast-t14 c = search needs
 
--- src/lib.rt:369:1
 returns : tie.Need-returns
 returns c = search laws
 
--- src/lib.rt:369:1
 returns-2 : tie.Need-returns-2
 returns-2 c = search laws
 

@@ -5,31 +5,24 @@ use Rattle.fstf.proofs.saved_flat.Tie as tie
 use Rattle.fstf.proofs.saved_flat.Reads as reads
 use Rattle.fstf.proofs.saved_flat.Lts as lts
 
--- src/lib.rt:419:22
 enum-known-answer : tie.Need-enum-known-answer
 enum-known-answer c = search needs
 
--- src/lib.rt:424:24
 enum-known-answer-2 : tie.Need-enum-known-answer-2
 enum-known-answer-2 c = search needs
 
--- src/lib.rt:425:22
 cast-t7 : tie.Need-cast-t7
 cast-t7 c = search needs
 
--- src/lib.rt:429:25
 enum-known-answer-3 : tie.Need-enum-known-answer-3
 enum-known-answer-3 c = search needs
 
--- src/lib.rt:415:1
 returns : tie.Need-returns
 returns c = search laws
 
--- src/lib.rt:415:1
 returns-2 : tie.Need-returns-2
 returns-2 c = search laws
 
--- src/lib.rt:415:1
 returns-3 : tie.Need-returns-3
 returns-3 c = search laws
 

@@ -6,23 +6,18 @@ use Rattle.fstf.proofs.stage_asked.Reads as reads
 use Rattle.fstf.proofs.stage_asked.Lts as lts
 use Rattle.fstf.proofs.closing_at.Reads as closing-at-reads
 
--- src/lib.rt:219:9
 returns : tie.Need-returns
 returns c = search laws
 
--- src/lib.rt:222:9
 returns-2 : tie.Need-returns-2
 returns-2 c = search laws
 
--- src/lib.rt:225:9
 closing-at-requires : tie.Need-closing-at-requires
 closing-at-requires c κs = search needs
 
--- src/lib.rt:225:9
 returns-3 : tie.Need-returns-3
 returns-3 c = search laws
 
--- src/lib.rt:215:1
 returns-4 : tie.Need-returns-4
 returns-4 c = search laws
 

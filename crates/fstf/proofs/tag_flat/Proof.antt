@@ -5,31 +5,24 @@ use Rattle.fstf.proofs.tag_flat.Tie as tie
 use Rattle.fstf.proofs.tag_flat.Reads as reads
 use Rattle.fstf.proofs.tag_flat.Lts as lts
 
--- src/lib.rt:462:13
 enum-known-answer : tie.Need-enum-known-answer
 enum-known-answer c = search needs
 
--- src/lib.rt:474:25
 enum-told : tie.Need-enum-told
 enum-told c = search needs
 
--- src/lib.rt:482:26
 enum-known-answer-2 : tie.Need-enum-known-answer-2
 enum-known-answer-2 c = search needs
 
--- src/lib.rt:483:22
 cast-t12 : tie.Need-cast-t12
 cast-t12 c = search needs
 
--- src/lib.rt:457:1
 returns : tie.Need-returns
 returns c = search laws
 
--- src/lib.rt:457:1
 returns-2 : tie.Need-returns-2
 returns-2 c = search laws
 
--- src/lib.rt:457:1
 returns-3 : tie.Need-returns-3
 returns-3 c = search laws
 

@@ -5,15 +5,12 @@ use Rattle.listing.proofs.magnitude.Tie as tie
 use Rattle.listing.proofs.magnitude.Reads as reads
 use Rattle.listing.proofs.magnitude.Lts as lts
 
--- src/main.rt:26:42
 add-result : tie.Need-add-result
 add-result c = search needs
 
--- src/main.rt:23:1
 returns : tie.Need-returns
 returns c = search laws
 
--- src/main.rt:23:1
 returns-2 : tie.Need-returns-2
 returns-2 c = search laws
 

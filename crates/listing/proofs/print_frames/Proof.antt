@@ -14,43 +14,33 @@ Inv-loop file held i₀ i = i ≤ held .frames
 abbrev μ-loop : tie.MeasureT-loop
 μ-loop file held i₀ i = held .frames - i
 
--- src/main.rt:59:5
 loop-holds : tie.Need-loop-holds Inv-loop μ-loop
 loop-holds c = search laws
 
--- src/main.rt:60:13
 frame-of-requires : tie.Need-frame-of-requires Inv-loop μ-loop
 frame-of-requires c κs = search laws
 
--- src/main.rt:63:17
 enum-known-read : tie.Need-enum-known-read Inv-loop μ-loop
 enum-known-read c = search laws
 
--- src/main.rt:67:18
 print-frame-requires : tie.Need-print-frame-requires Inv-loop μ-loop
 print-frame-requires c κs = search laws
 
--- src/main.rt:68:32
 enum-known-read-2 : tie.Need-enum-known-read-2 Inv-loop μ-loop
 enum-known-read-2 c = search laws
 
--- src/main.rt:68:43
 print-refused-requires : tie.Need-print-refused-requires Inv-loop μ-loop
 print-refused-requires c κs = search laws
 
--- src/main.rt:70:9
 add-i : tie.Need-add-i Inv-loop μ-loop
 add-i c = search laws
 
--- src/main.rt:59:5
 loop-less : tie.Need-loop-less Inv-loop μ-loop
 loop-less c = search laws
 
--- src/main.rt:59:5
 loop-again : tie.Need-loop-again Inv-loop μ-loop
 loop-again c = search laws
 
--- src/main.rt:57:1
 returns : tie.Need-returns Inv-loop μ-loop
 returns c = search laws
 

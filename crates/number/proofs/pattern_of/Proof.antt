@@ -7,19 +7,15 @@ use Rattle.number.proofs.pattern_of.Tie as tie
 use Rattle.number.proofs.pattern_of.Reads as reads
 use Rattle.number.proofs.pattern_of.Lts as lts
 
--- src/lib.rt:61:9
 cast-result : tie.Need-cast-result
 cast-result c = positive-casts (ofZ w64 (c .before .args .time)) (c .if1 .taken)
 
--- src/lib.rt:63:11
 cast-result-2 : tie.Need-cast-result-2
 cast-result-2 c = negative-casts (ofZ w64 (c .before .args .time)) (c .if1 .left)
 
--- src/lib.rt:57:1
 returns : tie.Need-returns
 returns c = positive-cast (ofZ w64 (c .before .args .time)) (c .if1 .taken)
 
--- src/lib.rt:57:1
 returns-2 : tie.Need-returns-2
 returns-2 c = negative-cast (ofZ w64 (c .before .args .time)) (fits-ofZ (c .before .fits .time) .fits) (c .if1 .left)
 

@@ -15,59 +15,45 @@ Inv-loop s at w n₀ left₀ n left = (w ≤ 8) × (at + w ≤ length s) × (lef
 abbrev μ-loop : tie.MeasureT-loop
 μ-loop s at w n₀ left₀ n left = left
 
--- src/lib.rt:20:9
 returns : tie.Need-returns Inv-loop μ-loop
 returns c = search laws
 
--- src/lib.rt:23:9
 returns-2 : tie.Need-returns-2 Inv-loop μ-loop
 returns-2 c = search laws
 
--- src/lib.rt:25:8
 sub-if3 : tie.Need-sub-if3 Inv-loop μ-loop
 sub-if3 c = search laws
 
--- src/lib.rt:26:9
 returns-3 : tie.Need-returns-3 Inv-loop μ-loop
 returns-3 c = search laws
 
--- src/lib.rt:30:5
 loop-holds : tie.Need-loop-holds Inv-loop μ-loop
 loop-holds c = search laws
 
--- src/lib.rt:31:9
 sub-left : tie.Need-sub-left Inv-loop μ-loop
 sub-left c = search laws
 
--- src/lib.rt:32:13
 mul-n : tie.Need-mul-n Inv-loop μ-loop
 mul-n c = search laws
 
--- src/lib.rt:32:30
 add-wide : tie.Need-add-wide Inv-loop μ-loop
 add-wide c = search laws
 
--- src/lib.rt:32:28
 shared-slice-read-wide : tie.Need-shared-slice-read-wide Inv-loop μ-loop
 shared-slice-read-wide c = search laws
 
--- src/lib.rt:32:23
 wide-requires : tie.Need-wide-requires Inv-loop μ-loop
 wide-requires c κs = search laws
 
--- src/lib.rt:32:13
 add-n : tie.Need-add-n Inv-loop μ-loop
 add-n c = search laws
 
--- src/lib.rt:30:5
 loop-less : tie.Need-loop-less Inv-loop μ-loop
 loop-less c = search laws
 
--- src/lib.rt:30:5
 loop-again : tie.Need-loop-again Inv-loop μ-loop
 loop-again c = search laws
 
--- src/lib.rt:16:1
 returns-4 : tie.Need-returns-4 Inv-loop μ-loop
 returns-4 c = search laws
 

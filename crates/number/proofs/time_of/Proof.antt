@@ -5,19 +5,15 @@ use Rattle.number.proofs.time_of.Tie as tie
 use Rattle.number.proofs.time_of.Reads as reads
 use Rattle.number.proofs.time_of.Lts as lts
 
--- src/lib.rt:72:9
 cast-result : tie.Need-cast-result
 cast-result c = search needs
 
--- src/lib.rt:74:11
 cast-result-2 : tie.Need-cast-result-2
 cast-result-2 c = search needs
 
--- src/lib.rt:68:1
 returns : tie.Need-returns
 returns c = search needs
 
--- src/lib.rt:68:1
 returns-2 : tie.Need-returns-2
 returns-2 c = pattern-again (c .before .args .pattern) (c .before .fits .pattern .fits)
 

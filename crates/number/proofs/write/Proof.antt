@@ -15,51 +15,39 @@ Inv-loop out₀ at w n rest₀ i₀ out rest i = (i ≤ w) × (at + w ≤ length
 abbrev μ-loop : tie.MeasureT-loop
 μ-loop out₀ at w n rest₀ i₀ out rest i = w - i
 
--- src/lib.rt:42:9
 returns : tie.Need-returns Inv-loop μ-loop
 returns c = search laws
 
--- src/lib.rt:44:8
 sub-if2 : tie.Need-sub-if2 Inv-loop μ-loop
 sub-if2 c = search laws
 
--- src/lib.rt:45:9
 returns-2 : tie.Need-returns-2 Inv-loop μ-loop
 returns-2 c = search laws
 
--- src/lib.rt:49:5
 loop-holds : tie.Need-loop-holds Inv-loop μ-loop
 loop-holds c = search laws
 
--- src/lib.rt:50:23
 cast-out : tie.Need-cast-out Inv-loop μ-loop
 cast-out c = search laws
 
--- src/lib.rt:50:13
 add-out : tie.Need-add-out Inv-loop μ-loop
 add-out c = search laws
 
--- src/lib.rt:50:9
 slice-write-out : tie.Need-slice-write-out Inv-loop μ-loop
 slice-write-out c = search laws
 
--- src/lib.rt:52:9
 add-i : tie.Need-add-i Inv-loop μ-loop
 add-i c = search laws
 
--- src/lib.rt:49:5
 loop-less : tie.Need-loop-less Inv-loop μ-loop
 loop-less c = search laws
 
--- src/lib.rt:49:5
 loop-again : tie.Need-loop-again Inv-loop μ-loop
 loop-again c = search laws
 
--- src/lib.rt:38:1
 same-length : tie.Need-same-length Inv-loop μ-loop
 same-length c = search laws
 
--- src/lib.rt:38:1
 returns-3 : tie.Need-returns-3 Inv-loop μ-loop
 returns-3 c = search laws
 

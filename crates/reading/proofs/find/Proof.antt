@@ -8,31 +8,24 @@ use Rattle.opening.proofs.open.Reads as open-reads
 use Rattle.reading.proofs.held_item.Reads as held-item-reads
 use Rattle.opening.proofs.open_refusal.Reads as open-refusal-reads
 
--- src/lib.rt:195:9
 open-requires : tie.Need-open-requires
 open-requires c κs = search needs
 
--- src/lib.rt:196:25
 enum-known-opening : tie.Need-enum-known-opening
 enum-known-opening c = search needs
 
--- src/lib.rt:197:31
 enum-told : tie.Need-enum-told
 enum-told c = search needs
 
--- src/lib.rt:197:31
 open-refusal-requires : tie.Need-open-refusal-requires
 open-refusal-requires c κs = search needs
 
--- src/lib.rt:197:9
 returns : tie.Need-returns
 returns c = search laws
 
--- src/lib.rt:199:5
 held-item-requires : tie.Need-held-item-requires
 held-item-requires c κs = search laws
 
--- src/lib.rt:192:1
 returns-2 : tie.Need-returns-2
 returns-2 c = search laws
 

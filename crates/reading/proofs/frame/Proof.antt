@@ -8,31 +8,24 @@ use Rattle.opening.proofs.open.Reads as open-reads
 use Rattle.reading.proofs.frame_of.Reads as frame-of-reads
 use Rattle.opening.proofs.open_refusal.Reads as open-refusal-reads
 
--- src/lib.rt:275:9
 open-requires : tie.Need-open-requires
 open-requires c κs = search needs
 
--- src/lib.rt:276:25
 enum-known-opening : tie.Need-enum-known-opening
 enum-known-opening c = search needs
 
--- src/lib.rt:277:35
 enum-told : tie.Need-enum-told
 enum-told c = search needs
 
--- src/lib.rt:277:35
 open-refusal-requires : tie.Need-open-refusal-requires
 open-refusal-requires c κs = search needs
 
--- src/lib.rt:277:9
 returns : tie.Need-returns
 returns c = search laws
 
--- src/lib.rt:279:5
 frame-of-requires : tie.Need-frame-of-requires
 frame-of-requires c κs = search needs
 
--- src/lib.rt:272:1
 returns-2 : tie.Need-returns-2
 returns-2 c = search laws
 

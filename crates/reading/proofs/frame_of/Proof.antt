@@ -8,51 +8,39 @@ use Rattle.number.proofs.time_of.Reads as time-of-reads
 use Rattle.opening.proofs.frame_at.Reads as frame-at-reads
 use Rattle.reading.proofs.frame_place.Reads as frame-place-reads
 
--- src/lib.rt:256:9
 returns : tie.Need-returns
 returns c = search laws
 
--- src/lib.rt:259:9
 returns-2 : tie.Need-returns-2
 returns-2 c = search laws
 
--- src/lib.rt:262:9
 returns-3 : tie.Need-returns-3
 returns-3 c = search laws
 
--- src/lib.rt:264:9
 frame-place-requires : tie.Need-frame-place-requires
 frame-place-requires c κs = search needs
 
--- src/lib.rt:265:9
 frame-at-requires : tie.Need-frame-at-requires
 frame-at-requires c κs = search needs
 
--- src/lib.rt:267:9
 enum-known-found : tie.Need-enum-known-found
 enum-known-found c = search needs
 
--- src/lib.rt:272:9
 enum-told : tie.Need-enum-told
 enum-told c = search needs
 
--- src/lib.rt:272:9
 returns-4 : tie.Need-returns-4
 returns-4 c = search laws
 
--- src/lib.rt:276:17
 sub-t11 : tie.Need-sub-t11
 sub-t11 c = search laws
 
--- src/lib.rt:277:15
 time-of-requires : tie.Need-time-of-requires
 time-of-requires c κs = search needs
 
--- src/lib.rt:278:19
 cast-t13 : tie.Need-cast-t13
 cast-t13 c = search laws
 
--- src/lib.rt:252:1
 returns-5 : tie.Need-returns-5
 returns-5 c = search laws
 

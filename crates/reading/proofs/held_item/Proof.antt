@@ -11,103 +11,78 @@ use Rattle.reading.proofs.name_of.Reads as name-of-reads
 use Rattle.reading.proofs.value_of.Reads as value-of-reads
 use Rattle.text.proofs.tag_found.Reads as tag-found-reads
 
--- src/lib.rt:177:23
 enum-known-item : tie.Need-enum-known-item
 enum-known-item c = search needs
 
--- src/lib.rt:177:32
 section-requires : tie.Need-section-requires
 section-requires c κs = search laws
 
--- src/lib.rt:178:27
 enum-known-item-2 : tie.Need-enum-known-item-2
 enum-known-item-2 c = search needs
 
--- src/lib.rt:178:33
 section-name-requires : tie.Need-section-name-requires
 section-name-requires c κs = search laws
 
--- src/lib.rt:179:29
 enum-known-item-3 : tie.Need-enum-known-item-3
 enum-known-item-3 c = search needs
 
--- src/lib.rt:179:35
 configuration-requires : tie.Need-configuration-requires
 configuration-requires c κs = search laws
 
--- src/lib.rt:180:26
 enum-known-item-4 : tie.Need-enum-known-item-4
 enum-known-item-4 c = search needs
 
--- src/lib.rt:180:40
 tag-found-requires : tie.Need-tag-found-requires
 tag-found-requires c κs = search needs
 
--- src/lib.rt:180:32
 name-of-requires : tie.Need-name-of-requires
 name-of-requires c κs = search needs
 
--- src/lib.rt:181:27
 enum-known-item-5 : tie.Need-enum-known-item-5
 enum-known-item-5 c = search needs
 
--- src/lib.rt:181:42
 tag-found-requires-2 : tie.Need-tag-found-requires-2
 tag-found-requires-2 c κs = search needs
 
--- src/lib.rt:181:33
 value-of-requires : tie.Need-value-of-requires
 value-of-requires c κs = search needs
 
--- src/lib.rt:182:24
 enum-known-item-6 : tie.Need-enum-known-item-6
 enum-known-item-6 c = search needs
 
--- src/lib.rt:182:38
 tag-found-requires-3 : tie.Need-tag-found-requires-3
 tag-found-requires-3 c κs = search needs
 
--- src/lib.rt:182:30
 name-of-requires-2 : tie.Need-name-of-requires-2
 name-of-requires-2 c κs = search needs
 
--- src/lib.rt:183:25
 enum-known-item-7 : tie.Need-enum-known-item-7
 enum-known-item-7 c = search needs
 
--- src/lib.rt:183:40
 tag-found-requires-4 : tie.Need-tag-found-requires-4
 tag-found-requires-4 c κs = search needs
 
--- src/lib.rt:183:31
 value-of-requires-2 : tie.Need-value-of-requires-2
 value-of-requires-2 c κs = search needs
 
--- src/lib.rt:172:1
 returns : tie.Need-returns
 returns c = search laws
 
--- src/lib.rt:172:1
 returns-2 : tie.Need-returns-2
 returns-2 c = search laws
 
--- src/lib.rt:172:1
 returns-3 : tie.Need-returns-3
 returns-3 c = search laws
 
--- src/lib.rt:172:1
 returns-4 : tie.Need-returns-4
 returns-4 c = search laws
 
--- src/lib.rt:172:1
 returns-5 : tie.Need-returns-5
 returns-5 c = search laws
 
--- src/lib.rt:172:1
 returns-6 : tie.Need-returns-6
 returns-6 c = search laws
 
--- src/lib.rt:172:1
 returns-7 : tie.Need-returns-7
 returns-7 c = search laws
 

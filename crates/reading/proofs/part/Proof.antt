@@ -6,43 +6,33 @@ use Rattle.reading.proofs.part.Reads as reads
 use Rattle.reading.proofs.part.Lts as lts
 use Rattle.reading.proofs.find.Reads as find-reads
 
--- src/lib.rt:216:9
 find-requires : tie.Need-find-requires
 find-requires c κs = search needs
 
--- src/lib.rt:217:21
 enum-known-found : tie.Need-enum-known-found
 enum-known-found c = search needs
 
--- src/lib.rt:218:16
 enum-told : tie.Need-enum-told
 enum-told c = search needs
 
--- src/lib.rt:218:9
 slice-aggregate-result : tie.Need-slice-aggregate-result
 slice-aggregate-result c = search needs
 
--- src/lib.rt:218:9
 returns : tie.Need-returns
 returns c = search laws
 
--- src/lib.rt:220:15
 add-end : tie.Need-add-end
 add-end c = search laws
 
--- src/lib.rt:221:5
 sub-result : tie.Need-sub-result
 sub-result c = search needs
 
--- src/lib.rt:221:5
 part-result-start : tie.Need-part-result-start
 part-result-start c = search needs
 
--- src/lib.rt:221:5
 part-result-end : tie.Need-part-result-end
 part-result-end c = search laws
 
--- src/lib.rt:213:1
 returns-2 : tie.Need-returns-2
 returns-2 c = search laws
 

@@ -7,15 +7,12 @@ use Rattle.reading.proofs.refusal.Lts as lts
 use Rattle.reading.proofs.find.Reads as find-reads
 use Rattle.reading.proofs.number_of.Reads as number-of-reads
 
--- src/lib.rt:237:15
 find-requires : tie.Need-find-requires
 find-requires c κs = search needs
 
--- src/lib.rt:237:5
 number-of-requires : tie.Need-number-of-requires
 number-of-requires c κs = search needs
 
--- src/lib.rt:234:1
 returns : tie.Need-returns
 returns c = search laws
 

@@ -8,67 +8,51 @@ use Rattle.opening.proofs.sized.Reads as sized-reads
 use Rattle.opening.proofs.sized_sections.Reads as sized-sections-reads
 use Rattle.reading.proofs.frame_place.Reads as frame-place-reads
 
--- src/lib.rt:158:9
 returns : tie.Need-returns
 returns c = search laws
 
--- src/lib.rt:161:9
 returns-2 : tie.Need-returns-2
 returns-2 c = search laws
 
--- src/lib.rt:163:9
 frame-place-requires : tie.Need-frame-place-requires
 frame-place-requires c κs = search laws
 
--- src/lib.rt:164:47
 add-sized-sections : tie.Need-add-sized-sections
 add-sized-sections c = search laws
 
--- src/lib.rt:164:9
 sized-sections-requires : tie.Need-sized-sections-requires
 sized-sections-requires c κs = search needs
 
--- src/lib.rt:165:20
 enum-known-ahead : tie.Need-enum-known-ahead
 enum-known-ahead c = search needs
 
--- src/lib.rt:166:9
 enum-told : tie.Need-enum-told
 enum-told c = search needs
 
--- src/lib.rt:166:9
 returns-3 : tie.Need-returns-3
 returns-3 c = search laws
 
--- src/lib.rt:168:9
 sized-requires : tie.Need-sized-requires
 sized-requires c κs = search needs
 
--- src/lib.rt:169:20
 enum-known-found : tie.Need-enum-known-found
 enum-known-found c = search needs
 
--- src/lib.rt:170:9
 enum-told-2 : tie.Need-enum-told-2
 enum-told-2 c = search needs
 
--- src/lib.rt:170:9
 returns-4 : tie.Need-returns-4
 returns-4 c = search laws
 
--- src/lib.rt:173:16
 add-t14 : tie.Need-add-t14
 add-t14 c = search laws
 
--- src/lib.rt:174:14
 sub-t15 : tie.Need-sub-t15
 sub-t15 c = search laws
 
--- src/lib.rt:174:14
 sub-t16 : tie.Need-sub-t16
 sub-t16 c = search laws
 
--- src/lib.rt:146:1
 returns-5 : tie.Need-returns-5
 returns-5 c = search laws
 

@@ -7,51 +7,39 @@ use Rattle.reading.proofs.section_name.Lts as lts
 use Rattle.text.proofs.row_start.Reads as row-start-reads
 use Rattle.text.proofs.string.Reads as string-reads
 
--- src/lib.rt:42:9
 returns : tie.Need-returns
 returns c = search laws
 
--- src/lib.rt:44:39
 add-row-start : tie.Need-add-row-start
 add-row-start c = search needs
 
--- src/lib.rt:44:9
 row-start-requires : tie.Need-row-start-requires
 row-start-requires c κs = search needs
 
--- src/lib.rt:45:20
 enum-known-start : tie.Need-enum-known-start
 enum-known-start c = search needs
 
--- src/lib.rt:46:9
 enum-told : tie.Need-enum-told
 enum-told c = search needs
 
--- src/lib.rt:46:9
 returns-2 : tie.Need-returns-2
 returns-2 c = search laws
 
--- src/lib.rt:48:9
 string-requires : tie.Need-string-requires
 string-requires c κs = search needs
 
--- src/lib.rt:49:21
 enum-known-name : tie.Need-enum-known-name
 enum-known-name c = search needs
 
--- src/lib.rt:50:9
 enum-told-2 : tie.Need-enum-told-2
 enum-told-2 c = search needs
 
--- src/lib.rt:50:9
 returns-3 : tie.Need-returns-3
 returns-3 c = search laws
 
--- src/lib.rt:53:16
 add-t10 : tie.Need-add-t10
 add-t10 c = search laws
 
--- src/lib.rt:37:1
 returns-4 : tie.Need-returns-4
 returns-4 c = search laws
 

@@ -5,19 +5,15 @@ use Rattle.reading.proofs.value_of.Tie as tie
 use Rattle.reading.proofs.value_of.Reads as reads
 use Rattle.reading.proofs.value_of.Lts as lts
 
--- src/lib.rt:127:13
 enum-known-tag : tie.Need-enum-known-tag
 enum-known-tag c = search needs
 
--- src/lib.rt:133:30
 enum-told : tie.Need-enum-told
 enum-told c = search needs
 
--- src/lib.rt:120:1
 returns : tie.Need-returns
 returns c = search laws
 
--- src/lib.rt:120:1
 returns-2 : tie.Need-returns-2
 returns-2 c = search needs
 

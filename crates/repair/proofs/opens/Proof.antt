@@ -6,22 +6,18 @@ use Rattle.repair.proofs.opens.Reads as reads
 use Rattle.repair.proofs.opens.Lts as lts
 use Rattle.opening.proofs.open.Reads as open-reads
 
--- src/lib.rt:172:9
 open-requires : tie.Need-open-requires
 open-requires c κs = search needs
 
 enum-told : tie.Need-enum-told
 enum-told c = search needs
 
--- src/lib.rt:174:9
 enum-told-2 : tie.Need-enum-told-2
 enum-told-2 c = search needs
 
--- src/lib.rt:174:9
 returns : tie.Need-returns
 returns c = search laws
 
--- src/lib.rt:169:1
 returns-2 : tie.Need-returns-2
 returns-2 c = search laws
 

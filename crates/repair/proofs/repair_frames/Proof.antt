@@ -7,59 +7,45 @@ use Rattle.repair.proofs.repair_frames.Lts as lts
 use Rattle.repair.proofs.walk.Reads as walk-reads
 use Rattle.repair.proofs.write_tail.Reads as write-tail-reads
 
--- src/lib.rt:138:9
 walk-requires : tie.Need-walk-requires
 walk-requires c κs = search needs
 
--- src/lib.rt:139:27
 enum-known-walked : tie.Need-enum-known-walked
 enum-known-walked c = search needs
 
--- src/lib.rt:140:9
 enum-told : tie.Need-enum-told
 enum-told c = search needs
 
--- src/lib.rt:140:9
 returns : tie.Need-returns
 returns c = search laws
 
--- src/lib.rt:144:9
 returns-2 : tie.Need-returns-2
 returns-2 c = search laws
 
--- src/lib.rt:146:28
 mul-index-length : tie.Need-mul-index-length
 mul-index-length c = search laws
 
--- src/lib.rt:146:24
 add-index-length : tie.Need-add-index-length
 add-index-length c = search laws
 
--- src/lib.rt:147:16
 add-user : tie.Need-add-user
 add-user c = search laws
 
--- src/lib.rt:149:9
 returns-3 : tie.Need-returns-3
 returns-3 c = search laws
 
--- src/lib.rt:151:16
 add-tail : tie.Need-add-tail
 add-tail c = search needs
 
--- src/lib.rt:153:9
 returns-4 : tie.Need-returns-4
 returns-4 c = search laws
 
--- src/lib.rt:155:5
 write-tail-requires : tie.Need-write-tail-requires
 write-tail-requires c κs = search needs
 
--- src/lib.rt:134:1
 same-length : tie.Need-same-length
 same-length c = search needs
 
--- src/lib.rt:134:1
 returns-5 : tie.Need-returns-5
 returns-5 c = search laws
 

@@ -16,59 +16,45 @@ Inv-loop file sections start first count₀ place₀ last₀ left₀ count place
 abbrev μ-loop : tie.MeasureT-loop
 μ-loop file sections start first count₀ place₀ last₀ left₀ count place last left = left
 
--- src/lib.rt:25:36
 add-read : tie.Need-add-read Inv-loop μ-loop
 add-read c = search laws
 
--- src/lib.rt:25:9
 read-requires : tie.Need-read-requires Inv-loop μ-loop
 read-requires c κs = search laws
 
--- src/lib.rt:30:5
 loop-holds : tie.Need-loop-holds Inv-loop μ-loop
 loop-holds c = search laws
 
--- src/lib.rt:31:13
 frame-at-requires : tie.Need-frame-at-requires Inv-loop μ-loop
 frame-at-requires c κs = search laws
 
--- src/lib.rt:33:13
 enum-known-frame : tie.Need-enum-known-frame Inv-loop μ-loop
 enum-known-frame c = search laws
 
--- src/lib.rt:38:13
 enum-told : tie.Need-enum-told Inv-loop μ-loop
 enum-told c = search laws
 
--- src/lib.rt:38:13
 returns : tie.Need-returns Inv-loop μ-loop
 returns c = search laws
 
--- src/lib.rt:40:12
 follows-last-requires : tie.Need-follows-last-requires Inv-loop μ-loop
 follows-last-requires c κs = search laws
 
--- src/lib.rt:41:13
 returns-2 : tie.Need-returns-2 Inv-loop μ-loop
 returns-2 c = search laws
 
--- src/lib.rt:43:9
 add-count : tie.Need-add-count Inv-loop μ-loop
 add-count c = search laws
 
--- src/lib.rt:46:9
 sub-left : tie.Need-sub-left Inv-loop μ-loop
 sub-left c = search laws
 
--- src/lib.rt:30:5
 loop-less : tie.Need-loop-less Inv-loop μ-loop
 loop-less c = search laws
 
--- src/lib.rt:30:5
 loop-again : tie.Need-loop-again Inv-loop μ-loop
 loop-again c = search laws
 
--- src/lib.rt:20:1
 returns-3 : tie.Need-returns-3 Inv-loop μ-loop
 returns-3 c = search laws
 

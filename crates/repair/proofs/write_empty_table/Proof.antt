@@ -6,15 +6,12 @@ use Rattle.repair.proofs.write_empty_table.Reads as reads
 use Rattle.repair.proofs.write_empty_table.Lts as lts
 use Rattle.number.proofs.write.Reads as write-reads
 
--- src/lib.rt:109:5
 write-requires : tie.Need-write-requires
 write-requires c κs = search needs
 
--- src/lib.rt:105:1
 same-length : tie.Need-same-length
 same-length c = search needs
 
--- src/lib.rt:105:1
 returns : tie.Need-returns
 returns c = search laws
 

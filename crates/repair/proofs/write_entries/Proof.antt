@@ -17,59 +17,45 @@ Inv-loop file sections start first count out₀ place₀ entry₀ left₀ out pl
 abbrev μ-loop : tie.MeasureT-loop
 μ-loop file sections start first count out₀ place₀ entry₀ left₀ out place entry left = left
 
--- src/lib.rt:77:5
 loop-holds : tie.Need-loop-holds Inv-loop μ-loop
 loop-holds c = search laws
 
--- src/lib.rt:78:13
 frame-at-requires : tie.Need-frame-at-requires Inv-loop μ-loop
 frame-at-requires c κs = search laws
 
--- src/lib.rt:80:13
 enum-known-frame : tie.Need-enum-known-frame Inv-loop μ-loop
 enum-known-frame c = search laws
 
--- src/lib.rt:85:13
 enum-told : tie.Need-enum-told Inv-loop μ-loop
 enum-told c = search laws
 
--- src/lib.rt:85:13
 same-length : tie.Need-same-length Inv-loop μ-loop
 same-length c = search laws
 
--- src/lib.rt:85:13
 returns : tie.Need-returns Inv-loop μ-loop
 returns c = search laws
 
--- src/lib.rt:87:53
 sub-write-entry : tie.Need-sub-write-entry Inv-loop μ-loop
 sub-write-entry c = search laws
 
--- src/lib.rt:87:9
 write-entry-requires : tie.Need-write-entry-requires Inv-loop μ-loop
 write-entry-requires c κs = search laws
 
--- src/lib.rt:89:9
 add-entry : tie.Need-add-entry Inv-loop μ-loop
 add-entry c = search laws
 
--- src/lib.rt:90:9
 sub-left : tie.Need-sub-left Inv-loop μ-loop
 sub-left c = search laws
 
--- src/lib.rt:77:5
 loop-less : tie.Need-loop-less Inv-loop μ-loop
 loop-less c = search laws
 
--- src/lib.rt:77:5
 loop-again : tie.Need-loop-again Inv-loop μ-loop
 loop-again c = search laws
 
--- src/lib.rt:63:1
 same-length-2 : tie.Need-same-length-2 Inv-loop μ-loop
 same-length-2 c = search laws
 
--- src/lib.rt:63:1
 returns-2 : tie.Need-returns-2 Inv-loop μ-loop
 returns-2 c = search laws
 

@@ -7,35 +7,27 @@ use Rattle.repair.proofs.write_entry.Lts as lts
 use Rattle.number.proofs.write.Reads as write-reads
 use Rattle.opening.proofs.since.Reads as since-reads
 
--- src/lib.rt:57:31
 since-requires : tie.Need-since-requires
 since-requires c κs = search needs
 
--- src/lib.rt:57:5
 write-requires : tie.Need-write-requires
 write-requires c κs = search needs
 
--- src/lib.rt:58:24
 add-write : tie.Need-add-write
 add-write c = search needs
 
--- src/lib.rt:58:5
 write-requires-2 : tie.Need-write-requires-2
 write-requires-2 c κs = search needs
 
--- src/lib.rt:59:24
 add-write-2 : tie.Need-add-write-2
 add-write-2 c = search needs
 
--- src/lib.rt:59:5
 write-requires-3 : tie.Need-write-requires-3
 write-requires-3 c κs = search needs
 
--- src/lib.rt:53:1
 same-length : tie.Need-same-length
 same-length c = search needs
 
--- src/lib.rt:53:1
 returns : tie.Need-returns
 returns c = search laws
 

@@ -8,27 +8,21 @@ use Rattle.number.proofs.read.Reads as read-reads
 use Rattle.number.proofs.write.Reads as write-reads
 use Rattle.repair.proofs.write_entries.Reads as write-entries-reads
 
--- src/lib.rt:99:36
 add-read : tie.Need-add-read
 add-read c = search needs
 
--- src/lib.rt:99:9
 read-requires : tie.Need-read-requires
 read-requires c κs = search needs
 
--- src/lib.rt:100:5
 write-requires : tie.Need-write-requires
 write-requires c κs = search needs
 
--- src/lib.rt:101:5
 write-entries-requires : tie.Need-write-entries-requires
 write-entries-requires c κs = search needs
 
--- src/lib.rt:95:1
 same-length : tie.Need-same-length
 same-length c = search needs
 
--- src/lib.rt:95:1
 returns : tie.Need-returns
 returns c = search laws
 

@@ -8,51 +8,39 @@ use Rattle.saving.proofs.new_end.Reads as new-end-reads
 use Rattle.saving.proofs.seen_end.Reads as seen-end-reads
 use Rattle.text.proofs.tag_name.Reads as tag-name-reads
 
--- src/lib.rt:109:9
 tag-name-requires : tie.Need-tag-name-requires
 tag-name-requires c κs = search needs
 
--- src/lib.rt:110:21
 enum-known-name : tie.Need-enum-known-name
 enum-known-name c = search needs
 
--- src/lib.rt:111:9
 enum-told : tie.Need-enum-told
 enum-told c = search needs
 
--- src/lib.rt:111:9
 returns : tie.Need-returns
 returns c = search laws
 
--- src/lib.rt:113:28
 add-seen-end : tie.Need-add-seen-end
 add-seen-end c = search laws
 
--- src/lib.rt:113:28
 add-seen-end-2 : tie.Need-add-seen-end-2
 add-seen-end-2 c = search laws
 
--- src/lib.rt:113:9
 seen-end-requires : tie.Need-seen-end-requires
 seen-end-requires c κs = search needs
 
--- src/lib.rt:114:20
 enum-known-seen : tie.Need-enum-known-seen
 enum-known-seen c = search needs
 
--- src/lib.rt:115:9
 enum-told-2 : tie.Need-enum-told-2
 enum-told-2 c = search needs
 
--- src/lib.rt:115:9
 returns-2 : tie.Need-returns-2
 returns-2 c = search laws
 
--- src/lib.rt:117:5
 new-end-requires : tie.Need-new-end-requires
 new-end-requires c κs = search needs
 
--- src/lib.rt:106:1
 returns-3 : tie.Need-returns-3
 returns-3 c = search laws
 

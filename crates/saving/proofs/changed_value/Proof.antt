@@ -7,35 +7,27 @@ use Rattle.saving.proofs.changed_value.Lts as lts
 use Rattle.saving.proofs.new_value.Reads as new-value-reads
 use Rattle.text.proofs.row_at.Reads as row-at-reads
 
--- src/lib.rt:303:9
 row-at-requires : tie.Need-row-at-requires
 row-at-requires c κs = search needs
 
--- src/lib.rt:304:25
 enum-known-row : tie.Need-enum-known-row
 enum-known-row c = search needs
 
--- src/lib.rt:305:9
 enum-told : tie.Need-enum-told
 enum-told c = search needs
 
--- src/lib.rt:305:9
 returns : tie.Need-returns
 returns c = search laws
 
--- src/lib.rt:307:22
 add-new-value : tie.Need-add-new-value
 add-new-value c = search laws
 
--- src/lib.rt:307:22
 add-new-value-2 : tie.Need-add-new-value-2
 add-new-value-2 c = search laws
 
--- src/lib.rt:307:5
 new-value-requires : tie.Need-new-value-requires
 new-value-requires c κs = search needs
 
--- src/lib.rt:300:1
 returns-2 : tie.Need-returns-2
 returns-2 c = search laws
 

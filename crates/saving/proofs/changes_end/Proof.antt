@@ -16,39 +16,30 @@ Inv-loop s at n place₀ left₀ place left = endOf place (times left change (dr
 abbrev μ-loop : tie.MeasureT-loop
 μ-loop s at n place₀ left₀ place left = left
 
--- src/lib.rt:126:5
 loop-holds : tie.Need-loop-holds Inv-loop μ-loop
 loop-holds c = search laws
 
--- src/lib.rt:127:13
 change-end-requires : tie.Need-change-end-requires Inv-loop μ-loop
 change-end-requires c κs = search laws
 
--- src/lib.rt:128:24
 enum-known-found : tie.Need-enum-known-found Inv-loop μ-loop
 enum-known-found c = search laws
 
--- src/lib.rt:129:13
 enum-told : tie.Need-enum-told Inv-loop μ-loop
 enum-told c = search laws
 
--- src/lib.rt:129:13
 returns : tie.Need-returns Inv-loop μ-loop
 returns c = search laws
 
--- src/lib.rt:132:9
 sub-left : tie.Need-sub-left Inv-loop μ-loop
 sub-left c = search laws
 
--- src/lib.rt:126:5
 loop-less : tie.Need-loop-less Inv-loop μ-loop
 loop-less c = search laws
 
--- src/lib.rt:126:5
 loop-again : tie.Need-loop-again Inv-loop μ-loop
 loop-again c = search laws
 
--- src/lib.rt:121:1
 returns-2 : tie.Need-returns-2 Inv-loop μ-loop
 returns-2 c = search laws
 

@@ -8,47 +8,36 @@ use Rattle.number.proofs.read.Reads as read-reads
 use Rattle.saving.proofs.changes_end.Reads as changes-end-reads
 use Rattle.text.proofs.distinct_names.Reads as distinct-names-reads
 
--- src/lib.rt:142:9
 returns : tie.Need-returns
 returns c = search laws
 
--- src/lib.rt:144:9
 read-requires : tie.Need-read-requires
 read-requires c κs = search needs
 
--- src/lib.rt:147:9
 returns-2 : tie.Need-returns-2
 returns-2 c = search laws
 
--- src/lib.rt:149:9
 changes-end-requires : tie.Need-changes-end-requires
 changes-end-requires c κs = search needs
 
--- src/lib.rt:150:20
 enum-known-changes : tie.Need-enum-known-changes
 enum-known-changes c = search needs
 
--- src/lib.rt:151:9
 enum-told : tie.Need-enum-told
 enum-told c = search needs
 
--- src/lib.rt:151:9
 returns-3 : tie.Need-returns-3
 returns-3 c = search laws
 
--- src/lib.rt:154:9
 returns-4 : tie.Need-returns-4
 returns-4 c = search laws
 
--- src/lib.rt:156:8
 distinct-names-requires : tie.Need-distinct-names-requires
 distinct-names-requires c κs = search needs
 
--- src/lib.rt:138:1
 returns-5 : tie.Need-returns-5
 returns-5 c = search laws
 
--- src/lib.rt:138:1
 returns-6 : tie.Need-returns-6
 returns-6 c = search laws
 

@@ -15,51 +15,39 @@ Inv-loop table at n sheet changes place₀ passed₀ left₀ place passed left =
 abbrev μ-loop : tie.MeasureT-loop
 μ-loop table at n sheet changes place₀ passed₀ left₀ place passed left = left
 
--- src/lib.rt:265:5
 loop-holds : tie.Need-loop-holds Inv-loop μ-loop
 loop-holds c = search laws
 
--- src/lib.rt:266:13
 row-at-requires : tie.Need-row-at-requires Inv-loop μ-loop
 row-at-requires c κs = search laws
 
--- src/lib.rt:267:29
 enum-known-row : tie.Need-enum-known-row Inv-loop μ-loop
 enum-known-row c = search laws
 
--- src/lib.rt:268:13
 enum-told : tie.Need-enum-told Inv-loop μ-loop
 enum-told c = search laws
 
--- src/lib.rt:268:13
 returns : tie.Need-returns Inv-loop μ-loop
 returns c = search laws
 
--- src/lib.rt:270:12
 disagrees-requires : tie.Need-disagrees-requires Inv-loop μ-loop
 disagrees-requires c κs = search laws
 
--- src/lib.rt:271:13
 returns-2 : tie.Need-returns-2 Inv-loop μ-loop
 returns-2 c = search laws
 
--- src/lib.rt:274:9
 add-passed : tie.Need-add-passed Inv-loop μ-loop
 add-passed c = search laws
 
--- src/lib.rt:275:9
 sub-left : tie.Need-sub-left Inv-loop μ-loop
 sub-left c = search laws
 
--- src/lib.rt:265:5
 loop-less : tie.Need-loop-less Inv-loop μ-loop
 loop-less c = search laws
 
--- src/lib.rt:265:5
 loop-again : tie.Need-loop-again Inv-loop μ-loop
 loop-again c = search laws
 
--- src/lib.rt:259:1
 returns-3 : tie.Need-returns-3 Inv-loop μ-loop
 returns-3 c = search laws
 

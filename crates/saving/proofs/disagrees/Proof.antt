@@ -8,43 +8,33 @@ use Rattle.saving.proofs.entry_value.Reads as entry-value-reads
 use Rattle.saving.proofs.look_up.Reads as look-up-reads
 use Rattle.saving.proofs.same_value.Reads as same-value-reads
 
--- src/lib.rt:245:16
 add-seen : tie.Need-add-seen
 add-seen c = search needs
 
--- src/lib.rt:245:16
 add-seen-2 : tie.Need-add-seen-2
 add-seen-2 c = search needs
 
--- src/lib.rt:246:12
 shared-slice-read-if1 : tie.Need-shared-slice-read-if1
 shared-slice-read-if1 c = search needs
 
--- src/lib.rt:247:9
 returns : tie.Need-returns
 returns c = search laws
 
--- src/lib.rt:249:9
 entry-value-requires : tie.Need-entry-value-requires
 entry-value-requires c κs = search needs
 
--- src/lib.rt:250:30
 add-look-up : tie.Need-add-look-up
 add-look-up c = search needs
 
--- src/lib.rt:250:9
 look-up-requires : tie.Need-look-up-requires
 look-up-requires c κs = search needs
 
--- src/lib.rt:251:8
 same-value-requires : tie.Need-same-value-requires
 same-value-requires c κs = search needs
 
--- src/lib.rt:241:1
 returns-2 : tie.Need-returns-2
 returns-2 c = search laws
 
--- src/lib.rt:241:1
 returns-3 : tie.Need-returns-3
 returns-3 c = search laws
 

@@ -6,39 +6,30 @@ use Rattle.saving.proofs.entry_end.Reads as reads
 use Rattle.saving.proofs.entry_end.Lts as lts
 use Rattle.text.proofs.tag_value.Reads as tag-value-reads
 
--- src/lib.rt:70:9
 returns : tie.Need-returns
 returns c = search laws
 
--- src/lib.rt:73:13
 tag-value-requires : tie.Need-tag-value-requires
 tag-value-requires c κs = search needs
 
--- src/lib.rt:74:25
 enum-known-value : tie.Need-enum-known-value
 enum-known-value c = search needs
 
--- src/lib.rt:75:13
 enum-told : tie.Need-enum-told
 enum-told c = search needs
 
--- src/lib.rt:75:13
 returns-2 : tie.Need-returns-2
 returns-2 c = search laws
 
--- src/lib.rt:77:27
 add-t7 : tie.Need-add-t7
 add-t7 c = search laws
 
--- src/lib.rt:77:27
 add-t8 : tie.Need-add-t8
 add-t8 c = search laws
 
--- src/lib.rt:77:9
 returns-3 : tie.Need-returns-3
 returns-3 c = search laws
 
--- src/lib.rt:66:1
 returns-4 : tie.Need-returns-4
 returns-4 c = search laws
 

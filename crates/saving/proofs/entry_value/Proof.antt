@@ -6,43 +6,33 @@ use Rattle.saving.proofs.entry_value.Reads as reads
 use Rattle.saving.proofs.entry_value.Lts as lts
 use Rattle.text.proofs.string.Reads as string-reads
 
--- src/lib.rt:168:9
 returns : tie.Need-returns
 returns c = search laws
 
--- src/lib.rt:170:8
 shared-slice-read-if2 : tie.Need-shared-slice-read-if2
 shared-slice-read-if2 c = search needs
 
--- src/lib.rt:171:36
 add-string : tie.Need-add-string
 add-string c = search needs
 
--- src/lib.rt:171:13
 string-requires : tie.Need-string-requires
 string-requires c κs = search needs
 
--- src/lib.rt:172:25
 enum-known-text : tie.Need-enum-known-text
 enum-known-text c = search needs
 
--- src/lib.rt:173:13
 enum-told : tie.Need-enum-told
 enum-told c = search needs
 
--- src/lib.rt:173:13
 returns-2 : tie.Need-returns-2
 returns-2 c = search laws
 
--- src/lib.rt:175:26
 add-t9 : tie.Need-add-t9
 add-t9 c = search needs
 
--- src/lib.rt:175:9
 returns-3 : tie.Need-returns-3
 returns-3 c = search laws
 
--- src/lib.rt:164:1
 returns-4 : tie.Need-returns-4
 returns-4 c = search laws
 

@@ -5,19 +5,15 @@ use Rattle.saving.proofs.is_nothing.Tie as tie
 use Rattle.saving.proofs.is_nothing.Reads as reads
 use Rattle.saving.proofs.is_nothing.Lts as lts
 
--- src/lib.rt:235:28
 enum-told : tie.Need-enum-told
 enum-told c = search needs
 
--- src/lib.rt:236:27
 enum-told-2 : tie.Need-enum-told-2
 enum-told-2 c = search needs
 
--- src/lib.rt:231:1
 returns : tie.Need-returns
 returns c = search laws
 
--- src/lib.rt:231:1
 returns-2 : tie.Need-returns-2
 returns-2 c = search laws
 

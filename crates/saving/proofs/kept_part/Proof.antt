@@ -8,39 +8,30 @@ use Rattle.saving.proofs.changed_value.Reads as changed-value-reads
 use Rattle.saving.proofs.with_value.Reads as with-value-reads
 use Rattle.text.proofs.find_name.Reads as find-name-reads
 
--- src/lib.rt:322:40
 add-find-name : tie.Need-add-find-name
 add-find-name c = search laws
 
--- src/lib.rt:322:9
 find-name-requires : tie.Need-find-name-requires
 find-name-requires c κs = search needs
 
--- src/lib.rt:323:19
 enum-known-found : tie.Need-enum-known-found
 enum-known-found c = search needs
 
--- src/lib.rt:325:20
 enum-told : tie.Need-enum-told
 enum-told c = search needs
 
--- src/lib.rt:325:20
 sub-t13 : tie.Need-sub-t13
 sub-t13 c = search laws
 
--- src/lib.rt:324:9
 returns : tie.Need-returns
 returns c = search laws
 
--- src/lib.rt:330:9
 changed-value-requires : tie.Need-changed-value-requires
 changed-value-requires c κs = search needs
 
--- src/lib.rt:331:5
 with-value-requires : tie.Need-with-value-requires
 with-value-requires c κs = search laws
 
--- src/lib.rt:311:1
 returns-2 : tie.Need-returns-2
 returns-2 c = search laws
 

@@ -17,59 +17,45 @@ Inv-loop table at n sheet changes place₀ tags₀ bytes₀ left₀ place tags b
 abbrev μ-loop : tie.MeasureT-loop
 μ-loop table at n sheet changes place₀ tags₀ bytes₀ left₀ place tags bytes left = left
 
--- src/lib.rt:367:5
 loop-holds : tie.Need-loop-holds Inv-loop μ-loop
 loop-holds c = search laws
 
--- src/lib.rt:368:13
 row-at-requires : tie.Need-row-at-requires Inv-loop μ-loop
 row-at-requires c κs = search laws
 
--- src/lib.rt:369:29
 enum-known-row : tie.Need-enum-known-row Inv-loop μ-loop
 enum-known-row c = search laws
 
--- src/lib.rt:370:13
 enum-told : tie.Need-enum-told Inv-loop μ-loop
 enum-told c = search laws
 
--- src/lib.rt:370:13
 returns : tie.Need-returns Inv-loop μ-loop
 returns c = search laws
 
--- src/lib.rt:372:13
 kept-part-requires : tie.Need-kept-part-requires Inv-loop μ-loop
 kept-part-requires c κs = search laws
 
--- src/lib.rt:373:20
 add-more : tie.Need-add-more Inv-loop μ-loop
 add-more c = search laws
 
--- src/lib.rt:374:17
 tags-in-requires : tie.Need-tags-in-requires Inv-loop μ-loop
 tags-in-requires c κs = search laws
 
--- src/lib.rt:374:9
 add-tags : tie.Need-add-tags Inv-loop μ-loop
 add-tags c = search laws
 
--- src/lib.rt:375:9
 add-bytes : tie.Need-add-bytes Inv-loop μ-loop
 add-bytes c = search laws
 
--- src/lib.rt:377:9
 sub-left : tie.Need-sub-left Inv-loop μ-loop
 sub-left c = search laws
 
--- src/lib.rt:367:5
 loop-less : tie.Need-loop-less Inv-loop μ-loop
 loop-less c = search laws
 
--- src/lib.rt:367:5
 loop-again : tie.Need-loop-again Inv-loop μ-loop
 loop-again c = search laws
 
--- src/lib.rt:359:1
 returns-2 : tie.Need-returns-2 Inv-loop μ-loop
 returns-2 c = search laws
 

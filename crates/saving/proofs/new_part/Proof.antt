@@ -8,42 +8,33 @@ use Rattle.saving.proofs.new_value.Reads as new-value-reads
 use Rattle.saving.proofs.with_value.Reads as with-value-reads
 use Rattle.text.proofs.find_name.Reads as find-name-reads
 
--- src/lib.rt:339:40
 add-find-name : tie.Need-add-find-name
 add-find-name c = search laws
 
--- src/lib.rt:339:9
 find-name-requires : tie.Need-find-name-requires
 find-name-requires c κs = search needs
 
 enum-told : tie.Need-enum-told
 enum-told c = search needs
 
--- src/lib.rt:341:9
 enum-told-2 : tie.Need-enum-told-2
 enum-told-2 c = search needs
 
--- src/lib.rt:341:9
 returns : tie.Need-returns
 returns c = search laws
 
--- src/lib.rt:347:34
 add-new-value : tie.Need-add-new-value
 add-new-value c = search laws
 
--- src/lib.rt:347:34
 add-new-value-2 : tie.Need-add-new-value-2
 add-new-value-2 c = search laws
 
--- src/lib.rt:347:9
 new-value-requires : tie.Need-new-value-requires
 new-value-requires c κs = search needs
 
--- src/lib.rt:348:5
 with-value-requires : tie.Need-with-value-requires
 with-value-requires c κs = search laws
 
--- src/lib.rt:335:1
 returns-2 : tie.Need-returns-2
 returns-2 c = search laws
 

@@ -17,59 +17,45 @@ Inv-loop table at n sheet changes place₀ tags₀ bytes₀ left₀ place tags b
 abbrev μ-loop : tie.MeasureT-loop
 μ-loop table at n sheet changes place₀ tags₀ bytes₀ left₀ place tags bytes left = left
 
--- src/lib.rt:391:5
 loop-holds : tie.Need-loop-holds Inv-loop μ-loop
 loop-holds c = search laws
 
--- src/lib.rt:392:13
 row-at-requires : tie.Need-row-at-requires Inv-loop μ-loop
 row-at-requires c κs = search laws
 
--- src/lib.rt:393:29
 enum-known-row : tie.Need-enum-known-row Inv-loop μ-loop
 enum-known-row c = search laws
 
--- src/lib.rt:394:13
 enum-told : tie.Need-enum-told Inv-loop μ-loop
 enum-told c = search laws
 
--- src/lib.rt:394:13
 returns : tie.Need-returns Inv-loop μ-loop
 returns c = search laws
 
--- src/lib.rt:396:13
 new-part-requires : tie.Need-new-part-requires Inv-loop μ-loop
 new-part-requires c κs = search laws
 
--- src/lib.rt:397:20
 add-more : tie.Need-add-more Inv-loop μ-loop
 add-more c = search laws
 
--- src/lib.rt:398:17
 tags-in-requires : tie.Need-tags-in-requires Inv-loop μ-loop
 tags-in-requires c κs = search laws
 
--- src/lib.rt:398:9
 add-tags : tie.Need-add-tags Inv-loop μ-loop
 add-tags c = search laws
 
--- src/lib.rt:399:9
 add-bytes : tie.Need-add-bytes Inv-loop μ-loop
 add-bytes c = search laws
 
--- src/lib.rt:401:9
 sub-left : tie.Need-sub-left Inv-loop μ-loop
 sub-left c = search laws
 
--- src/lib.rt:391:5
 loop-less : tie.Need-loop-less Inv-loop μ-loop
 loop-less c = search laws
 
--- src/lib.rt:391:5
 loop-again : tie.Need-loop-again Inv-loop μ-loop
 loop-again c = search laws
 
--- src/lib.rt:383:1
 returns-2 : tie.Need-returns-2 Inv-loop μ-loop
 returns-2 c = search laws
 

@@ -11,43 +11,33 @@ use Rattle.saving.proofs.write_kept.Reads as write-kept-reads
 use Rattle.saving.proofs.write_new.Reads as write-new-reads
 use Rattle.saving.proofs.write_table.Reads as write-table-reads
 
--- src/lib.rt:505:9
 kept-size-requires : tie.Need-kept-size-requires
 kept-size-requires c κs = search needs
 
--- src/lib.rt:506:9
 new-size-requires : tie.Need-new-size-requires
 new-size-requires c κs = search needs
 
--- src/lib.rt:507:16
 add-tags : tie.Need-add-tags
 add-tags c = search needs
 
--- src/lib.rt:509:9
 returns : tie.Need-returns
 returns c = search laws
 
--- src/lib.rt:511:17
 add-bytes : tie.Need-add-bytes
 add-bytes c = search needs
 
--- src/lib.rt:511:17
 add-bytes-2 : tie.Need-add-bytes-2
 add-bytes-2 c = search needs
 
--- src/lib.rt:513:9
 returns-2 : tie.Need-returns-2
 returns-2 c = search laws
 
--- src/lib.rt:515:5
 write-table-requires : tie.Need-write-table-requires
 write-table-requires c κs = search laws
 
--- src/lib.rt:494:1
 same-length : tie.Need-same-length
 same-length c = search needs
 
--- src/lib.rt:494:1
 returns-3 : tie.Need-returns-3
 returns-3 c = search laws
 

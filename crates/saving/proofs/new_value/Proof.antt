@@ -7,27 +7,21 @@ use Rattle.saving.proofs.new_value.Lts as lts
 use Rattle.saving.proofs.entry_value.Reads as entry-value-reads
 use Rattle.text.proofs.entry_end.Reads as entry-end-reads
 
--- src/lib.rt:184:9
 entry-end-requires : tie.Need-entry-end-requires
 entry-end-requires c κs = search needs
 
--- src/lib.rt:185:20
 enum-known-end : tie.Need-enum-known-end
 enum-known-end c = search needs
 
--- src/lib.rt:186:9
 enum-told : tie.Need-enum-told
 enum-told c = search needs
 
--- src/lib.rt:186:9
 returns : tie.Need-returns
 returns c = search laws
 
--- src/lib.rt:188:5
 entry-value-requires : tie.Need-entry-value-requires
 entry-value-requires c κs = search needs
 
--- src/lib.rt:181:1
 returns-2 : tie.Need-returns-2
 returns-2 c = search laws
 

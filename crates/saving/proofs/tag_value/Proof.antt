@@ -6,47 +6,36 @@ use Rattle.saving.proofs.tag_value.Reads as reads
 use Rattle.saving.proofs.tag_value.Lts as lts
 use Rattle.text.proofs.row_at.Reads as row-at-reads
 
--- src/lib.rt:195:9
 row-at-requires : tie.Need-row-at-requires
 row-at-requires c κs = search needs
 
--- src/lib.rt:196:25
 enum-known-row : tie.Need-enum-known-row
 enum-known-row c = search needs
 
--- src/lib.rt:197:9
 enum-told : tie.Need-enum-told
 enum-told c = search needs
 
--- src/lib.rt:197:9
 returns : tie.Need-returns
 returns c = search laws
 
--- src/lib.rt:199:15
 add-t7 : tie.Need-add-t7
 add-t7 c = search laws
 
--- src/lib.rt:199:15
 add-t8 : tie.Need-add-t8
 add-t8 c = search laws
 
--- src/lib.rt:199:39
 add-t9 : tie.Need-add-t9
 add-t9 c = search laws
 
--- src/lib.rt:199:39
 add-t10 : tie.Need-add-t10
 add-t10 c = search laws
 
--- src/lib.rt:199:39
 add-t11 : tie.Need-add-t11
 add-t11 c = search laws
 
--- src/lib.rt:199:32
 sub-t12 : tie.Need-sub-t12
 sub-t12 c = search laws
 
--- src/lib.rt:192:1
 returns-2 : tie.Need-returns-2
 returns-2 c = search laws
 

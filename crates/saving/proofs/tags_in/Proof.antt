@@ -4,11 +4,9 @@ use Rattle.saving.proofs.tags_in.Tie as tie
 use Rattle.saving.proofs.tags_in.Reads as reads
 use Rattle.saving.proofs.tags_in.Lts as lts
 
--- src/lib.rt:352:1
 returns : tie.Need-returns
 returns c = search laws
 
--- src/lib.rt:352:1
 returns-2 : tie.Need-returns-2
 returns-2 c = search laws
 

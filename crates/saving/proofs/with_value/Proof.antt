@@ -5,27 +5,21 @@ use Rattle.saving.proofs.with_value.Tie as tie
 use Rattle.saving.proofs.with_value.Reads as reads
 use Rattle.saving.proofs.with_value.Lts as lts
 
--- src/lib.rt:285:19
 enum-known-value : tie.Need-enum-known-value
 enum-known-value c = search needs
 
--- src/lib.rt:286:9
 enum-told : tie.Need-enum-told
 enum-told c = search needs
 
--- src/lib.rt:286:9
 returns : tie.Need-returns
 returns c = search laws
 
--- src/lib.rt:293:16
 add-t5 : tie.Need-add-t5
 add-t5 c = search needs
 
--- src/lib.rt:295:17
 add-t6 : tie.Need-add-t6
 add-t6 c = search laws
 
--- src/lib.rt:281:1
 returns-2 : tie.Need-returns-2
 returns-2 c = search laws
 

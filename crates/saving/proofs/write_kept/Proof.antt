@@ -17,63 +17,48 @@ Inv-loop table at n sheet changes out₀ start place₀ to₀ left₀ out place 
 abbrev μ-loop : tie.MeasureT-loop
 μ-loop table at n sheet changes out₀ start place₀ to₀ left₀ out place to left = left
 
--- src/lib.rt:431:5
 loop-holds : tie.Need-loop-holds Inv-loop μ-loop
 loop-holds c = search laws
 
--- src/lib.rt:432:13
 row-at-requires : tie.Need-row-at-requires Inv-loop μ-loop
 row-at-requires c κs = search laws
 
--- src/lib.rt:433:29
 enum-known-row : tie.Need-enum-known-row Inv-loop μ-loop
 enum-known-row c = search laws
 
--- src/lib.rt:434:13
 enum-told : tie.Need-enum-told Inv-loop μ-loop
 enum-told c = search laws
 
--- src/lib.rt:434:13
 same-length : tie.Need-same-length Inv-loop μ-loop
 same-length c = search laws
 
--- src/lib.rt:434:13
 returns : tie.Need-returns Inv-loop μ-loop
 returns c = search laws
 
--- src/lib.rt:436:13
 kept-part-requires : tie.Need-kept-part-requires Inv-loop μ-loop
 kept-part-requires c κs = search laws
 
--- src/lib.rt:437:9
 put-part-requires : tie.Need-put-part-requires Inv-loop μ-loop
 put-part-requires c κs = search laws
 
--- src/lib.rt:438:15
 add-to : tie.Need-add-to Inv-loop μ-loop
 add-to c = search laws
 
--- src/lib.rt:438:9
 add-to-2 : tie.Need-add-to-2 Inv-loop μ-loop
 add-to-2 c = search laws
 
--- src/lib.rt:440:9
 sub-left : tie.Need-sub-left Inv-loop μ-loop
 sub-left c = search laws
 
--- src/lib.rt:431:5
 loop-less : tie.Need-loop-less Inv-loop μ-loop
 loop-less c = search laws
 
--- src/lib.rt:431:5
 loop-again : tie.Need-loop-again Inv-loop μ-loop
 loop-again c = search laws
 
--- src/lib.rt:416:1
 same-length-2 : tie.Need-same-length-2 Inv-loop μ-loop
 same-length-2 c = search laws
 
--- src/lib.rt:416:1
 returns-2 : tie.Need-returns-2 Inv-loop μ-loop
 returns-2 c = search laws
 

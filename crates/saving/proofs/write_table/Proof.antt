@@ -8,23 +8,18 @@ use Rattle.number.proofs.write.Reads as write-reads
 use Rattle.saving.proofs.write_kept.Reads as write-kept-reads
 use Rattle.saving.proofs.write_new.Reads as write-new-reads
 
--- src/lib.rt:488:5
 write-requires : tie.Need-write-requires
 write-requires c κs = search needs
 
--- src/lib.rt:489:9
 write-kept-requires : tie.Need-write-kept-requires
 write-kept-requires c κs = search needs
 
--- src/lib.rt:490:5
 write-new-requires : tie.Need-write-new-requires
 write-new-requires c κs = search needs
 
--- src/lib.rt:476:1
 same-length : tie.Need-same-length
 same-length c = search needs
 
--- src/lib.rt:476:1
 returns : tie.Need-returns
 returns c = search laws
 

@@ -16,39 +16,30 @@ Inv-loop s at n class i₀ left₀ i left = (i + left ≤ length s) × (every (i
 abbrev μ-loop : tie.MeasureT-loop
 μ-loop s at n class i₀ left₀ i left = left
 
--- src/lib.rt:80:5
 loop-holds : tie.Need-loop-holds Inv-loop μ-loop
 loop-holds c = search laws
 
--- src/lib.rt:81:21
 shared-slice-read-in-class : tie.Need-shared-slice-read-in-class Inv-loop μ-loop
 shared-slice-read-in-class c = search laws
 
--- src/lib.rt:81:12
 in-class-requires : tie.Need-in-class-requires Inv-loop μ-loop
 in-class-requires c κs = search laws
 
--- src/lib.rt:83:13
 returns : tie.Need-returns Inv-loop μ-loop
 returns c = search laws
 
--- src/lib.rt:85:9
 add-i : tie.Need-add-i Inv-loop μ-loop
 add-i c = search laws
 
--- src/lib.rt:86:9
 sub-left : tie.Need-sub-left Inv-loop μ-loop
 sub-left c = search laws
 
--- src/lib.rt:80:5
 loop-less : tie.Need-loop-less Inv-loop μ-loop
 loop-less c = search laws
 
--- src/lib.rt:80:5
 loop-again : tie.Need-loop-again Inv-loop μ-loop
 loop-again c = search laws
 
--- src/lib.rt:74:1
 returns-2 : tie.Need-returns-2 Inv-loop μ-loop
 returns-2 c = search laws
 

@@ -14,67 +14,51 @@ Inv-loop from start to₀ at n i₀ to i = (i ≤ n) × (start + n ≤ length fr
 abbrev μ-loop : tie.MeasureT-loop
 μ-loop from start to₀ at n i₀ to i = n - i
 
--- src/lib.rt:163:9
 returns : tie.Need-returns Inv-loop μ-loop
 returns c = search laws
 
--- src/lib.rt:165:8
 sub-if2 : tie.Need-sub-if2 Inv-loop μ-loop
 sub-if2 c = search laws
 
--- src/lib.rt:166:9
 returns-2 : tie.Need-returns-2 Inv-loop μ-loop
 returns-2 c = search laws
 
--- src/lib.rt:169:9
 returns-3 : tie.Need-returns-3 Inv-loop μ-loop
 returns-3 c = search laws
 
--- src/lib.rt:171:8
 sub-if4 : tie.Need-sub-if4 Inv-loop μ-loop
 sub-if4 c = search laws
 
--- src/lib.rt:172:9
 returns-4 : tie.Need-returns-4 Inv-loop μ-loop
 returns-4 c = search laws
 
--- src/lib.rt:175:5
 loop-holds : tie.Need-loop-holds Inv-loop μ-loop
 loop-holds c = search laws
 
--- src/lib.rt:176:27
 add-to : tie.Need-add-to Inv-loop μ-loop
 add-to c = search laws
 
--- src/lib.rt:176:22
 shared-slice-read-to : tie.Need-shared-slice-read-to Inv-loop μ-loop
 shared-slice-read-to c = search laws
 
--- src/lib.rt:176:12
 add-to-2 : tie.Need-add-to-2 Inv-loop μ-loop
 add-to-2 c = search laws
 
--- src/lib.rt:176:9
 slice-write-to : tie.Need-slice-write-to Inv-loop μ-loop
 slice-write-to c = search laws
 
--- src/lib.rt:177:9
 add-i : tie.Need-add-i Inv-loop μ-loop
 add-i c = search laws
 
--- src/lib.rt:175:5
 loop-less : tie.Need-loop-less Inv-loop μ-loop
 loop-less c = search laws
 
--- src/lib.rt:175:5
 loop-again : tie.Need-loop-again Inv-loop μ-loop
 loop-again c = (search laws, search laws, search laws, search laws, search laws)
 
--- src/lib.rt:159:1
 same-length : tie.Need-same-length Inv-loop μ-loop
 same-length c = search laws
 
--- src/lib.rt:159:1
 returns-5 : tie.Need-returns-5 Inv-loop μ-loop
 returns-5 c = search laws
 

@@ -16,58 +16,45 @@ Inv-loop s at n row place₀ left₀ place left = distinct (names left (rowName 
 abbrev μ-loop : tie.MeasureT-loop
 μ-loop s at n row place₀ left₀ place left = left
 
--- src/lib.rt:336:5
 loop-holds : tie.Need-loop-holds Inv-loop μ-loop
 loop-holds c = search laws
 
--- src/lib.rt:337:13
 row-at-requires : tie.Need-row-at-requires Inv-loop μ-loop
 row-at-requires c κs = search laws
 
--- src/lib.rt:338:29
 enum-known-found : tie.Need-enum-known-found Inv-loop μ-loop
 enum-known-found c = search laws
 
--- src/lib.rt:339:13
 enum-told : tie.Need-enum-told Inv-loop μ-loop
 enum-told c = search laws
 
--- src/lib.rt:339:13
 returns : tie.Need-returns Inv-loop μ-loop
 returns c = search laws
 
--- src/lib.rt:341:9
 sub-left : tie.Need-sub-left Inv-loop μ-loop
 sub-left c = search laws
 
--- src/lib.rt:342:34
 add-find-name : tie.Need-add-find-name Inv-loop μ-loop
 add-find-name c = search laws
 
--- src/lib.rt:342:13
 find-name-requires : tie.Need-find-name-requires Inv-loop μ-loop
 find-name-requires c κs = search laws
 
 enum-told-2 : tie.Need-enum-told-2 Inv-loop μ-loop
 enum-told-2 c = search laws
 
--- src/lib.rt:344:13
 enum-told-3 : tie.Need-enum-told-3 Inv-loop μ-loop
 enum-told-3 c = search laws
 
--- src/lib.rt:344:13
 returns-2 : tie.Need-returns-2 Inv-loop μ-loop
 returns-2 c = search laws
 
--- src/lib.rt:336:5
 loop-less : tie.Need-loop-less Inv-loop μ-loop
 loop-less c = search laws
 
--- src/lib.rt:336:5
 loop-again : tie.Need-loop-again Inv-loop μ-loop
 loop-again c = search laws
 
--- src/lib.rt:331:1
 returns-3 : tie.Need-returns-3 Inv-loop μ-loop
 returns-3 c = search laws
 

@@ -6,31 +6,24 @@ use Rattle.text.proofs.entry_end.Reads as reads
 use Rattle.text.proofs.entry_end.Lts as lts
 use Rattle.text.proofs.string_end.Reads as string-end-reads
 
--- src/lib.rt:243:9
 returns : tie.Need-returns
 returns c = search laws
 
--- src/lib.rt:245:8
 shared-slice-read-if2 : tie.Need-shared-slice-read-if2
 shared-slice-read-if2 c = search needs
 
--- src/lib.rt:246:30
 add-string-end : tie.Need-add-string-end
 add-string-end c = search needs
 
--- src/lib.rt:246:9
 string-end-requires : tie.Need-string-end-requires
 string-end-requires c κs = search needs
 
--- src/lib.rt:246:9
 returns-2 : tie.Need-returns-2
 returns-2 c = search laws
 
--- src/lib.rt:248:16
 add-t3 : tie.Need-add-t3
 add-t3 c = search needs
 
--- src/lib.rt:239:1
 returns-3 : tie.Need-returns-3
 returns-3 c = search laws
 

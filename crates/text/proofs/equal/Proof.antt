@@ -15,67 +15,51 @@ Inv-loop a here b there n i₀ j₀ left₀ i j left = (i + left ≤ length a) �
 abbrev μ-loop : tie.MeasureT-loop
 μ-loop a here b there n i₀ j₀ left₀ i j left = left
 
--- src/lib.rt:132:9
 returns : tie.Need-returns Inv-loop μ-loop
 returns c = search laws
 
--- src/lib.rt:134:8
 sub-if2 : tie.Need-sub-if2 Inv-loop μ-loop
 sub-if2 c = search laws
 
--- src/lib.rt:135:9
 returns-2 : tie.Need-returns-2 Inv-loop μ-loop
 returns-2 c = search laws
 
--- src/lib.rt:138:9
 returns-3 : tie.Need-returns-3 Inv-loop μ-loop
 returns-3 c = search laws
 
--- src/lib.rt:140:8
 sub-if4 : tie.Need-sub-if4 Inv-loop μ-loop
 sub-if4 c = search laws
 
--- src/lib.rt:141:9
 returns-4 : tie.Need-returns-4 Inv-loop μ-loop
 returns-4 c = search laws
 
--- src/lib.rt:146:5
 loop-holds : tie.Need-loop-holds Inv-loop μ-loop
 loop-holds c = search laws
 
--- src/lib.rt:147:12
 shared-slice-read-if5 : tie.Need-shared-slice-read-if5 Inv-loop μ-loop
 shared-slice-read-if5 c = search laws
 
--- src/lib.rt:147:20
 shared-slice-read-if5-2 : tie.Need-shared-slice-read-if5-2 Inv-loop μ-loop
 shared-slice-read-if5-2 c = search laws
 
--- src/lib.rt:149:13
 returns-5 : tie.Need-returns-5 Inv-loop μ-loop
 returns-5 c = search laws
 
--- src/lib.rt:151:9
 add-i : tie.Need-add-i Inv-loop μ-loop
 add-i c = search laws
 
--- src/lib.rt:152:9
 add-j : tie.Need-add-j Inv-loop μ-loop
 add-j c = search laws
 
--- src/lib.rt:153:9
 sub-left : tie.Need-sub-left Inv-loop μ-loop
 sub-left c = search laws
 
--- src/lib.rt:146:5
 loop-less : tie.Need-loop-less Inv-loop μ-loop
 loop-less c = search laws
 
--- src/lib.rt:146:5
 loop-again : tie.Need-loop-again Inv-loop μ-loop
 loop-again c = search laws
 
--- src/lib.rt:128:1
 returns-6 : tie.Need-returns-6 Inv-loop μ-loop
 returns-6 c = search laws
 

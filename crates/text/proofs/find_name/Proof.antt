@@ -16,67 +16,51 @@ Inv-loop a here len s at n row place₀ passed₀ left₀ place passed left = (p
 abbrev μ-loop : tie.MeasureT-loop
 μ-loop a here len s at n row place₀ passed₀ left₀ place passed left = left
 
--- src/lib.rt:307:9
 returns : tie.Need-returns Inv-loop μ-loop
 returns c = search laws
 
--- src/lib.rt:309:8
 sub-if2 : tie.Need-sub-if2 Inv-loop μ-loop
 sub-if2 c = search laws
 
--- src/lib.rt:310:9
 returns-2 : tie.Need-returns-2 Inv-loop μ-loop
 returns-2 c = search laws
 
--- src/lib.rt:315:5
 loop-holds : tie.Need-loop-holds Inv-loop μ-loop
 loop-holds c = search laws
 
--- src/lib.rt:316:13
 row-at-requires : tie.Need-row-at-requires Inv-loop μ-loop
 row-at-requires c κs = search laws
 
--- src/lib.rt:317:29
 enum-known-found : tie.Need-enum-known-found Inv-loop μ-loop
 enum-known-found c = search laws
 
--- src/lib.rt:318:13
 enum-told : tie.Need-enum-told Inv-loop μ-loop
 enum-told c = search laws
 
--- src/lib.rt:318:13
 returns-3 : tie.Need-returns-3 Inv-loop μ-loop
 returns-3 c = search laws
 
--- src/lib.rt:320:39
 add-same-name : tie.Need-add-same-name Inv-loop μ-loop
 add-same-name c = search laws
 
--- src/lib.rt:320:12
 same-name-requires : tie.Need-same-name-requires Inv-loop μ-loop
 same-name-requires c κs = search laws
 
--- src/lib.rt:321:13
 returns-4 : tie.Need-returns-4 Inv-loop μ-loop
 returns-4 c = search laws
 
--- src/lib.rt:324:9
 add-passed : tie.Need-add-passed Inv-loop μ-loop
 add-passed c = search laws
 
--- src/lib.rt:325:9
 sub-left : tie.Need-sub-left Inv-loop μ-loop
 sub-left c = search laws
 
--- src/lib.rt:315:5
 loop-less : tie.Need-loop-less Inv-loop μ-loop
 loop-less c = search laws
 
--- src/lib.rt:315:5
 loop-again : tie.Need-loop-again Inv-loop μ-loop
 loop-again c = search laws
 
--- src/lib.rt:303:1
 returns-5 : tie.Need-returns-5 Inv-loop μ-loop
 returns-5 c = search laws
 

@@ -7,27 +7,21 @@ use Rattle.text.proofs.in_class.Lts as lts
 use Rattle.text.proofs.is_name_byte.Reads as is-name-byte-reads
 use Rattle.text.proofs.is_tag_byte.Reads as is-tag-byte-reads
 
--- src/lib.rt:47:24
 enum-told : tie.Need-enum-told
 enum-told c = search needs
 
--- src/lib.rt:47:24
 is-name-byte-requires : tie.Need-is-name-byte-requires
 is-name-byte-requires c κs = search needs
 
--- src/lib.rt:48:23
 enum-told-2 : tie.Need-enum-told-2
 enum-told-2 c = search needs
 
--- src/lib.rt:48:23
 is-tag-byte-requires : tie.Need-is-tag-byte-requires
 is-tag-byte-requires c κs = search needs
 
--- src/lib.rt:43:1
 returns : tie.Need-returns
 returns c = search laws
 
--- src/lib.rt:43:1
 returns-2 : tie.Need-returns-2
 returns-2 c = search laws
 

@@ -4,31 +4,24 @@ use Rattle.text.proofs.is_name_byte.Tie as tie
 use Rattle.text.proofs.is_name_byte.Reads as reads
 use Rattle.text.proofs.is_name_byte.Lts as lts
 
--- src/lib.rt:22:1
 returns : tie.Need-returns
 returns c = search laws
 
--- src/lib.rt:22:1
 returns-2 : tie.Need-returns-2
 returns-2 c = search laws
 
--- src/lib.rt:22:1
 returns-3 : tie.Need-returns-3
 returns-3 c = search laws
 
--- src/lib.rt:22:1
 returns-4 : tie.Need-returns-4
 returns-4 c = search laws
 
--- src/lib.rt:22:1
 returns-5 : tie.Need-returns-5
 returns-5 c = search laws
 
--- src/lib.rt:22:1
 returns-6 : tie.Need-returns-6
 returns-6 c = search laws
 
--- src/lib.rt:22:1
 returns-7 : tie.Need-returns-7
 returns-7 c = search laws
 

@@ -4,15 +4,12 @@ use Rattle.text.proofs.is_tag_byte.Tie as tie
 use Rattle.text.proofs.is_tag_byte.Reads as reads
 use Rattle.text.proofs.is_tag_byte.Lts as lts
 
--- src/lib.rt:34:1
 returns : tie.Need-returns
 returns c = search laws
 
--- src/lib.rt:34:1
 returns-2 : tie.Need-returns-2
 returns-2 c = search laws
 
--- src/lib.rt:34:1
 returns-3 : tie.Need-returns-3
 returns-3 c = search laws
 

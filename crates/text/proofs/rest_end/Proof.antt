@@ -9,51 +9,39 @@ use Rattle.text.proofs.entries_end.Reads as entries-end-reads
 use Rattle.text.proofs.sized_end.Reads as sized-end-reads
 use Rattle.text.proofs.string_end.Reads as string-end-reads
 
--- src/lib.rt:268:28
 enum-told : tie.Need-enum-told
 enum-told c = search needs
 
--- src/lib.rt:268:28
 block-end-requires : tie.Need-block-end-requires
 block-end-requires c κs = search needs
 
--- src/lib.rt:269:23
 enum-told-2 : tie.Need-enum-told-2
 enum-told-2 c = search needs
 
--- src/lib.rt:269:23
 sized-end-requires : tie.Need-sized-end-requires
 sized-end-requires c κs = search needs
 
--- src/lib.rt:270:21
 enum-told-3 : tie.Need-enum-told-3
 enum-told-3 c = search needs
 
--- src/lib.rt:270:21
 string-end-requires : tie.Need-string-end-requires
 string-end-requires c κs = search needs
 
--- src/lib.rt:271:24
 enum-told-4 : tie.Need-enum-told-4
 enum-told-4 c = search needs
 
--- src/lib.rt:271:24
 entries-end-requires : tie.Need-entries-end-requires
 entries-end-requires c κs = search needs
 
--- src/lib.rt:263:1
 returns : tie.Need-returns
 returns c = search laws
 
--- src/lib.rt:263:1
 returns-2 : tie.Need-returns-2
 returns-2 c = search laws
 
--- src/lib.rt:263:1
 returns-3 : tie.Need-returns-3
 returns-3 c = search laws
 
--- src/lib.rt:263:1
 returns-4 : tie.Need-returns-4
 returns-4 c = search laws
 

@@ -7,47 +7,36 @@ use Rattle.text.proofs.row_at.Lts as lts
 use Rattle.text.proofs.rest_end.Reads as rest-end-reads
 use Rattle.text.proofs.string.Reads as string-reads
 
--- src/lib.rt:279:9
 string-requires : tie.Need-string-requires
 string-requires c κs = search needs
 
--- src/lib.rt:280:21
 enum-known-name : tie.Need-enum-known-name
 enum-known-name c = search needs
 
--- src/lib.rt:281:9
 enum-told : tie.Need-enum-told
 enum-told c = search needs
 
--- src/lib.rt:281:9
 returns : tie.Need-returns
 returns c = search laws
 
--- src/lib.rt:283:28
 add-rest-end : tie.Need-add-rest-end
 add-rest-end c = search laws
 
--- src/lib.rt:283:28
 add-rest-end-2 : tie.Need-add-rest-end-2
 add-rest-end-2 c = search laws
 
--- src/lib.rt:283:9
 rest-end-requires : tie.Need-rest-end-requires
 rest-end-requires c κs = search laws
 
--- src/lib.rt:284:20
 enum-known-rest : tie.Need-enum-known-rest
 enum-known-rest c = search needs
 
--- src/lib.rt:285:9
 enum-told-2 : tie.Need-enum-told-2
 enum-told-2 c = search needs
 
--- src/lib.rt:285:9
 returns-2 : tie.Need-returns-2
 returns-2 c = search laws
 
--- src/lib.rt:276:1
 returns-3 : tie.Need-returns-3
 returns-3 c = search laws
 

@@ -6,15 +6,12 @@ use Rattle.text.proofs.same_name.Reads as reads
 use Rattle.text.proofs.same_name.Lts as lts
 use Rattle.text.proofs.equal.Reads as equal-reads
 
--- src/lib.rt:297:9
 returns : tie.Need-returns
 returns c = search laws
 
--- src/lib.rt:299:5
 equal-requires : tie.Need-equal-requires
 equal-requires c κs = search needs
 
--- src/lib.rt:291:1
 returns-2 : tie.Need-returns-2
 returns-2 c = search laws
 

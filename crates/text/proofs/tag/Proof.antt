@@ -7,47 +7,36 @@ use Rattle.text.proofs.tag.Lts as lts
 use Rattle.text.proofs.tag_name.Reads as tag-name-reads
 use Rattle.text.proofs.tag_value.Reads as tag-value-reads
 
--- src/lib.rt:376:9
 tag-name-requires : tie.Need-tag-name-requires
 tag-name-requires c κs = search needs
 
--- src/lib.rt:377:21
 enum-known-name : tie.Need-enum-known-name
 enum-known-name c = search needs
 
--- src/lib.rt:378:9
 enum-told : tie.Need-enum-told
 enum-told c = search needs
 
--- src/lib.rt:378:9
 returns : tie.Need-returns
 returns c = search laws
 
--- src/lib.rt:380:30
 add-tag-value : tie.Need-add-tag-value
 add-tag-value c = search laws
 
--- src/lib.rt:380:30
 add-tag-value-2 : tie.Need-add-tag-value-2
 add-tag-value-2 c = search laws
 
--- src/lib.rt:380:9
 tag-value-requires : tie.Need-tag-value-requires
 tag-value-requires c κs = search needs
 
--- src/lib.rt:381:21
 enum-known-value : tie.Need-enum-known-value
 enum-known-value c = search needs
 
--- src/lib.rt:382:9
 enum-told-2 : tie.Need-enum-told-2
 enum-told-2 c = search needs
 
--- src/lib.rt:382:9
 returns-2 : tie.Need-returns-2
 returns-2 c = search laws
 
--- src/lib.rt:373:1
 returns-3 : tie.Need-returns-3
 returns-3 c = search laws
 

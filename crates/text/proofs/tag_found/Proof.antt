@@ -8,67 +8,51 @@ use Rattle.number.proofs.read.Reads as read-reads
 use Rattle.text.proofs.row_start.Reads as row-start-reads
 use Rattle.text.proofs.tag.Reads as tag-reads
 
--- src/lib.rt:462:9
 read-requires : tie.Need-read-requires
 read-requires c κs = search needs
 
--- src/lib.rt:464:9
 returns : tie.Need-returns
 returns c = search laws
 
--- src/lib.rt:466:30
 add-row-start : tie.Need-add-row-start
 add-row-start c = search laws
 
--- src/lib.rt:466:9
 row-start-requires : tie.Need-row-start-requires
 row-start-requires c κs = search needs
 
--- src/lib.rt:467:20
 enum-known-start : tie.Need-enum-known-start
 enum-known-start c = search needs
 
--- src/lib.rt:468:9
 enum-told : tie.Need-enum-told
 enum-told c = search needs
 
--- src/lib.rt:468:9
 returns-2 : tie.Need-returns-2
 returns-2 c = search laws
 
--- src/lib.rt:470:9
 tag-requires : tie.Need-tag-requires
 tag-requires c κs = search needs
 
--- src/lib.rt:471:25
 enum-known-found : tie.Need-enum-known-found
 enum-known-found c = search needs
 
--- src/lib.rt:472:9
 enum-told-2 : tie.Need-enum-told-2
 enum-told-2 c = search needs
 
--- src/lib.rt:472:9
 returns-3 : tie.Need-returns-3
 returns-3 c = search laws
 
--- src/lib.rt:475:15
 add-t10 : tie.Need-add-t10
 add-t10 c = search laws
 
--- src/lib.rt:477:16
 add-t13 : tie.Need-add-t13
 add-t13 c = search laws
 
--- src/lib.rt:477:16
 add-t14 : tie.Need-add-t14
 add-t14 c = search laws
 
--- src/lib.rt:477:16
 add-t15 : tie.Need-add-t15
 add-t15 c = search laws
 
--- src/lib.rt:459:1
 returns-4 : tie.Need-returns-4
 returns-4 c = search laws
 

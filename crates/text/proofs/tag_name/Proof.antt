@@ -6,11 +6,9 @@ use Rattle.text.proofs.tag_name.Reads as reads
 use Rattle.text.proofs.tag_name.Lts as lts
 use Rattle.text.proofs.text_of.Reads as text-of-reads
 
--- src/lib.rt:118:5
 text-of-requires : tie.Need-text-of-requires
 text-of-requires c κs = search needs
 
--- src/lib.rt:115:1
 returns : tie.Need-returns
 returns c = search laws
 

@@ -6,11 +6,9 @@ use Rattle.text.proofs.tag_value.Reads as reads
 use Rattle.text.proofs.tag_value.Lts as lts
 use Rattle.text.proofs.text_of.Reads as text-of-reads
 
--- src/lib.rt:124:5
 text-of-requires : tie.Need-text-of-requires
 text-of-requires c κs = search needs
 
--- src/lib.rt:121:1
 returns : tie.Need-returns
 returns c = search laws
 

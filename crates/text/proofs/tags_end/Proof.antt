@@ -15,55 +15,42 @@ Inv-loop s at n place₀ left₀ place left = endOf place (times left tag (drop 
 abbrev μ-loop : tie.MeasureT-loop
 μ-loop s at n place₀ left₀ place left = left
 
--- src/lib.rt:393:5
 loop-holds : tie.Need-loop-holds Inv-loop μ-loop
 loop-holds c = search laws
 
--- src/lib.rt:394:13
 tag-requires : tie.Need-tag-requires Inv-loop μ-loop
 tag-requires c κs = search laws
 
--- src/lib.rt:395:29
 enum-known-found : tie.Need-enum-known-found Inv-loop μ-loop
 enum-known-found c = search laws
 
--- src/lib.rt:396:13
 enum-told : tie.Need-enum-told Inv-loop μ-loop
 enum-told c = search laws
 
--- src/lib.rt:396:13
 returns : tie.Need-returns Inv-loop μ-loop
 returns c = search laws
 
--- src/lib.rt:398:17
 add-place : tie.Need-add-place Inv-loop μ-loop
 add-place c = search laws
 
--- src/lib.rt:398:17
 add-place-2 : tie.Need-add-place-2 Inv-loop μ-loop
 add-place-2 c = search laws
 
--- src/lib.rt:398:17
 add-place-3 : tie.Need-add-place-3 Inv-loop μ-loop
 add-place-3 c = search laws
 
--- src/lib.rt:398:17
 add-place-4 : tie.Need-add-place-4 Inv-loop μ-loop
 add-place-4 c = search laws
 
--- src/lib.rt:399:9
 sub-left : tie.Need-sub-left Inv-loop μ-loop
 sub-left c = search laws
 
--- src/lib.rt:393:5
 loop-less : tie.Need-loop-less Inv-loop μ-loop
 loop-less c = search laws
 
--- src/lib.rt:393:5
 loop-again : tie.Need-loop-again Inv-loop μ-loop
 loop-again c = search laws
 
--- src/lib.rt:388:1
 returns-2 : tie.Need-returns-2 Inv-loop μ-loop
 returns-2 c = search laws
 

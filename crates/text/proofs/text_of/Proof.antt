@@ -7,39 +7,30 @@ use Rattle.text.proofs.text_of.Lts as lts
 use Rattle.text.proofs.all_in_class.Reads as all-in-class-reads
 use Rattle.text.proofs.string.Reads as string-reads
 
--- src/lib.rt:95:9
 string-requires : tie.Need-string-requires
 string-requires c κs = search needs
 
--- src/lib.rt:96:21
 enum-known-text : tie.Need-enum-known-text
 enum-known-text c = search needs
 
--- src/lib.rt:97:9
 enum-told : tie.Need-enum-told
 enum-told c = search needs
 
--- src/lib.rt:97:9
 returns : tie.Need-returns
 returns c = search laws
 
--- src/lib.rt:100:9
 returns-2 : tie.Need-returns-2
 returns-2 c = search laws
 
--- src/lib.rt:102:24
 add-all-in-class : tie.Need-add-all-in-class
 add-all-in-class c = search laws
 
--- src/lib.rt:102:8
 all-in-class-requires : tie.Need-all-in-class-requires
 all-in-class-requires c κs = search laws
 
--- src/lib.rt:92:1
 returns-3 : tie.Need-returns-3
 returns-3 c = search laws
 
--- src/lib.rt:92:1
 returns-4 : tie.Need-returns-4
 returns-4 c = search laws
 
