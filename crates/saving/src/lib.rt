@@ -402,7 +402,7 @@ fn new_size(table: &[u8], at: usize, n: usize, sheet: &[u8], changes: usize) -> 
     Size { tags, bytes }
 }
 
-// Stores a part, where it is all there and has room.
+// Stores a part, which is all there and has room.
 fn put_part(from: &[u8], place: usize, sheet: &[u8], part: Part, out: &mut [u8], to: usize)
     requires { ⌜ (place + part .first ≤ length (now from)) × (part .value + part .second ≤ length (now sheet)) × (to + (part .first + part .second) ≤ length (now out)) ⌝ }
     ensures { λ r. ⌜ now (out .exit) ≡ sets (now (out .entry)) to (partBytes (now (from .entry)) place (now (sheet .entry)) part) ⌝ }
