@@ -2,9 +2,13 @@
  *
  * Link target/staticlib/libfstf.a, which `rt staticlib fstf` writes (x86-64 Linux).
  * No call allocates, keeps a pointer, reads or writes a file, or fails in any other way than by a refusal number.
- * A slice is passed as a pointer and a length. The pointer is never null, also where the length is 0; the length is below 2^63.
- * Slices that a call writes (notes, out) overlap no other slice of that call.
  * A refused call changes nothing of what is lent to it. An accepted one fills `out` from its start and leaves the bytes behind the answer.
+ *
+ * A slice is passed as a pointer and a length. Where the length is 0 the pointer is not read: it may be null. The caller ensures that
+ *   - a pointer and its length are true: so many bytes are there, and nothing else changes them while the call runs;
+ *   - a length is below 2^63;
+ *   - what a call writes (`notes` of begin and add, `out`) overlaps nothing else that is lent to it.
+ * All else is answered: any bytes, and any numbers in a state or an opening that is passed back.
  */
 #ifndef FSTF_H
 #define FSTF_H
@@ -45,6 +49,7 @@ typedef struct {
     uint64_t sections;    /* how many sections every frame has, 1 to 8 */
     uint64_t system_tags; /* how many tags the system table has */
     uint64_t user_tags;   /* how many tags the user table has */
+    uint64_t system;      /* where the system table starts */
     uint64_t start;       /* where the first frame starts */
     uint64_t index;       /* where the index starts */
     uint64_t user;        /* where the user table starts */
@@ -52,7 +57,10 @@ typedef struct {
 
 FstfOpened fstf_open(const uint8_t *file, size_t file_length);
 
-/* ── Reading ── opens the file first: refused 1 to 7, then 8; then all other members are 0. Numbers count from 0. */
+/* ── Reading ── refused 1 to 7, then 8; then all other members are 0. Numbers count from 0.
+ * `fstf_frame` and `fstf_part` open the file at each call. `fstf_frame_of` and `fstf_part_of` go by an opening that went ahead: one who reads many
+ * items opens once, and passes what `fstf_open` answered. While the file stays as it was, the answers are the same. A number in `refused` is passed
+ * through; any other numbers lead to bytes within the file, or are refused 8. */
 typedef struct {
     uint64_t refused;
     uint64_t place;    /* where the frame starts in the file */
@@ -62,6 +70,7 @@ typedef struct {
 } FstfFrame;
 
 FstfFrame fstf_frame(const uint8_t *file, size_t file_length, uint64_t i);
+FstfFrame fstf_frame_of(const uint8_t *file, size_t file_length, FstfOpened opened, uint64_t i);
 
 /* Where the bytes of an item stand in the file. */
 typedef struct {
@@ -82,9 +91,12 @@ enum {
 };
 
 FstfPart fstf_part(const uint8_t *file, size_t file_length, uint64_t kind, uint64_t i, uint64_t j);
+FstfPart fstf_part_of(const uint8_t *file, size_t file_length, FstfOpened opened, uint64_t kind, uint64_t i, uint64_t j);
 
-/* ── Recording ── begin once, add each frame, close five times. Each call is given the state and hands back the next one; the caller stores the
- * piece, the first `length` bytes of `out`, at `place` in the file. Refused, the state is handed back as it was given. */
+/* ── Recording ── into a file that is empty: begin once, add each frame, close five times. Each call is given the state and the notes as the call
+ * before left them, and hands out one piece, the first `length` bytes of `out`. The caller stores it at `place` in the file, the pieces in the order
+ * in which they came: then a recording that was cut short, at any byte, does not open, and `fstf_repair` keeps its whole frames once the first piece
+ * was stored. Refused, the state is handed back as it was given, and nothing is to be stored. */
 typedef struct {
     uint64_t stage;    /* 0 fresh, 1 running, 2 closing, 3 closed; any other number is taken as closed */
     uint64_t piece;    /* closing: the next piece, 0 to 4; else 0 */
@@ -115,7 +127,9 @@ FstfTaken fstf_begin(FstfRecorder recorder, const uint8_t *setup, size_t setup_l
 FstfTaken fstf_add(FstfRecorder recorder, int64_t time, uint32_t exposure, const uint8_t *sections, size_t sections_length, uint8_t *notes,
                    size_t notes_length, uint8_t *out, size_t out_length);
 
-/* One closing piece: the index, the empty user table, and three header fields. */
+/* One closing piece a call, in this order: the index behind the frames, the empty user table behind the index, and in the header the count, the user
+ * offset and the index offset. The first call ends adding; it wants `notes` of 4 bytes and 16 more for each frame, and an `out` as long. The others do
+ * not look at `notes` and want 8 bytes of `out` at most. After the fifth the recorder is closed. Refused 12, 9. */
 FstfTaken fstf_close(FstfRecorder recorder, const uint8_t *notes, size_t notes_length, uint8_t *out, size_t out_length);
 
 /* ── Repair ── of a file that was cut: keep its first `kept` bytes, put the tail behind them, and set the header's count, index offset and user

@@ -1,4 +1,5 @@
-/* A frame at the limit of a section's bytes and one past it, over the static library: one line per check. */
+/* A frame at the limit of a section's bytes and one past it, and its reading by the numbers of one opening, over the static library: one line per
+ * check. */
 #include <stdio.h>
 #include <stdlib.h>
 #include <string.h>
@@ -66,6 +67,15 @@ int main(void) {
 
     FstfOpened opened = fstf_open(file, length);
     check("the file opens with one frame and one section", opened.refused == 0 && opened.frames == 1 && opened.sections == 1);
+    FstfFrame frame = fstf_frame(file, length, 0), frame_of = fstf_frame_of(file, length, opened, 0);
+    check("what opening answered leads to the same frame", frame.refused == 0 && memcmp(&frame, &frame_of, sizeof frame) == 0);
+    FstfPart part = fstf_part(file, length, FSTF_SECTION, 0, 0), part_of = fstf_part_of(file, length, opened, FSTF_SECTION, 0, 0);
+    check("and to the same section", part.refused == 0 && part.length == LIMIT && memcmp(&part, &part_of, sizeof part) == 0);
+    opened.refused = FSTF_USER_TABLE;
+    check("a refusal in it is passed through", fstf_part_of(file, length, opened, FSTF_SECTION, 0, 0).refused == FSTF_USER_TABLE);
+    opened.refused = 0;
+    part = fstf_part_of(NULL, 0, opened, FSTF_SECTION, 0, 0);
+    check("a null pointer of length 0 is answered", fstf_open(NULL, 0).refused == FSTF_NOT_FSTF && part.refused == FSTF_NO_SUCH_ITEM);
     printf("%d failed\n", failures);
     return failures != 0;
 }

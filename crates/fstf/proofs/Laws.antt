@@ -2,10 +2,12 @@
 -- Assumes nothing.
 use Prim.Native.Nat.{ℕ, _<_, _≤_}
 use mathlib.Core.Path.{_≡_, refl, ap, sym, _∙_}
+use mathlib.Core.Bool.{cond}
 use mathlib.Core.List.{List}
-use lib.IntN.{ℤ, pos}
+use lib.Dec.{eqb}
+use lib.IntN.{ℤ}
 use borrow.Author.Needs.{needs}
-use borrow.Author.Tests.{lt-ltb, le-ltb, ne-eqb}
+use borrow.Author.Tests.{lt-ltb, le-ltb, eq-eqb, ne-eqb}
 use Rattle.opening.specs.Opened.{openOf}
 use Rattle.opening.specs.declared.Held.{Held}
 use Rattle.opening.specs.declared.Opening.{Opening}
@@ -20,15 +22,14 @@ use Rattle.recorder.specs.declared.Taken.{Taken}
 use Rattle.repair.specs.Repaired as repairing
 use Rattle.repair.specs.declared.Repaired.{Repaired}
 use Rattle.repair.specs.declared.Repaired.the-variants as repair
-use Rattle.fstf.specs.Face.{openedFlat, closingAt, stageAsked, recorderAsked, stageNumber, pieceNumber, recorderFlat, pieceFlat, takenFlat, recorded, recordedFlat, repairedFlat, repaired, madeFlat}
+use Rattle.fstf.specs.Face.{openedFlat, heldAsked, closingAt, stageAsked, recorderAsked, stageNumber, pieceNumber, recorderFlat, pieceFlat, takenFlat, recorded, recordedFlat, repairedFlat, repaired, madeFlat}
 use Rattle.fstf.specs.declared.FstfOpened.{FstfOpened}
 use Rattle.fstf.specs.declared.FstfRecorder.{FstfRecorder}
 use Rattle.fstf.specs.declared.FstfTaken.{FstfTaken}
 use Rattle.fstf.specs.declared.FstfRepaired.{FstfRepaired}
 use Rattle.layout.specs.Browser as layout
-use Rattle.reading.specs.Read.{findOf, frameReadOf}
+use Rattle.reading.specs.Read.{findOf, frameReadOf, heldFrame, heldFound}
 use Rattle.reading.specs.declared.Item.{Item}
-use Rattle.reading.specs.declared.Item.the-variants as item
 use Rattle.reading.specs.declared.Found.{Found}
 use Rattle.reading.specs.declared.Found.the-variants as found
 use Rattle.reading.specs.declared.FrameRead.{FrameRead}
@@ -39,22 +40,35 @@ use Rattle.saving.specs.declared.Saved.the-variants as save
 use Rattle.browser.specs.Browsing.{browsedAs}
 use Rattle.browser.specs.declared.Browsed.{Browsed}
 use Rattle.browser.specs.declared.Browsed.the-variants as browsed
-use Rattle.fstf.specs.Face.{frameFlat, partFlat, itemAsked, savedFlat, saved, outcomeFlat, tagFlat}
+use Rattle.fstf.specs.Face.{frameNot, frameFlat, frameHeld, partNot, partFlat, partHeld, itemAsked, savedFlat, saved, outcomeFlat, tagFlat}
 use Rattle.fstf.specs.declared.FstfFrame.{FstfFrame}
 use Rattle.fstf.specs.declared.FstfPart.{FstfPart}
 use Rattle.fstf.specs.declared.FstfSaved.{FstfSaved}
 use Rattle.fstf.specs.declared.FstfTag.{FstfTag}
 
+-- ── What a number asks for ──
+
+-- the number that is asked for first, or what the others say
+pub asks : {A : Type 0} (k m : ℕ) (x y z : A) → k ≡ m → z ≡ x → z ≡ cond (eqb k m) x y
+asks k m x y z e h = rw (eq-eqb k m e) h
+
+pub asks-not : {A : Type 0} (k m : ℕ) (x y z : A) → (k ≡ m → ⊥) → z ≡ y → z ≡ cond (eqb k m) x y
+asks-not k m x y z e h = rw (ne-eqb k m e) h
+
 -- ── Opening ──
 
-pub opened-is : (o : Opening) (h : Held) → o ≡ opening.Opened h → record { refused = 0; frames = h .frames; sections = h .sections; «system_tags» = h .«system_tags»; «user_tags» = h .«user_tags»; start = h .start; index = h .index; user = h .user } ≡ openedFlat o
+pub opened-is : (o : Opening) (h : Held) → o ≡ opening.Opened h → record { refused = 0; frames = h .frames; sections = h .sections; «system_tags» = h .«system_tags»; «user_tags» = h .«user_tags»; system = h .system; start = h .start; index = h .index; user = h .user } ≡ openedFlat o
 opened-is o h e = sym (ap openedFlat e)
 
-pub opened-not : (o : Opening) (n : ℕ) → o ≡ opening.Refused n → record { refused = n; frames = 0; sections = 0; «system_tags» = 0; «user_tags» = 0; start = 0; index = 0; user = 0 } ≡ openedFlat o
+pub opened-not : (o : Opening) (n : ℕ) → o ≡ opening.Refused n → record { refused = n; frames = 0; sections = 0; «system_tags» = 0; «user_tags» = 0; system = 0; start = 0; index = 0; user = 0 } ≡ openedFlat o
 opened-not o n e = sym (ap openedFlat e)
 
 pub open-face : (f : List ℕ) (o : Opening) (r : FstfOpened) → o ≡ openOf f → r ≡ openedFlat o → r ≡ openedFlat (openOf f)
 open-face f o r a b = b ∙ ap openedFlat a
+
+pub held-is : (o : FstfOpened) → record { frames = o .frames; sections = o .sections; «system_tags» = o .«system_tags»; «user_tags» = o .«user_tags»; system = o .system; start = o .start; index = o .index; user = o .user } ≡ heldAsked o
+unfolding heldAsked
+held-is o = refl
 
 -- ── Recording ──
 
@@ -65,22 +79,6 @@ closing-past p e = rw (lt-ltb 4 p e)
 pub closing-is : (p : ℕ) → p ≤ 4 → stage.Closing p ≡ closingAt p
 unfolding closingAt
 closing-is p e = rw (le-ltb 4 p e)
-
-pub stage-0 : (n p : ℕ) → n ≡ 0 → stage.Fresh ≡ stageAsked n p
-unfolding stageAsked
-stage-0 n p e = rw e
-
-pub stage-1 : (n p : ℕ) → n ≡ 1 → stage.Running ≡ stageAsked n p
-unfolding stageAsked
-stage-1 n p e = rw e
-
-pub stage-2 : (n p : ℕ) (s : Stage) → n ≡ 2 → s ≡ closingAt p → s ≡ stageAsked n p
-unfolding stageAsked
-stage-2 n p s e h = h ∙ sym (ap (λ (m : ℕ). stageAsked m p) e)
-
-pub stage-3 : (n p : ℕ) → (n ≡ 0 → ⊥) → (n ≡ 1 → ⊥) → (n ≡ 2 → ⊥) → stage.Closed ≡ stageAsked n p
-unfolding stageAsked
-stage-3 n p a b c = rw (ne-eqb n 0 a, ne-eqb n 1 b, ne-eqb n 2 c)
 
 pub asked-is : (r : FstfRecorder) (s : Stage) → s ≡ stageAsked (r .stage) (r .piece) → record { stage = s; sections = r .sections; frames = r .frames; first = r .first; last = r .last; end = r .end } ≡ recorderAsked r
 unfolding recorderAsked
@@ -134,52 +132,36 @@ repair-face f out out' o r e h = ap (λ (x : FstfRepaired). repaired x out') h �
 pub frame-is : (o : FrameRead) (place len : ℕ) (time : ℤ) (exposure : ℕ) → o ≡ frame.Frame place len time exposure → record { refused = 0; place = place; length = len; time = time; exposure = exposure } ≡ frameFlat o
 frame-is o place len time exposure e = sym (ap frameFlat e)
 
-pub frame-not : (o : FrameRead) (n : ℕ) → o ≡ frame.Refused n → record { refused = n; place = 0; length = 0; time = pos 0; exposure = 0 } ≡ frameFlat o
-frame-not o n e = sym (ap frameFlat e)
+pub frame-not : (o : FrameRead) (n : ℕ) (r : FstfFrame) → o ≡ frame.Refused n → r ≡ frameNot n → r ≡ frameFlat o
+frame-not o n r e h = h ∙ sym (ap frameFlat e)
 
 pub frame-face : (f : List ℕ) (i : ℕ) (o : FrameRead) (r : FstfFrame) → o ≡ frameReadOf f i → r ≡ frameFlat o → r ≡ frameFlat (frameReadOf f i)
 frame-face f i o r a b = b ∙ ap frameFlat a
 
+pub frame-passed : (f : List ℕ) (o : FstfOpened) (i : ℕ) (r : FstfFrame) → (o .refused ≡ 0 → ⊥) → r ≡ frameNot (o .refused) → r ≡ frameHeld f o i
+unfolding frameHeld
+frame-passed f o i r e h = asks-not (o .refused) 0 (frameFlat (heldFrame f (heldAsked o) i)) (frameNot (o .refused)) r e h
+
+pub frame-held : (f : List ℕ) (o : FstfOpened) (i : ℕ) (h : Held) (x : FrameRead) (r : FstfFrame) → o .refused ≡ 0 → h ≡ heldAsked o → x ≡ heldFrame f h i → r ≡ frameFlat x → r ≡ frameHeld f o i
+unfolding frameHeld
+frame-held f o i h x r e a b c = asks (o .refused) 0 (frameFlat (heldFrame f (heldAsked o) i)) (frameNot (o .refused)) r e (c ∙ ap frameFlat (b ∙ ap (λ (y : Held). heldFrame f y i) a))
+
 pub part-is : (o : Found) (start len : ℕ) → o ≡ found.At start len → record { refused = 0; start = start; length = len } ≡ partFlat o
 part-is o start len e = sym (ap partFlat e)
 
-pub part-not : (o : Found) (n : ℕ) → o ≡ found.Refused n → record { refused = n; start = 0; length = 0 } ≡ partFlat o
-part-not o n e = sym (ap partFlat e)
+pub part-not : (o : Found) (n : ℕ) (r : FstfPart) → o ≡ found.Refused n → r ≡ partNot n → r ≡ partFlat o
+part-not o n r e h = h ∙ sym (ap partFlat e)
 
 pub part-face : (f : List ℕ) (kind i j : ℕ) (x : Item) (o : Found) (r : FstfPart) → x ≡ itemAsked kind i j → o ≡ findOf f x → r ≡ partFlat o → r ≡ partFlat (findOf f (itemAsked kind i j))
 part-face f kind i j x o r a b c = c ∙ ap partFlat (b ∙ ap (findOf f) a)
 
-pub kind-0 : (k i j : ℕ) → k ≡ 0 → item.Section i j ≡ itemAsked k i j
-unfolding itemAsked
-kind-0 k i j e = rw e
+pub part-passed : (f : List ℕ) (o : FstfOpened) (x : Item) (r : FstfPart) → (o .refused ≡ 0 → ⊥) → r ≡ partNot (o .refused) → r ≡ partHeld f o x
+unfolding partHeld
+part-passed f o x r e h = asks-not (o .refused) 0 (partFlat (heldFound f (heldAsked o) x)) (partNot (o .refused)) r e h
 
-pub kind-1 : (k i j : ℕ) → k ≡ 1 → item.SectionName i ≡ itemAsked k i j
-unfolding itemAsked
-kind-1 k i j e = rw e
-
-pub kind-2 : (k i j : ℕ) → k ≡ 2 → item.Configuration i ≡ itemAsked k i j
-unfolding itemAsked
-kind-2 k i j e = rw e
-
-pub kind-3 : (k i j : ℕ) → k ≡ 3 → item.SystemName i ≡ itemAsked k i j
-unfolding itemAsked
-kind-3 k i j e = rw e
-
-pub kind-4 : (k i j : ℕ) → k ≡ 4 → item.SystemValue i ≡ itemAsked k i j
-unfolding itemAsked
-kind-4 k i j e = rw e
-
-pub kind-5 : (k i j : ℕ) → k ≡ 5 → item.UserName i ≡ itemAsked k i j
-unfolding itemAsked
-kind-5 k i j e = rw e
-
-pub kind-6 : (k i j : ℕ) → k ≡ 6 → item.UserValue i ≡ itemAsked k i j
-unfolding itemAsked
-kind-6 k i j e = rw e
-
-pub kind-none : (k i j : ℕ) → (k ≡ 0 → ⊥) → (k ≡ 1 → ⊥) → (k ≡ 2 → ⊥) → (k ≡ 3 → ⊥) → (k ≡ 4 → ⊥) → (k ≡ 5 → ⊥) → (k ≡ 6 → ⊥) → item.Section 18446744073709551615 j ≡ itemAsked k i j
-unfolding itemAsked
-kind-none k i j a b c d e f g = rw (ne-eqb k 0 a, ne-eqb k 1 b, ne-eqb k 2 c, ne-eqb k 3 d, ne-eqb k 4 e, ne-eqb k 5 f, ne-eqb k 6 g)
+pub part-held : (f : List ℕ) (o : FstfOpened) (kind i j : ℕ) (h : Held) (x : Item) (y : Found) (r : FstfPart) → o .refused ≡ 0 → h ≡ heldAsked o → x ≡ itemAsked kind i j → y ≡ heldFound f h x → r ≡ partFlat y → r ≡ partHeld f o (itemAsked kind i j)
+unfolding partHeld
+part-held f o kind i j h x y r e a b c d = asks (o .refused) 0 (partFlat (heldFound f (heldAsked o) (itemAsked kind i j))) (partNot (o .refused)) r e (d ∙ ap partFlat (c ∙ ap (λ (z : Held). heldFound f z x) a ∙ ap (heldFound f (heldAsked o)) b))
 
 -- ── Saving and tags ──
 
@@ -208,4 +190,4 @@ tag-not o n e = sym (ap tagFlat e)
 pub tag-face : (b : layout.Browsed) (o : Browsed) (r : FstfTag) → o ≡ browsedAs b → r ≡ tagFlat o → r ≡ tagFlat (browsedAs b)
 tag-face b o r h k = k ∙ ap tagFlat h
 
-pub ruleset laws = (needs, opened-is, opened-not, open-face, closing-past, closing-is, stage-0, stage-1, stage-2, stage-3, asked-is, flat-is, piece-given, piece-refused, taken-is, new-face, begin-face, add-face, close-face, repaired-is, repaired-not, repair-face, frame-is, frame-not, frame-face, part-is, part-not, part-face, kind-0, kind-1, kind-2, kind-3, kind-4, kind-5, kind-6, kind-none, saved-table, saved-not, saved-conflict, save-face, tag-is, tag-end, tag-not, tag-face)
+pub ruleset laws = (needs, asks, asks-not, opened-is, opened-not, open-face, held-is, closing-past, closing-is, asked-is, flat-is, piece-given, piece-refused, taken-is, new-face, begin-face, add-face, close-face, repaired-is, repaired-not, repair-face, frame-is, frame-not, frame-face, frame-passed, frame-held, part-is, part-not, part-face, part-passed, part-held, saved-table, saved-not, saved-conflict, save-face, tag-is, tag-end, tag-not, tag-face)

@@ -11,7 +11,9 @@ use prog.Wp.{Heap}
 use Rattle.outcome.specs.Outcome.{Determines, agree}
 use Rattle.fstf.proofs.fstf_open
 use Rattle.fstf.proofs.fstf_frame
+use Rattle.fstf.proofs.fstf_frame_of
 use Rattle.fstf.proofs.fstf_part
+use Rattle.fstf.proofs.fstf_part_of
 use Rattle.fstf.proofs.fstf_new
 use Rattle.fstf.proofs.fstf_begin
 use Rattle.fstf.proofs.fstf_add
@@ -28,8 +30,14 @@ module _ {M : Type 1} (𝓤 : URA M) (H : Heap 𝓤) (A : Atoms 𝓤) (mem : Mem
   pub fstf-frame-one : Determines 𝓤 «fstf_frame».ended («fstf_frame».clauses 𝓤 H A mem run)
   fstf-frame-one κs a g x y v w = agree 𝓤 (λ p q. (p ∙ sym q, refl))
 
+  pub fstf-frame-of-one : Determines 𝓤 «fstf_frame_of».ended («fstf_frame_of».clauses 𝓤 H A mem run)
+  fstf-frame-of-one κs a g x y v w = agree 𝓤 (λ p q. (p ∙ sym q, refl))
+
   pub fstf-part-one : Determines 𝓤 «fstf_part».ended («fstf_part».clauses 𝓤 H A mem run)
   fstf-part-one κs a g x y v w = agree 𝓤 (λ p q. (p ∙ sym q, refl))
+
+  pub fstf-part-of-one : Determines 𝓤 «fstf_part_of».ended («fstf_part_of».clauses 𝓤 H A mem run)
+  fstf-part-of-one κs a g x y v w = agree 𝓤 (λ p q. (p ∙ sym q, refl))
 
   pub fstf-new-one : Determines 𝓤 «fstf_new».ended («fstf_new».clauses 𝓤 H A mem run)
   fstf-new-one κs a g x y v w = agree 𝓤 (λ p q. (p ∙ sym q, refl))

@@ -4,8 +4,10 @@ use mathlib.Core.Bool.{cond}
 use mathlib.Core.List.{List}
 use lib.IntN.{pos}
 use lib.Dec.{ltb, eqb}
+use Rattle.opening.specs.declared.Held.{Held}
 use Rattle.opening.specs.declared.Opening.{Opening}
 use Rattle.opening.specs.declared.Opening.the-variants as opening
+use Rattle.reading.specs.Read.{heldFrame, heldFound}
 use Rattle.reading.specs.declared.Item.{Item}
 use Rattle.reading.specs.declared.Item.the-variants as item
 use Rattle.reading.specs.declared.Found.{Found}
@@ -46,20 +48,49 @@ openedFlat (opening.Opened h) =
       sections = h .sections;
       «system_tags» = h .«system_tags»;
       «user_tags» = h .«user_tags»;
+      system = h .system;
       start = h .start;
       index = h .index;
       user = h .user;
     }
 openedFlat (opening.Refused n) =
-    record { refused = n; frames = 0; sections = 0; «system_tags» = 0; «user_tags» = 0; start = 0; index = 0; user = 0 }
+    record { refused = n; frames = 0; sections = 0; «system_tags» = 0; «user_tags» = 0; system = 0; start = 0; index = 0; user = 0 }
+
+-- the numbers that opening gave, or any others
+unfoldable pub heldAsked : FstfOpened → Held
+heldAsked o =
+    record {
+      frames = o .frames;
+      sections = o .sections;
+      «system_tags» = o .«system_tags»;
+      «user_tags» = o .«user_tags»;
+      system = o .system;
+      start = o .start;
+      index = o .index;
+      user = o .user;
+    }
+
+abbrev pub frameNot : ℕ → FstfFrame
+frameNot n = record { refused = n; place = 0; length = 0; time = pos 0; exposure = 0 }
 
 abbrev pub frameFlat : FrameRead → FstfFrame
 frameFlat (frame.Frame place len time exposure) = record { refused = 0; place = place; length = len; time = time; exposure = exposure }
-frameFlat (frame.Refused n) = record { refused = n; place = 0; length = 0; time = pos 0; exposure = 0 }
+frameFlat (frame.Refused n) = frameNot n
+
+-- opening's refusal, or the frame by opening's numbers
+unfoldable pub frameHeld : List ℕ → FstfOpened → ℕ → FstfFrame
+frameHeld f o i = cond (eqb (o .refused) 0) (frameFlat (heldFrame f (heldAsked o) i)) (frameNot (o .refused))
+
+abbrev pub partNot : ℕ → FstfPart
+partNot n = record { refused = n; start = 0; length = 0 }
 
 abbrev pub partFlat : Found → FstfPart
 partFlat (found.At start len) = record { refused = 0; start = start; length = len }
-partFlat (found.Refused n) = record { refused = n; start = 0; length = 0 }
+partFlat (found.Refused n) = partNot n
+
+-- opening's refusal, or the item by opening's numbers
+unfoldable pub partHeld : List ℕ → FstfOpened → Item → FstfPart
+partHeld f o item = cond (eqb (o .refused) 0) (partFlat (heldFound f (heldAsked o) item)) (partNot (o .refused))
 
 -- the item of a kind; any other kind asks for a section of a frame that no file has
 unfoldable pub itemAsked : (kind i j : ℕ) → Item

@@ -1,5 +1,6 @@
 // The C face: the library's calls under the prefix `fstf_`, with answers that are flat structs of numbers. include/fstf.h declares them.
 use browser::Browsed;
+use opening::Held;
 use opening::Opening;
 use reading::Found;
 use reading::FrameRead;
@@ -18,11 +19,11 @@ ghost use Rattle.recorder.specs.Recorded.{freshRecorder, beginOf, addOf, closeO
 ghost use Rattle.repair.specs.Repaired.{repairOf};
 ghost use Rattle.saving.specs.Save.{saveOf};
 ghost use Rattle.browser.specs.Browsing.{browsedAs};
-ghost use Rattle.fstf.specs.Face.{openedFlat, frameFlat, partFlat, itemAsked, closingAt, stageAsked, recorderAsked, stageNumber, pieceNumber, recorderFlat, pieceFlat, takenFlat, recorded, recordedFlat, repairedFlat, repaired, madeFlat, savedFlat, saved, outcomeFlat, tagFlat};
+ghost use Rattle.fstf.specs.Face.{openedFlat, heldAsked, frameNot, frameFlat, frameHeld, partNot, partFlat, partHeld, itemAsked, closingAt, stageAsked, recorderAsked, stageNumber, pieceNumber, recorderFlat, pieceFlat, takenFlat, recorded, recordedFlat, repairedFlat, repaired, madeFlat, savedFlat, saved, outcomeFlat, tagFlat};
 
 // ── Opening ──
 
-// What a file holds, in numbers, and where its frames, its index and its user table start; refused, all else is 0.
+// What a file holds, in numbers, and where its system table, its frames, its index and its user table start; refused, all else is 0.
 #[repr(C)]
 pub struct FstfOpened {
     pub refused: u64,
@@ -30,6 +31,7 @@ pub struct FstfOpened {
     pub sections: u64,
     pub system_tags: u64,
     pub user_tags: u64,
+    pub system: u64,
     pub start: u64,
     pub index: u64,
     pub user: u64,
@@ -45,6 +47,7 @@ fn opened_flat(answer: Opening) -> FstfOpened
             sections: held.sections as u64,
             system_tags: held.system_tags as u64,
             user_tags: held.user_tags as u64,
+            system: held.system as u64,
             start: held.start as u64,
             index: held.index as u64,
             user: held.user as u64,
@@ -55,6 +58,7 @@ fn opened_flat(answer: Opening) -> FstfOpened
             sections: 0,
             system_tags: 0,
             user_tags: 0,
+            system: 0,
             start: 0,
             index: 0,
             user: 0,
@@ -69,6 +73,22 @@ pub extern "C" fn fstf_open(file: &[u8]) -> FstfOpened
     opened_flat(opening::open(file))
 }
 
+// The numbers that opening gave, or any others.
+fn held_asked(opened: FstfOpened) -> Held
+    ensures { λ r. ⌜ r ≡ heldAsked opened ⌝ }
+{
+    Held {
+        frames: opened.frames as usize,
+        sections: opened.sections as usize,
+        system_tags: opened.system_tags as usize,
+        user_tags: opened.user_tags as usize,
+        system: opened.system as usize,
+        start: opened.start as usize,
+        index: opened.index as usize,
+        user: opened.user as usize,
+    }
+}
+
 // ── Reading ──
 
 // A frame: where it stands and what its head says; refused, all else is 0.
@@ -79,6 +99,18 @@ pub struct FstfFrame {
     pub length: u64,
     pub time: i64,
     pub exposure: u64,
+}
+
+fn frame_not(number: u64) -> FstfFrame
+    ensures { λ r. ⌜ r ≡ frameNot number ⌝ }
+{
+    FstfFrame {
+        refused: number,
+        place: 0,
+        length: 0,
+        time: 0,
+        exposure: 0,
+    }
 }
 
 fn frame_flat(answer: FrameRead) -> FstfFrame
@@ -97,13 +129,7 @@ fn frame_flat(answer: FrameRead) -> FstfFrame
             time,
             exposure: exposure as u64,
         },
-        FrameRead::Refused(number) => FstfFrame {
-            refused: number as u64,
-            place: 0,
-            length: 0,
-            time: 0,
-            exposure: 0,
-        },
+        FrameRead::Refused(number) => frame_not(number as u64),
     }
 }
 
@@ -114,12 +140,33 @@ pub extern "C" fn fstf_frame(file: &[u8], i: u64) -> FstfFrame
     frame_flat(reading::frame(file, i))
 }
 
+// A frame by the numbers of an opening that went ahead, whose refusal is passed through.
+#[no_mangle]
+pub extern "C" fn fstf_frame_of(file: &[u8], opened: FstfOpened, i: u64) -> FstfFrame
+    ensures { λ r. ⌜ r ≡ frameHeld (now (file .entry)) opened i ⌝ }
+{
+    if opened.refused == 0 {} else {
+        return frame_not(opened.refused);
+    }
+    frame_flat(reading::frame_of(file, held_asked(opened), i))
+}
+
 // Where the bytes of an item stand in the file; refused, "the empty part at the file's start".
 #[repr(C)]
 pub struct FstfPart {
     pub refused: u64,
     pub start: u64,
     pub length: u64,
+}
+
+fn part_not(number: u64) -> FstfPart
+    ensures { λ r. ⌜ r ≡ partNot number ⌝ }
+{
+    FstfPart {
+        refused: number,
+        start: 0,
+        length: 0,
+    }
 }
 
 fn part_flat(answer: Found) -> FstfPart
@@ -131,11 +178,7 @@ fn part_flat(answer: Found) -> FstfPart
             start: start as u64,
             length: len as u64,
         },
-        Found::Refused(number) => FstfPart {
-            refused: number as u64,
-            start: 0,
-            length: 0,
-        },
+        Found::Refused(number) => part_not(number as u64),
     }
 }
 
@@ -175,6 +218,23 @@ pub extern "C" fn fstf_part(file: &[u8], kind: u64, i: u64, j: u64) -> FstfPart
     ensures { λ r. ⌜ r ≡ partFlat (findOf (now (file .entry)) (itemAsked kind i j)) ⌝ }
 {
     part_flat(reading::find(file, item_asked(kind, i, j)))
+}
+
+// An item by the numbers of an opening that went ahead, whose refusal is passed through.
+#[no_mangle]
+pub extern "C" fn fstf_part_of(
+    file: &[u8],
+    opened: FstfOpened,
+    kind: u64,
+    i: u64,
+    j: u64,
+) -> FstfPart
+    ensures { λ r. ⌜ r ≡ partHeld (now (file .entry)) opened (itemAsked kind i j) ⌝ }
+{
+    if opened.refused == 0 {} else {
+        return part_not(opened.refused);
+    }
+    part_flat(reading::find_of(file, held_asked(opened), item_asked(kind, i, j)))
 }
 
 // ── Recording ──

@@ -34,6 +34,8 @@ impl Header {
 
     pub const MOST_TAGS: usize = 1_000;
 
+    pub const MOST_CHANGES: usize = 64;
+
     pub const FRAME_MARK: u64 = 0xEE01_22FF;
 
     pub const FRAME_HEAD: usize = 16;

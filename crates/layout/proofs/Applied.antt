@@ -10,7 +10,7 @@ use lib.Dec.{leb}
 use borrow.Author.Tests.{le-leb, not-true}
 use Rattle.number.proofs.Bytes.{both-true, and-true}
 use Rattle.layout.specs.Recording.{Tag, mostTags, every, same, among, distinct, legalTagName, legalTagValue, legalTag, tagNames, legalTable}
-use Rattle.layout.specs.Saving.{Entry, absent, holds, nobodyLooked, Change, changeNames, lookUp, newEntry, tagWith, kept, new, applied}
+use Rattle.layout.specs.Saving.{Entry, absent, holds, nobodyLooked, Change, changeNames, lookUp, newEntry, tagWith, keptTags, newTags, applied}
 use Rattle.layout.proofs.Lists.{or-false, or-right, cond-true, cond-false, same-refl, same-true}
 
 abbrev pub noChange : Change
@@ -66,11 +66,11 @@ lookUp-absent n (t ∷ ts) h =
     cond-false (same n (t .name)) (holds (t .value)) (lookUp n ts) (o .0) ∙ lookUp-absent n ts (o .1)
 
 -- a new tag is put in only where the table has none of its name
-new-step : (ts : List Tag) (c : Change) (cs : List Change) → new ts (c ∷ cs) ≡ tagWith (c .name) (cond (among (c .name) (tagNames ts)) absent (c .new)) ++ new ts cs
-unfolding new tagWith
+new-step : (ts : List Tag) (c : Change) (cs : List Change) → newTags ts (c ∷ cs) ≡ tagWith (c .name) (cond (among (c .name) (tagNames ts)) absent (c .new)) ++ newTags ts cs
+unfolding newTags tagWith
 new-step ts c cs = go (among (c .name) (tagNames ts))
   where
-    go : (b : Bool) → cond b [] (tagWith (c .name) (c .new)) ++ new ts cs ≡ tagWith (c .name) (cond b absent (c .new)) ++ new ts cs
+    go : (b : Bool) → cond b [] (tagWith (c .name) (c .new)) ++ newTags ts cs ≡ tagWith (c .name) (cond b absent (c .new)) ++ newTags ts cs
     go true = refl
     go false = refl
 
@@ -119,54 +119,54 @@ unfolding lookUp tagWith found
 lookUp-own n m absent ts d = refl
 lookUp-own n m (holds v) ts d = rw d
 
-lookUp-kept : (n : List ℕ) (e : Entry) (cs : List Change) (ts rest : List Tag) → ((t : Tag) → n ≡ t .name → newEntry cs t ≡ e) → lookUp n (kept cs ts ++ rest) ≡ found (among n (tagNames ts)) e (lookUp n rest)
-unfolding kept among tagNames found
+lookUp-kept : (n : List ℕ) (e : Entry) (cs : List Change) (ts rest : List Tag) → ((t : Tag) → n ≡ t .name → newEntry cs t ≡ e) → lookUp n (keptTags cs ts ++ rest) ≡ found (among n (tagNames ts)) e (lookUp n rest)
+unfolding keptTags among tagNames found
 lookUp-kept n e cs [] rest p = refl
 lookUp-kept n e cs (t ∷ ts) rest p = rw append-assoc (go (same n (t .name)) refl (lookUp-kept n e cs ts rest p))
   where
-    go : (b : Bool) → same n (t .name) ≡ b → lookUp n (kept cs ts ++ rest) ≡ found (among n (tagNames ts)) e (lookUp n rest) → lookUp n (tagWith (t .name) (newEntry cs t) ++ (kept cs ts ++ rest)) ≡ found (b || among n (tagNames ts)) e (lookUp n rest)
+    go : (b : Bool) → same n (t .name) ≡ b → lookUp n (keptTags cs ts ++ rest) ≡ found (among n (tagNames ts)) e (lookUp n rest) → lookUp n (tagWith (t .name) (newEntry cs t) ++ (keptTags cs ts ++ rest)) ≡ found (b || among n (tagNames ts)) e (lookUp n rest)
     go true s i = lookUp-own n (t .name) (newEntry cs t) _ s ∙ rw (p t (same-true n (t .name) s), i) (found-again (among n (tagNames ts)) e (lookUp n rest))
     go false s i = lookUp-past n (t .name) (newEntry cs t) _ s ∙ i
 
 -- the new tags have no name that the table has,
-new-old : (n : List ℕ) (ts : List Tag) (cs : List Change) → among n (tagNames ts) ≡ true → among n (tagNames (new ts cs)) ≡ false
-unfolding new among tagNames
+new-old : (n : List ℕ) (ts : List Tag) (cs : List Change) → among n (tagNames ts) ≡ true → among n (tagNames (newTags ts cs)) ≡ false
+unfolding newTags among tagNames
 new-old n ts [] h = refl
 new-old n ts (c ∷ cs) h = go (among (c .name) (tagNames ts)) refl (new-old n ts cs h)
   where
-    go : (b : Bool) → among (c .name) (tagNames ts) ≡ b → among n (tagNames (new ts cs)) ≡ false → among n (tagNames (cond b [] (tagWith (c .name) (c .new)) ++ new ts cs)) ≡ false
+    go : (b : Bool) → among (c .name) (tagNames ts) ≡ b → among n (tagNames (newTags ts cs)) ≡ false → among n (tagNames (cond b [] (tagWith (c .name) (c .new)) ++ newTags ts cs)) ≡ false
     go true e i = i
-    go false e i = among-past n (c .name) (c .new) (new ts cs) (same-sym (c .name) n (among-other (c .name) n (tagNames ts) e h)) ∙ i
+    go false e i = among-past n (c .name) (c .new) (newTags ts cs) (same-sym (c .name) n (among-other (c .name) n (tagNames ts) e h)) ∙ i
 
 -- and none that the sheet does not name
-new-other : (n : List ℕ) (ts : List Tag) (cs : List Change) → among n (changeNames cs) ≡ false → among n (tagNames (new ts cs)) ≡ false
-unfolding new among tagNames changeNames
+new-other : (n : List ℕ) (ts : List Tag) (cs : List Change) → among n (changeNames cs) ≡ false → among n (tagNames (newTags ts cs)) ≡ false
+unfolding newTags among tagNames changeNames
 new-other n ts [] h = refl
 new-other n ts (c ∷ cs) h =
     let o = or-false (same n (c .name)) (among n (changeNames cs)) h in
-    rw (new-step ts c cs) (among-past n (c .name) _ (new ts cs) (o .0) ∙ new-other n ts cs (o .1))
+    rw (new-step ts c cs) (among-past n (c .name) _ (newTags ts cs) (o .0) ∙ new-other n ts cs (o .1))
 
-lookUp-new : (ts : List Tag) (cs : List Change) (i : ℕ) → distinct (changeNames cs) ≡ true → i < length cs → among (getD cs i noChange .name) (tagNames ts) ≡ false → lookUp (getD cs i noChange .name) (new ts cs) ≡ getD cs i noChange .new
+lookUp-new : (ts : List Tag) (cs : List Change) (i : ℕ) → distinct (changeNames cs) ≡ true → i < length cs → among (getD cs i noChange .name) (tagNames ts) ≡ false → lookUp (getD cs i noChange .name) (newTags ts cs) ≡ getD cs i noChange .new
 unfolding distinct changeNames
 lookUp-new ts [] i d h o = absurd (omega arith)
 lookUp-new ts (c ∷ cs) zero d h o =
     let b = both-true (not (among (c .name) (changeNames cs))) (distinct (changeNames cs)) d in
-    rw (new-step ts c cs, o) (lookUp-own (c .name) (c .name) (c .new) (new ts cs) (same-refl (c .name)) ∙ rw (lookUp-absent (c .name) (new ts cs) (new-other (c .name) ts cs (not-true _ (b .0)))) (found-alone (c .new)))
+    rw (new-step ts c cs, o) (lookUp-own (c .name) (c .name) (c .new) (newTags ts cs) (same-refl (c .name)) ∙ rw (lookUp-absent (c .name) (newTags ts cs) (new-other (c .name) ts cs (not-true _ (b .0)))) (found-alone (c .new)))
 lookUp-new ts (c ∷ cs) (suc i) d h o =
     let b = both-true (not (among (c .name) (changeNames cs))) (distinct (changeNames cs)) d in
     let n = getD cs i noChange .name in
-    rw (new-step ts c cs) (lookUp-past n (c .name) _ (new ts cs) (same-sym (c .name) n (among-other (c .name) n (changeNames cs) (not-true _ (b .0)) (among-at cs i (omega arith)))) ∙ lookUp-new ts cs i (b .1) (omega arith) o)
+    rw (new-step ts c cs) (lookUp-past n (c .name) _ (newTags ts cs) (same-sym (c .name) n (among-other (c .name) n (changeNames cs) (not-true _ (b .0)) (among-at cs i (omega arith)))) ∙ lookUp-new ts cs i (b .1) (omega arith) o)
 
 -- Each tag that the sheet names is what it says.
 pub applied-named : (cs : List Change) (ts : List Tag) (i : ℕ) → distinct (changeNames cs) ≡ true → i < length cs → lookUp (getD cs i noChange .name) (applied cs ts) ≡ getD cs i noChange .new
 unfolding applied found
-applied-named cs ts i d h = lookUp-kept n (getD cs i noChange .new) cs ts (new ts cs) (λ t e. newEntry-at cs i t d h e) ∙ go (among n (tagNames ts)) refl
+applied-named cs ts i d h = lookUp-kept n (getD cs i noChange .new) cs ts (newTags ts cs) (λ t e. newEntry-at cs i t d h e) ∙ go (among n (tagNames ts)) refl
   where
     n : List ℕ
     n = getD cs i noChange .name
 
-    go : (b : Bool) → among n (tagNames ts) ≡ b → found b (getD cs i noChange .new) (lookUp n (new ts cs)) ≡ getD cs i noChange .new
-    go true e = rw (lookUp-absent n (new ts cs) (new-old n ts cs e)) (found-alone (getD cs i noChange .new))
+    go : (b : Bool) → among n (tagNames ts) ≡ b → found b (getD cs i noChange .new) (lookUp n (newTags ts cs)) ≡ getD cs i noChange .new
+    go true e = rw (lookUp-absent n (newTags ts cs) (new-old n ts cs e)) (found-alone (getD cs i noChange .new))
     go false e = lookUp-new ts cs i d h e
 
 -- ── The tags that the sheet does not name ──
@@ -186,26 +186,26 @@ unfolding unnamed tagWith
 unnamed-named cs n absent h = refl
 unnamed-named cs n (holds v) h = rw h
 
-unnamed-kept : (cs : List Change) (ts : List Tag) → unnamed cs (kept cs ts) ≡ unnamed cs ts
-unfolding unnamed kept tagWith
+unnamed-kept : (cs : List Change) (ts : List Tag) → unnamed cs (keptTags cs ts) ≡ unnamed cs ts
+unfolding unnamed keptTags tagWith
 unnamed-kept cs [] = refl
-unnamed-kept cs (t ∷ ts) = unnamed-append cs (tagWith (t .name) (newEntry cs t)) (kept cs ts) ∙ go (among (t .name) (changeNames cs)) refl (unnamed-kept cs ts)
+unnamed-kept cs (t ∷ ts) = unnamed-append cs (tagWith (t .name) (newEntry cs t)) (keptTags cs ts) ∙ go (among (t .name) (changeNames cs)) refl (unnamed-kept cs ts)
   where
-    go : (b : Bool) → among (t .name) (changeNames cs) ≡ b → unnamed cs (kept cs ts) ≡ unnamed cs ts → unnamed cs (tagWith (t .name) (newEntry cs t)) ++ unnamed cs (kept cs ts) ≡ cond b (unnamed cs ts) (t ∷ unnamed cs ts)
+    go : (b : Bool) → among (t .name) (changeNames cs) ≡ b → unnamed cs (keptTags cs ts) ≡ unnamed cs ts → unnamed cs (tagWith (t .name) (newEntry cs t)) ++ unnamed cs (keptTags cs ts) ≡ cond b (unnamed cs ts) (t ∷ unnamed cs ts)
     go true e i = rw (unnamed-named cs (t .name) (newEntry cs t) e, i)
     go false e i = rw (newEntry-other cs t e, i, e)
 
 -- all the new tags have names of the sheet
-unnamed-new : (cs : List Change) (ts : List Tag) (ds : List Change) → ((i : ℕ) → i < length ds → among (getD ds i noChange .name) (changeNames cs) ≡ true) → unnamed cs (new ts ds) ≡ []
-unfolding unnamed new
+unnamed-new : (cs : List Change) (ts : List Tag) (ds : List Change) → ((i : ℕ) → i < length ds → among (getD ds i noChange .name) (changeNames cs) ≡ true) → unnamed cs (newTags ts ds) ≡ []
+unfolding unnamed newTags
 unnamed-new cs ts [] p = refl
 unnamed-new cs ts (d ∷ ds) p =
-    rw (new-step ts d ds) (unnamed-append cs (tagWith (d .name) _) (new ts ds) ∙ rw (unnamed-named cs (d .name) _ (p 0 (omega arith)), unnamed-new cs ts ds (λ i h. p (suc i) (omega arith))))
+    rw (new-step ts d ds) (unnamed-append cs (tagWith (d .name) _) (newTags ts ds) ∙ rw (unnamed-named cs (d .name) _ (p 0 (omega arith)), unnamed-new cs ts ds (λ i h. p (suc i) (omega arith))))
 
 -- No other tag changes, in value or in order.
 pub applied-others : (cs : List Change) (ts : List Tag) → unnamed cs (applied cs ts) ≡ unnamed cs ts
 unfolding applied
-applied-others cs ts = unnamed-append cs (kept cs ts) (new ts cs) ∙ rw (unnamed-kept cs ts, unnamed-new cs ts cs (among-at cs)) (append-nil (unnamed cs ts))
+applied-others cs ts = unnamed-append cs (keptTags cs ts) (newTags ts cs) ∙ rw (unnamed-kept cs ts, unnamed-new cs ts cs (among-at cs)) (append-nil (unnamed cs ts))
 
 -- ── The order of the names ──
 
@@ -244,42 +244,42 @@ names-with n absent ts = refl
 names-with n (holds v) ts = refl
 
 -- the kept tags' names, and those behind them
-names-kept : (cs : List Change) (ts rest : List Tag) → tagNames (kept cs ts ++ rest) ≡ those (λ n. not (removes cs n)) (tagNames ts) ++ tagNames rest
-unfolding kept tagNames those
+names-kept : (cs : List Change) (ts rest : List Tag) → tagNames (keptTags cs ts ++ rest) ≡ those (λ n. not (removes cs n)) (tagNames ts) ++ tagNames rest
+unfolding keptTags tagNames those
 names-kept cs [] rest = refl
 names-kept cs (t ∷ ts) rest =
-    rw (append-assoc (tagWith (t .name) (newEntry cs t)) (kept cs ts) rest) (names-with (t .name) (newEntry cs t) (kept cs ts ++ rest)
+    rw (append-assoc (tagWith (t .name) (newEntry cs t)) (keptTags cs ts) rest) (names-with (t .name) (newEntry cs t) (keptTags cs ts ++ rest)
     ∙ rw (removes-is cs t) (go (not (removes cs (t .name))) (names-kept cs ts rest)))
   where
     olds : List (List ℕ)
     olds = those (λ n. not (removes cs n)) (tagNames ts)
 
-    go : (b : Bool) → tagNames (kept cs ts ++ rest) ≡ olds ++ tagNames rest → cond b (t .name ∷ tagNames (kept cs ts ++ rest)) (tagNames (kept cs ts ++ rest)) ≡ cond b (t .name ∷ olds) olds ++ tagNames rest
+    go : (b : Bool) → tagNames (keptTags cs ts ++ rest) ≡ olds ++ tagNames rest → cond b (t .name ∷ tagNames (keptTags cs ts ++ rest)) (tagNames (keptTags cs ts ++ rest)) ≡ cond b (t .name ∷ olds) olds ++ tagNames rest
     go true i = ap (λ (l : List (List ℕ)). t .name ∷ l) i
     go false i = i
 
 -- the new tags' names
-names-new : (ts : List Tag) (cs : List Change) → tagNames (new ts cs) ≡ changeNames (those (brings ts) cs)
-unfolding new tagNames changeNames those brings
+names-new : (ts : List Tag) (cs : List Change) → tagNames (newTags ts cs) ≡ changeNames (those (brings ts) cs)
+unfolding newTags tagNames changeNames those brings
 names-new ts [] = refl
 names-new ts (c ∷ cs) = go (among (c .name) (tagNames ts)) (names-new ts cs)
   where
-    has : (b : Bool) → tagNames (new ts cs) ≡ changeNames (those (brings ts) cs) → cond b (c .name ∷ tagNames (new ts cs)) (tagNames (new ts cs)) ≡ changeNames (cond b (c ∷ those (brings ts) cs) (those (brings ts) cs))
+    has : (b : Bool) → tagNames (newTags ts cs) ≡ changeNames (those (brings ts) cs) → cond b (c .name ∷ tagNames (newTags ts cs)) (tagNames (newTags ts cs)) ≡ changeNames (cond b (c ∷ those (brings ts) cs) (those (brings ts) cs))
     has true i = ap (λ (l : List (List ℕ)). c .name ∷ l) i
     has false i = i
 
-    go : (b : Bool) → tagNames (new ts cs) ≡ changeNames (those (brings ts) cs) → tagNames (cond b [] (tagWith (c .name) (c .new)) ++ new ts cs) ≡ changeNames (cond (not b && not (isAbsent (c .new))) (c ∷ those (brings ts) cs) (those (brings ts) cs))
+    go : (b : Bool) → tagNames (newTags ts cs) ≡ changeNames (those (brings ts) cs) → tagNames (cond b [] (tagWith (c .name) (c .new)) ++ newTags ts cs) ≡ changeNames (cond (not b && not (isAbsent (c .new))) (c ∷ those (brings ts) cs) (those (brings ts) cs))
     go true i = i
-    go false i = names-with (c .name) (c .new) (new ts cs) ∙ has (not (isAbsent (c .new))) i
+    go false i = names-with (c .name) (c .new) (newTags ts cs) ∙ has (not (isAbsent (c .new))) i
 
 -- The names of the new table: the old ones that stay, in their order, then the new ones, in sheet order.
 pub applied-names : (cs : List Change) (ts : List Tag) → tagNames (applied cs ts) ≡ those (λ n. not (removes cs n)) (tagNames ts) ++ changeNames (those (brings ts) cs)
 unfolding applied
-applied-names cs ts = names-kept cs ts (new ts cs) ∙ rw (names-new ts cs)
+applied-names cs ts = names-kept cs ts (newTags ts cs) ∙ rw (names-new ts cs)
 
 -- A sheet of no changes leaves the table as it is.
 pub applied-none : (ts : List Tag) → applied [] ts ≡ ts
-unfolding applied kept new newEntry tagWith
+unfolding applied keptTags newTags newEntry tagWith
 applied-none [] = refl
 applied-none (t ∷ ts) = ap (λ (l : List Tag). t ∷ l) (applied-none ts)
 
@@ -310,18 +310,18 @@ newEntry-legal (c ∷ cs) t h v = go (same (c .name) (t .name)) (newEntry-legal 
     go true i = both-true (legalTagName (c .name)) (legalEntry (c .new)) (b .0) .1
     go false i = i
 
-kept-legal : (cs : List Change) (ts rest : List Tag) → every legalChange cs ≡ true → every legalTag ts ≡ true → every legalTag rest ≡ true → every legalTag (kept cs ts ++ rest) ≡ true
-unfolding kept every legalTag
+kept-legal : (cs : List Change) (ts rest : List Tag) → every legalChange cs ≡ true → every legalTag ts ≡ true → every legalTag rest ≡ true → every legalTag (keptTags cs ts ++ rest) ≡ true
+unfolding keptTags every legalTag
 kept-legal cs [] rest p h r = r
 kept-legal cs (t ∷ ts) rest p h r =
     let b = both-true (legalTagName (t .name) && legalTagValue (t .value)) (every legalTag ts) h in
     let l = both-true (legalTagName (t .name)) (legalTagValue (t .value)) (b .0) in
-    rw append-assoc (legal-with (t .name) (newEntry cs t) (kept cs ts ++ rest) (l .0) (newEntry-legal cs t p (l .1)) (kept-legal cs ts rest p (b .1) r))
+    rw append-assoc (legal-with (t .name) (newEntry cs t) (keptTags cs ts ++ rest) (l .0) (newEntry-legal cs t p (l .1)) (kept-legal cs ts rest p (b .1) r))
 
-new-legal : (ts : List Tag) (cs : List Change) → every legalChange cs ≡ true → every legalTag (new ts cs) ≡ true
-unfolding new every legalChange legalEntry
+new-legal : (ts : List Tag) (cs : List Change) → every legalChange cs ≡ true → every legalTag (newTags ts cs) ≡ true
+unfolding newTags every legalChange legalEntry
 new-legal ts [] p = refl
-new-legal ts (c ∷ cs) p = rw (new-step ts c cs) (legal-with (c .name) _ (new ts cs) (l .0) (go (among (c .name) (tagNames ts))) (new-legal ts cs (b .1)))
+new-legal ts (c ∷ cs) p = rw (new-step ts c cs) (legal-with (c .name) _ (newTags ts cs) (l .0) (go (among (c .name) (tagNames ts))) (new-legal ts cs (b .1)))
   where
     b : (legalChange c ≡ true) × (every legalChange cs ≡ true)
     b = both-true (legalChange c) (every legalChange cs) p
@@ -340,30 +340,30 @@ distinct-with n absent ts p h = h
 distinct-with n (holds v) ts p h = rw p h
 
 -- the kept tags have no name that the table does not have
-kept-other : (n : List ℕ) (cs : List Change) (ts rest : List Tag) → among n (tagNames ts) ≡ false → among n (tagNames rest) ≡ false → among n (tagNames (kept cs ts ++ rest)) ≡ false
-unfolding kept among tagNames
+kept-other : (n : List ℕ) (cs : List Change) (ts rest : List Tag) → among n (tagNames ts) ≡ false → among n (tagNames rest) ≡ false → among n (tagNames (keptTags cs ts ++ rest)) ≡ false
+unfolding keptTags among tagNames
 kept-other n cs [] rest p r = r
 kept-other n cs (t ∷ ts) rest p r =
     let o = or-false (same n (t .name)) (among n (tagNames ts)) p in
-    rw append-assoc (among-past n (t .name) (newEntry cs t) (kept cs ts ++ rest) (o .0) ∙ kept-other n cs ts rest (o .1) r)
+    rw append-assoc (among-past n (t .name) (newEntry cs t) (keptTags cs ts ++ rest) (o .0) ∙ kept-other n cs ts rest (o .1) r)
 
-kept-distinct : (cs : List Change) (ts rest : List Tag) → distinct (tagNames ts) ≡ true → distinct (tagNames rest) ≡ true → ((n : List ℕ) → among n (tagNames ts) ≡ true → among n (tagNames rest) ≡ false) → distinct (tagNames (kept cs ts ++ rest)) ≡ true
-unfolding kept distinct among tagNames
+kept-distinct : (cs : List Change) (ts rest : List Tag) → distinct (tagNames ts) ≡ true → distinct (tagNames rest) ≡ true → ((n : List ℕ) → among n (tagNames ts) ≡ true → among n (tagNames rest) ≡ false) → distinct (tagNames (keptTags cs ts ++ rest)) ≡ true
+unfolding keptTags distinct among tagNames
 kept-distinct cs [] rest d r p = r
 kept-distinct cs (t ∷ ts) rest d r p =
     let b = both-true (not (among (t .name) (tagNames ts))) (distinct (tagNames ts)) d in
     let o : among (t .name) (tagNames rest) ≡ false = p (t .name) (rw same-refl) in
     rw append-assoc
-    (distinct-with (t .name) (newEntry cs t) (kept cs ts ++ rest)
+    (distinct-with (t .name) (newEntry cs t) (keptTags cs ts ++ rest)
     (kept-other (t .name) cs ts rest (not-true _ (b .0)) o)
     (kept-distinct cs ts rest (b .1) r (λ n h. p n (or-right (same n (t .name)) _ h))))
 
-new-distinct : (ts : List Tag) (cs : List Change) → distinct (changeNames cs) ≡ true → distinct (tagNames (new ts cs)) ≡ true
-unfolding new distinct changeNames tagNames
+new-distinct : (ts : List Tag) (cs : List Change) → distinct (changeNames cs) ≡ true → distinct (tagNames (newTags ts cs)) ≡ true
+unfolding newTags distinct changeNames tagNames
 new-distinct ts [] d = refl
 new-distinct ts (c ∷ cs) d =
     let b = both-true (not (among (c .name) (changeNames cs))) (distinct (changeNames cs)) d in
-    rw (new-step ts c cs) (distinct-with (c .name) _ (new ts cs) (new-other (c .name) ts cs (not-true _ (b .0))) (new-distinct ts cs (b .1)))
+    rw (new-step ts c cs) (distinct-with (c .name) _ (newTags ts cs) (new-other (c .name) ts cs (not-true _ (b .0))) (new-distinct ts cs (b .1)))
 
 -- A legal table and a well-formed sheet give a legal table, where its tags are not too many.
 pub applied-legal : (cs : List Change) (ts : List Tag) → every legalChange cs ≡ true → distinct (changeNames cs) ≡ true → legalTable ts ≡ true → length (applied cs ts) ≤ mostTags → legalTable (applied cs ts) ≡ true
@@ -372,5 +372,5 @@ applied-legal cs ts p d h few =
     let b = both-true (leb (length ts) mostTags && every legalTag ts) (distinct (tagNames ts)) h in
     let l = both-true (leb (length ts) mostTags) (every legalTag ts) (b .0) in
     and-true _ _
-    (and-true _ _ (le-leb _ _ few) (kept-legal cs ts (new ts cs) p (l .1) (new-legal ts cs p)))
-    (kept-distinct cs ts (new ts cs) (b .1) (new-distinct ts cs d) (λ n e. new-old n ts cs e))
+    (and-true _ _ (le-leb _ _ few) (kept-legal cs ts (newTags ts cs) p (l .1) (new-legal ts cs p)))
+    (kept-distinct cs ts (newTags ts cs) (b .1) (new-distinct ts cs d) (λ n e. new-old n ts cs e))

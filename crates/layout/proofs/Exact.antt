@@ -12,7 +12,7 @@ use lib.Pow.{areBytes}
 use borrow.Author.Tests.{ltb-true, lt-ltb, leb-true, le-leb, eqb-true, eq-eqb}
 use Rattle.number.specs.Number.{bytesOf}
 use Rattle.layout.specs.Recording.{Section, Tag, Frame, shortString, tagBytes, tableBytes, sizedBytes, frameHeadBytes, frameBytes, frameMark, longestSection, mostSections, mostTags, within, every, distinct, legalSectionName, legalTagName, legalTagValue, isNameByte, isTagByte, tagNames, legalTag, legalTable, legalFrame}
-use Rattle.layout.specs.Reading.{good, Reader, only, times, exactly, number, block, string, Definition, definition, definedNames, definitions, tag, table, sized, frame}
+use Rattle.layout.specs.Reading.{good, Reader, times, exactly, number, string, Definition, definition, definedNames, definitions, tag, table, sized, frame}
 use Rattle.layout.specs.Recorder.{setUpSection, setUpList}
 use Rattle.number.proofs.Bytes.{both-true, and-true}
 use Rattle.layout.proofs.Readers.{Reads, reads-alike, give-reads, number-reads, block-reads, only-reads, then-reads, times-reads, exactly-good, exactly-is}
@@ -32,12 +32,6 @@ exact e oks alike = let r = reads-alike e oks alike in record { takes = r .takes
 
 pub number-exact : (w : ℕ) → Exact (λ n. ltb n (256 ^ w)) (bytesOf w) (number w)
 number-exact w = exact (number-reads w) (λ n. (lt-ltb n (256 ^ w), ltb-true n (256 ^ w))) (λ n h. refl)
-
-pub block-exact : (n : ℕ) → Exact (λ s. eqb (length s) n) (λ s. s) (block n)
-block-exact n = exact (block-reads n) (λ s. (eq-eqb (length s) n, eqb-true (length s) n)) (λ s h. refl)
-
-pub only-exact : {A : Type 0} (ok test : A → Bool) (bytes : A → List ℕ) (p : Reader A) → Exact ok bytes p → Exact (λ x. ok x && test x) bytes (only test p)
-only-exact ok test bytes p e = exact (only-reads test (reads e)) (λ x. (λ h. and-true (ok x) (test x) (h .0) (h .1), both-true (ok x) (test x))) (λ x h. refl)
 
 pub times-exact : {A : Type 0} (ok : A → Bool) (bytes : A → List ℕ) (p : Reader A) (k : ℕ) → Exact ok bytes p → Exact (λ xs. eqb (length xs) k && every ok xs) (flatMap bytes) (times k p)
 times-exact ok bytes p k e =

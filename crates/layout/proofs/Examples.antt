@@ -1,9 +1,9 @@
 -- The twelve marked examples, P1 to P12, as one table under one claim; and the recorder's calls for the same recording.
 -- Assumes nothing.
 use Prim.Native.Nat.{ℕ}
-use mathlib.Core.Bool.{Bool, true, false, not, _&&_, _||_}
+use mathlib.Core.Bool.{Bool, _&&_, _||_}
 use mathlib.Core.List.{List, [], _∷_, _++_, flatMap}
-use lib.ListN.{length, take, drop, replicate, set}
+use lib.ListN.{length, take, replicate, set}
 use lib.Seq.{sets}
 use lib.Dec.{T}
 use Rattle.number.specs.Number.{bytesOf, numberOf}
@@ -12,8 +12,8 @@ use Rattle.layout.specs.Reading.{onward, give, _then_, only, times, exac
 use Rattle.layout.specs.Opening.{firstOf, field, headerCount, indexOffset, systemOffset, userOffset, readDefinitions, definedIn, readSystem, readUser, walkStart, walkOf, counted, notFstf, otherRevision, steps, offsetsLegal, lastOffset, badSections, badSystem, notClosed, badIndex, badUser, frontLines, openingLines, refusal, nextOffset, sectionsFrom, shown}
 use Rattle.layout.specs.Recorder.{isFresh, isRunning, takesClose, pieceNumber, tooLong, brokenState, answer, setUpSection, setUpList, sectionsOf, badSetUp, firstPiece, beginLines, begun, begin, framePiece, badShape, badClock, addLines, firstAfter, added, noted, add, closingPieces, closingPiece, notesShort, stageAfter, closeLines, closedBy, close}
 use Rattle.layout.specs.Storage.{Call, begins, adds, closes, started, pieceOf, passedOn, called, session, write, writesAt, writes, stored, fileOf}
-use Rattle.layout.specs.Repair.{walked, keptLength, keptCount, tail, repairLines, repairRefusal, Repair, repairAnswer, repair, withFields, repaired}
-use Rattle.layout.specs.Saving.{tagValue, malformed, entryOf, seenOf, change, changeNames, sheet, changesOf, lookUp, sameEntry, agrees, conflicts, someConflict, conflictPlace, newEntry, tagWith, kept, new, applied, userTags, newTable, saveLines, saveRefusal, Save, saveAnswer, save}
+use Rattle.layout.specs.Repair.{walked, keptLength, keptCount, tail, repairLines, repairRefusal, repairAnswer, repair, withFields, repaired}
+use Rattle.layout.specs.Saving.{tagValue, malformed, entryOf, seenOf, change, changeNames, sheet, changesOf, lookUp, sameEntry, agrees, conflicts, someConflict, conflictPlace, newEntry, tagWith, keptTags, newTags, applied, userTags, newTable, saveLines, saveRefusal, saveAnswer, save}
 
 -- "A whole file, 98 bytes"
 theFile : List ℕ
@@ -88,7 +88,7 @@ holdsAt r = same (r .given) (r .expected)
 
 -- P1 to P12 hold of the definitions
 pub examples : T (every holdsAt rows)
-unfolding theFile unclosed theSheet tableWithSite opens repairs saves row rows holdsAt bytesOf numberOf flatMap fileMark shortString tableBytes tagBytes sizedBytes frameHeadBytes frameBytes entryBytes entriesBytes firstTime indexBytes every same among distinct isNameByte isTagByte legalSectionName legalTagName legalTagValue tagNames follows follow inOrder onward give _then_ only times exactly valueOr taken number block string definition definedNames definitions tag table sized frame stopped longer walk firstOf field headerCount indexOffset systemOffset userOffset readDefinitions definedIn readSystem readUser walkStart walkOf counted notFstf otherRevision steps offsetsLegal lastOffset badSections badSystem notClosed badIndex badUser frontLines openingLines refusal nextOffset sectionsFrom shown tooLong walked keptLength keptCount tail repairLines repairRefusal repairAnswer repair withFields repaired tagValue malformed entryOf seenOf change changeNames sheet changesOf lookUp sameEntry agrees conflicts someConflict conflictPlace newEntry tagWith kept new applied userTags newTable saveLines saveRefusal saveAnswer save
+unfolding theFile unclosed theSheet tableWithSite opens repairs saves row rows holdsAt bytesOf numberOf flatMap fileMark shortString tableBytes tagBytes sizedBytes frameHeadBytes frameBytes entryBytes entriesBytes firstTime indexBytes every same among distinct isNameByte isTagByte legalSectionName legalTagName legalTagValue tagNames follows follow inOrder onward give _then_ only times exactly valueOr taken number block string definition definedNames definitions tag table sized frame stopped longer walk firstOf field headerCount indexOffset systemOffset userOffset readDefinitions definedIn readSystem readUser walkStart walkOf counted notFstf otherRevision steps offsetsLegal lastOffset badSections badSystem notClosed badIndex badUser frontLines openingLines refusal nextOffset sectionsFrom shown tooLong walked keptLength keptCount tail repairLines repairRefusal repairAnswer repair withFields repaired tagValue malformed entryOf seenOf change changeNames sheet changesOf lookUp sameEntry agrees conflicts someConflict conflictPlace newEntry tagWith keptTags newTags applied userTags newTable saveLines saveRefusal saveAnswer save
 examples = tt
 
 -- ── The worked recording, by the recorder's own calls ──

@@ -13,10 +13,10 @@ use borrow.Author.Tests.{not-false}
 use Rattle.layout.specs.Recording.{Recording, Frame}
 use Rattle.layout.specs.Recorder.{Stage, fresh, running, closing, closed, Step, isFresh, isRunning, takesClose, pieceNumber, stageAfter, brokenState, answer, beginLines, addLines, closeLines, begin, add, close, begun, added, closedBy}
 use Rattle.layout.specs.Storage.{Call, begins, adds, closes, Session, called, session, givenBy, given, passedOn, accepted}
-use Rattle.layout.proofs.Lists.{or-false, cond-true, cond-false}
+use Rattle.layout.proofs.Lists.{or-false, cond-true, cond-false, cond-same}
 use Rattle.layout.proofs.Lines.{line-clear}
 use Rattle.layout.proofs.Answers.{goesOn, answered}
-use Rattle.layout.proofs.Trace.{beginStep, addStep, closeStep, frameGiven, withFrame, cond-same}
+use Rattle.layout.proofs.Trace.{beginStep, addStep, closeStep, frameGiven, withFrame}
 
 -- ── Calls in a row ──
 

@@ -85,14 +85,6 @@ stored-inside f p bytes h = stored-sets f p bytes h ∙ sets-eq bytes f p h
 pub cut-end : (m : ℕ) (f : List ℕ) (p : ℕ) (bytes : List ℕ) → p ≡ length f → stored f (take m (writesAt p bytes)) ≡ f ++ take m bytes
 cut-end m f p bytes e = rw take-writesAt (stored-end f p (take m bytes) e)
 
-pub cut-inside : (m : ℕ) (f : List ℕ) (p : ℕ) (bytes : List ℕ) → p + length bytes ≤ length f → stored f (take m (writesAt p bytes)) ≡ take p f ++ take m bytes ++ drop (p + length (take m bytes)) f
-cut-inside m f p bytes h = rw take-writesAt (stored-inside f p (take m bytes) (rw length-take (omega arith)))
-
--- a cut of a piece and others: what of it is past the piece is a cut of the others
-pub cut-pieces : (m : ℕ) (f : List ℕ) (p : Piece) (ps : List Piece) → stored f (take m (writes (p ∷ ps))) ≡ stored (stored f (take m (writesAt (p .place) (p .bytes)))) (take (m - length (p .bytes)) (writes ps))
-unfolding writes
-cut-pieces m f p ps = rw (take-append, length-writesAt, stored-append)
-
 -- all of a piece and others
 pub stored-pieces : (f : List ℕ) (p : Piece) (ps : List Piece) → stored f (writes (p ∷ ps)) ≡ stored (stored f (writesAt (p .place) (p .bytes))) (writes ps)
 unfolding writes

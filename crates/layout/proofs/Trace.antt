@@ -19,7 +19,7 @@ use Rattle.layout.specs.Opening.{firstOf}
 use Rattle.layout.specs.Recorder.{Stage, running, closing, closed, State, Step, Piece, piece, brokenState, isFresh, isRunning, takesClose, answer, noRoom, setUpList, sectionsOf, badSetUp, firstPiece, pieceNumber, begun, begin, beginLines, framePiece, badShape, tooLong, badClock, firstAfter, added, noted, add, addLines, closingPieces, closingPiece, stageAfter, closeLines, closedBy, close}
 use Rattle.layout.specs.Storage.{Call, begins, adds, closes, Session, freshState, started, session, called, passedOn, accepted, given, givenBy, nothingGiven, callFits}
 use Rattle.number.proofs.Bytes.{both-true, and-true, length-bytesOf}
-use Rattle.layout.proofs.Lists.{or-false, decided, cond-true, cond-false, every-append, flatMap-append}
+use Rattle.layout.proofs.Lists.{or-false, decided, cond-true, cond-false, every-append, flatMap-append, cond-same}
 use Rattle.layout.proofs.Exact.{setUpSectionFits, setUpList-exact, table-exact, sized-exact, times-exact, exactly-gives}
 use Rattle.layout.proofs.Sizes.{length-entry, front-most}
 use Rattle.layout.proofs.Lines.{line-clear}
@@ -543,10 +543,6 @@ close-runs ss r c l h =
     }
 
 -- ── One call ──
-
-pub cond-same : {A : Type 0} (b : Bool) (x : A) → cond b x x ≡ x
-cond-same true x = refl
-cond-same false x = refl
 
 reached-begins : (ss : Session) (r : Recording) (setUp system : List ℕ) (room : ℕ) → callFits (begins setUp system room) ≡ true → Reached ss r → Reached (called ss (begins setUp system room)) (givenBy ss (begins setUp system room) r)
 unfolding called givenBy begin callFits isFresh

@@ -1,11 +1,11 @@
 -- The tag browser, "Over bytes that are not exactly a legal table it is refused 7"; and, as a form needs it, a tag by its name.
-use Prim.Native.Nat.{ℕ, zero, suc, _+_}
-use mathlib.Core.Bool.{Bool, true, false, cond}
+use Prim.Native.Nat.{ℕ, suc, _+_}
+use mathlib.Core.Bool.{cond}
 use mathlib.Core.List.{List, [], _∷_}
 use lib.ListN.{length, getD}
 use lib.Dec.{ltb}
 use Rattle.layout.specs.Recording.{Tag, same}
-use Rattle.layout.specs.Reading.{exactly, table, Parsed, bad, good}
+use Rattle.layout.specs.Reading.{exactly, table, bad, good}
 use Rattle.layout.specs.Items.{Part, noTag, nameStart, valueStart}
 
 -- where name and value of a tag stand in the table; or the end; or the refusal

@@ -1,10 +1,10 @@
 -- "Reading item i runs what opening runs, then 8": frames, and what is handed back as a part of the file.
 use Prim.Native.Nat.{ℕ, zero, _+_}
-use mathlib.Core.Bool.{Bool, true, false, not, _&&_}
+use mathlib.Core.Bool.{Bool, not, _&&_}
 use mathlib.Core.List.{List, [], _∷_, _++_, flatMap}
 use lib.ListN.{length, take, getD}
-use lib.Dec.{ltb, eqb}
-use Rattle.layout.specs.Recording.{Section, Tag, Frame, Recording, headerLength, definitionListBytes, definitionsEnd, configurationsBytes, tagBytes, tableBytes, sizedBytes, frameBytes, framesStart, userStart}
+use lib.Dec.{ltb}
+use Rattle.layout.specs.Recording.{Section, Tag, Frame, Recording, headerLength, definitionListBytes, definitionsEnd, configurationsBytes, tagBytes, sizedBytes, frameBytes, framesStart, userStart}
 use Rattle.layout.specs.Opening.{line, firstOf, openingLines, shown}
 
 -- ── Which items there are ──

@@ -6,7 +6,7 @@ use lib.ListN.{length, take, drop, getD}
 use lib.Dec.{leb, ltb, eqb}
 use Rattle.number.specs.Number.{numberOf}
 use Rattle.layout.specs.Recording.{Section, Tag, Recording, countPlace, indexPlace, systemPlace, userPlace, headerLength, longestConfiguration, mostFrames, largestUserOffset, fileMark, revision, same, inOrder, indexBytes}
-use Rattle.layout.specs.Reading.{Definition, definitions, table, Parsed, bad, good, isBad, valueOr, taken, exactly, Walk, walk}
+use Rattle.layout.specs.Reading.{Definition, definitions, table, Parsed, isBad, valueOr, taken, exactly, Walk, walk}
 
 -- ── An order of refusals ──
 

@@ -7,7 +7,7 @@ use lib.Seq.{sets}
 use lib.Dec.{leb, ltb, eqb}
 use Rattle.number.specs.Number.{bytesOf}
 use Rattle.layout.specs.Recording.{Section, countPlace, indexPlace, userPlace, mostSections, mostFrames, largestTable, within, every, distinct, legalSectionName, sectionNames, follows, frontBytes, frameHeadBytes, entryBytes, indexLength, tableBytes}
-use Rattle.layout.specs.Reading.{Parsed, Reader, _then_, give, exactly, times, number, block, string, sized, table, isBad, valueOr}
+use Rattle.layout.specs.Reading.{Reader, _then_, give, exactly, times, number, block, string, sized, table, isBad, valueOr}
 use Rattle.layout.specs.Opening.{Line, line, firstOf}
 
 -- ── The state ──

@@ -4,8 +4,8 @@ use mathlib.Core.Bool.{Bool, true, false, not, _||_, cond}
 use mathlib.Core.List.{List, [], _∷_, _++_, map}
 use lib.ListN.{length}
 use lib.Dec.{ltb, eqb}
-use Rattle.layout.specs.Recording.{Tag, Recording, mostTags, within, same, among, distinct, legalTagName, legalTagValue, tagNames, tableBytes}
-use Rattle.layout.specs.Reading.{Parsed, Reader, bad, good, onward, _then_, only, give, exactly, times, number, string, isBad, valueOr}
+use Rattle.layout.specs.Recording.{Tag, mostTags, within, same, among, distinct, legalTagName, legalTagValue, tagNames, tableBytes}
+use Rattle.layout.specs.Reading.{Reader, bad, _then_, only, give, exactly, times, number, string, isBad, valueOr}
 use Rattle.layout.specs.Opening.{Line, line, firstOf, openingLines, shown}
 use Rattle.layout.specs.Recorder.{noRoom}
 
@@ -97,17 +97,17 @@ tagWith name absent = []
 tagWith name (holds v) = record { name = name; value = v } ∷ []
 
 -- "Kept tags keep their order and a changed tag its place; removed tags vanish"
-unfoldable pub kept : List Change → List Tag → List Tag
-kept cs [] = []
-kept cs (t ∷ ts) = tagWith (t .name) (newEntry cs t) ++ kept cs ts
+unfoldable pub keptTags : List Change → List Tag → List Tag
+keptTags cs [] = []
+keptTags cs (t ∷ ts) = tagWith (t .name) (newEntry cs t) ++ keptTags cs ts
 
 -- "new ones come last in sheet order"
-unfoldable pub new : List Tag → List Change → List Tag
-new ts [] = []
-new ts (c ∷ cs) = cond (among (c .name) (tagNames ts)) [] (tagWith (c .name) (c .new)) ++ new ts cs
+unfoldable pub newTags : List Tag → List Change → List Tag
+newTags ts [] = []
+newTags ts (c ∷ cs) = cond (among (c .name) (tagNames ts)) [] (tagWith (c .name) (c .new)) ++ newTags ts cs
 
 unfoldable pub applied : List Change → List Tag → List Tag
-applied cs ts = kept cs ts ++ new ts cs
+applied cs ts = keptTags cs ts ++ newTags ts cs
 
 -- ── The save ──
 

@@ -1,13 +1,13 @@
 -- A recording on storage that keeps the order of writes: its calls chained, its pieces stored byte by byte, and a cut after any of those bytes.
 use Prim.Native.Nat.{ℕ, zero, suc, _+_, _^_}
-use mathlib.Core.Bool.{Bool, true, false, _&&_, cond}
+use mathlib.Core.Bool.{Bool, true, _&&_, cond}
 use mathlib.Core.List.{List, [], _∷_, _++_}
-use lib.ListN.{length, take}
+use lib.ListN.{take}
 use lib.Dec.{ltb, eqb}
 use lib.Pow.{areBytes}
 use Rattle.layout.specs.Recording.{Recording}
 use Rattle.layout.specs.Reading.{exactly, times, sized, table, valueOr}
-use Rattle.layout.specs.Recorder.{Stage, fresh, State, Piece, Step, sectionsOf, begin, add, close}
+use Rattle.layout.specs.Recorder.{fresh, State, Piece, Step, sectionsOf, begin, add, close}
 
 -- ── A recording of ours ──
 

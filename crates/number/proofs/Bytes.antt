@@ -3,10 +3,11 @@
 use Prim.Native.Nat.{ℕ, zero, suc, _+_, _*_, _/_, _%_, _^_, _<_, _≤_}
 use native.Mathlib.Omega.{arith}
 use native.Mathlib.Nat.{pow-suc}
-use mathlib.Core.Path.{_≡_, refl, ap, sym, _∙_}
+use mathlib.Core.Path.{_≡_, refl, ap, _∙_}
 use mathlib.Core.Bool.{Bool, true, false, _&&_}
 use mathlib.Core.List.{List, [], _∷_, _++_}
-use lib.ListN.{length, getD}
+use lib.ListN.{length, take, drop, getD, length-drop}
+use lib.Seq.{length-take-le}
 use lib.Dec.{ltb}
 use lib.Pow.{areBytes}
 use borrow.Author.Tests.{ltb-true, lt-ltb}
@@ -64,3 +65,7 @@ bytesOf-numberOf (b ∷ bs) h =
 pub slice-bytes : (s : List ℕ) → ((i : ℕ) → Fits w8 (getD s i 0)) → areBytes s ≡ true
 slice-bytes [] h = refl
 slice-bytes (b ∷ bs) h = and-true _ _ (lt-ltb b 256 (h zero .fits)) (slice-bytes bs (λ i. h (suc i)))
+
+-- a part that is all there is as long as it should be
+pub part-long : (s : List ℕ) (at n : ℕ) → at + n ≤ length s → length (take n (drop at s)) ≡ n
+part-long s at n h = length-take-le n (drop at s) (simp length-drop (omega arith))

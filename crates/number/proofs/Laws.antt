@@ -1,23 +1,23 @@
 -- What the functions of this crate leave to be shown, as laws about the definitions.
 -- Assumes nothing.
-use Prim.Native.Nat.{ℕ, zero, suc, _+_, _*_, _-_, _/_, _%_, _^_, _<_, _≤_}
+use Prim.Native.Nat.{ℕ, suc, _+_, _*_, _-_, _/_, _%_, _^_, _<_, _≤_}
 use native.Mathlib.Omega.{arith}
 use native.Mathlib.Nat.{pow-suc, pow-le-pow-right, sub-self}
-use mathlib.Core.Path.{_≡_, refl, ap, sym, _∙_, subst}
+use mathlib.Core.Path.{_≡_, refl, ap, sym, _∙_}
 use mathlib.Core.Bool.{Bool, true, false, _&&_, cond}
 use mathlib.Core.List.{List, [], _∷_, _++_}
-use lib.ListN.{length, take, drop, getD, set, length-set}
-use lib.Seq.{drop-cons, sets, length-sets}
+use lib.ListN.{length, take, drop, getD, set}
+use lib.Seq.{drop-cons, drop-drop, sets}
 use lib.Dec.{leb, ltb, leb·zero}
-use lib.IntN.{ℤ, pos, negsuc, natAbs}
+use lib.IntN.{pos, negsuc, natAbs}
 use lib.Signed.{nonNeg, leZ}
 use lib.Dec.{T}
 use borrow.Author.Needs.{needs}
 use borrow.Author.Tests.{le-leb, lt-leb, ltb-true, ltb-false}
 use mir.Syntax.{w64}
-use mir.Val.{Fits, SFits, ofZ, toZ, sel}
-use mir.Facts.{toZ-ofZ, toZ-pos, toZ-neg}
-use Rattle.number.specs.Number.{bytesOf, numberOf, has, readAt, writeAt, rank}
+use mir.Val.{Fits, toZ, sel}
+use mir.Facts.{toZ-pos}
+use Rattle.number.specs.Number.{bytesOf, numberOf, has, readAt, writeAt}
 
 -- ── Reading ──
 
@@ -57,18 +57,45 @@ times-fits w left n h l e f = let b = below-top w left n h l e f in record { fit
 pub sum-fits : (w left n b : ℕ) → 0 < left → left ≤ w → w ≤ 8 → n < 256 ^ (w - left) → b < 256 → Fits w64 (n * 256 + b)
 sum-fits w left n b h l e f g = let t = below-top w left n h l e f in record { fits = omega arith }
 
-pub read-end : (s : List ℕ) (at w left n : ℕ) → left ≤ 0 → w ≤ 8 → at + w ≤ length s → n ≡ numberOf (take (w - left) (drop (at + left) s)) → n ≡ readAt s at w
-unfolding readAt
-read-end s at w left n z e f g =
-    let l : left ≡ 0 = omega arith in
+pub read-end : (s : List ℕ) (at w left n : ℕ) → left ≤ 0 → n ≡ numberOf (take (w - left) (drop (at + left) s)) → n ≡ numberOf (take w (drop at s))
+read-end s at w left n z g =
     let q : w - left ≡ w = omega arith in
     let r : at + left ≡ at = omega arith in
-    rw (le-leb w 8 e, le-leb (at + w) (length s) f) (g ∙ rw (q, r))
+    g ∙ rw (q, r)
+
+pub end-fits : (w left n : ℕ) → left ≤ 0 → n < 256 ^ (w - left) → n < 256 ^ w
+end-fits w left n z h = let q : w - left ≡ w = omega arith in rw q at h
 
 -- where the bytes are all there, the number is theirs
 pub read-is : (s : List ℕ) (at w : ℕ) → w ≤ 8 → at + w ≤ length s → readAt s at w ≡ numberOf (take w (drop at s))
 unfolding readAt
 read-is s at w e h = rw (le-leb w 8 e, le-leb (at + w) (length s) h)
+
+pub read-whole : (s : List ℕ) (at w n : ℕ) → w ≤ 8 → w ≤ length s → at ≤ length s - w → n ≡ numberOf (take w (drop at s)) → n ≡ readAt s at w
+read-whole s at w n e l h g = g ∙ sym (read-is s at w e (omega arith))
+
+-- eight bytes are two halves of four
+halves : (t : List ℕ) → numberOf (take 4 t) + 4294967296 * numberOf (take 4 (drop 4 t)) ≡ numberOf (take 8 t)
+unfolding numberOf
+halves [] = refl
+halves (a ∷ []) = omega arith
+halves (a ∷ b ∷ []) = omega arith
+halves (a ∷ b ∷ c ∷ []) = omega arith
+halves (a ∷ b ∷ c ∷ d ∷ t) = omega arith
+
+pub read-halves : (s : List ℕ) (at w low high : ℕ) → w ≡ 8 → w ≤ length s → at ≤ length s - w → low ≡ numberOf (take 4 (drop at s)) → high ≡ numberOf (take 4 (drop (at + 4) s)) → low + high * 4294967296 ≡ readAt s at w
+read-halves s at w low high e l h f g =
+    let q : at + 8 ≤ length s = omega arith in
+    let i = halves (drop at s) in
+    let j : high ≡ numberOf (take 4 (drop 4 (drop at s))) = g ∙ rw (drop-drop 4 at s) in
+    let k : low + high * 4294967296 ≡ numberOf (take 8 (drop at s)) = omega arith in
+    rw e (k ∙ sym (read-is s at 8 (omega arith) q))
+
+pub high-fits : (high : ℕ) → high < 256 ^ 4 → Fits w64 (high * 4294967296)
+high-fits high h = record { fits = omega arith }
+
+pub halves-fit : (low high : ℕ) → low < 256 ^ 4 → high < 256 ^ 4 → Fits w64 (low + high * 4294967296)
+halves-fit low high h k = record { fits = omega arith }
 
 pub read-wide : (s : List ℕ) (at w : ℕ) → 8 < w → 0 ≡ readAt s at w
 unfolding readAt
@@ -161,4 +188,4 @@ negative-cast n f e =
 pub pattern-again : (n : ℕ) → n < 2 ^ 64 → toZ w64 (18446744073709551615 - (18446744073709551615 - n)) ≡ toZ w64 n
 pattern-again n h = let e : 18446744073709551615 - (18446744073709551615 - n) ≡ n = omega arith in ap (toZ w64) e
 
-pub ruleset laws = (needs, read-start, one-fits, read-more, more-fits, times-fits, sum-fits, read-end, read-wide, read-short, read-far, write-short, write-far, write-start, write-more, write-end)
+pub ruleset laws = (needs, read-start, one-fits, read-more, more-fits, times-fits, sum-fits, read-end, end-fits, read-whole, read-halves, high-fits, halves-fit, read-wide, read-short, read-far, write-short, write-far, write-start, write-more, write-end)

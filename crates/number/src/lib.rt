@@ -1,15 +1,30 @@
 // Little-endian numbers of any width up to eight bytes, and Int64 by its 64-bit pattern.
 ghost use mathlib.Core.Path.{_≡_};
-ghost use Prim.Native.Nat.{_<_};
+ghost use Prim.Native.Nat.{_+_, _^_, _<_, _≤_};
+ghost use lib.ListN.{length, take, drop};
 ghost use mir.Syntax.{w64};
 ghost use mir.Val.{ofZ, toZ};
-ghost use Rattle.number.specs.Number.{readAt, writeAt, rank};
+ghost use Rattle.number.specs.Number.{numberOf, readAt, writeAt, rank};
 
 // A byte as a number: so that only one place asks that it fits.
 fn wide(byte: u8) -> u64
     ensures { λ r. ⌜ (r ≡ byte) × (r < 256) ⌝ }
 {
     byte as u64
+}
+
+// The number of `w` bytes that are there.
+fn read_there(s: &[u8], at: usize, w: usize) -> u64
+    requires { ⌜ (w ≤ 8) × (at + w ≤ length (now s)) ⌝ }
+    ensures { λ r. ⌜ (r ≡ numberOf (take w (drop at (now (s .entry))))) × (r < 256 ^ w) ⌝ }
+{
+    let mut n: u64 = 0;
+    let mut left = w;
+    while 0 < left {
+        left -= 1;
+        n = n * 256 + wide(s[at + left]);
+    }
+    n
 }
 
 // The number of `w` bytes at a place; 0 where they are not all there, or more than eight.
@@ -25,13 +40,13 @@ pub fn read(s: &[u8], at: usize, w: usize) -> u64
     if s.len() - w < at {
         return 0;
     }
-    let mut n: u64 = 0;
-    let mut left = w;
-    while 0 < left {
-        left -= 1;
-        n = n * 256 + wide(s[at + left]);
+    if w == 8 {
+        // in two halves, each of which a machine reads at once
+        let low = read_there(s, at, 4);
+        let high = read_there(s, at + 4, 4);
+        return low + high * 0x1_0000_0000;
     }
-    n
+    read_there(s, at, w)
 }
 
 // Stores the low `w` bytes of `n` at a place, where there is room for them.

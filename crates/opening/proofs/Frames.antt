@@ -10,17 +10,20 @@ use lib.Seq.{drop-drop}
 use lib.Dec.{leb, eqb}
 use borrow.Author.Needs.{needs}
 use borrow.Author.Tests.{le-leb, lt-leb, leb-true, eq-eqb, eqb-true}
+use mir.Syntax.{w64}
+use mir.Val.{Fits}
 use Rattle.number.specs.Number.{numberOf, readAt}
 use Rattle.number.proofs.Bytes.{both-true, and-true}
+use Rattle.number.proofs.Laws.{read-is}
 use Rattle.layout.specs.Recording.{Frame, frameMark, longestSection, within}
 use Rattle.layout.specs.Reading.{Parsed, bad, good, Reader, give, _then_, only, times, number, block, sized, frame}
 use Rattle.layout.proofs.Readers.{number-is, block-is, block-good, then-good, then-takes, times-suc-good}
 use Rattle.text.proofs.Laws.{only-bad, only-pass, only-fail}
 use Rattle.text.proofs.Rows.{then-bad, number-cut, end-good, end-bad}
 use Rattle.text.proofs.Times.{times-end, times-stop, times-done}
-use Rattle.opening.proofs.Readers.{read-is, number-read, block-short, then-next-bad, number-then, tested-then}
+use Rattle.opening.proofs.Readers.{number-read, block-short, then-next-bad, number-then, tested-then}
 use Rattle.text.specs.Rows.{endOf}
-use Rattle.opening.specs.Opened.{sizedAt, sectionsAt, wholeFrame, frameAt}
+use Rattle.opening.specs.Opened.{sizedAt, sectionsAt, frameEnd, wholeFrame, frameAt}
 use Rattle.text.specs.declared.Place.{Place}
 use Rattle.text.specs.declared.Place.the-variants.{End, Broken}
 use Rattle.opening.specs.declared.FrameAt.{FrameAt}
@@ -79,6 +82,17 @@ pub sized-whole : (f : List ℕ) (at n : ℕ) → 4 ≤ length f → at ≤ leng
 unfolding sizedAt endOf
 sized-whole f at n h e p l m = rw (size-whole f at (omega arith) (omega arith)) (ap End (omega arith))
 
+-- a section that stands there: its size and that many bytes
+pub size-stands : (f : List ℕ) (at : ℕ) (x : List ℕ) (n : ℕ) → sized (drop at f) ≡ good x n → (n ≡ 4 + readAt f at 4) × (at + n ≤ length f)
+unfolding sized
+size-stands f at x n e = go (tested-then (within 0 longestSection) 4 block (drop at f) x n e)
+  where
+    go : ((4 ≤ length (drop at f)) × (within 0 longestSection (numberOf (take 4 (drop at f))) ≡ true) × (m : ℕ) × (block (numberOf (take 4 (drop at f))) (drop 4 (drop at f)) ≡ good x m) × (n ≡ 4 + m)) → (n ≡ 4 + readAt f at 4) × (at + n ≤ length f)
+    go (l, t, m, g, p) =
+        let (a, b, c) = block-good (numberOf (take 4 (drop at f))) (drop 4 (drop at f)) x m g in
+        let r : readAt f at 4 ≡ numberOf (take 4 (drop at f)) = read-is f at 4 (omega arith) (omega (arith, length-drop at f)) in
+        (omega arith, omega (arith, length-drop at f, length-drop 4 (drop at f)))
+
 -- ── The sections of a frame ──
 
 pub sections-done : (f : List ℕ) (at left : ℕ) (all : Place) → left ≤ 0 → sectionsAt f at left ≡ all → End at ≡ all
@@ -94,6 +108,21 @@ unfolding sectionsAt sizedAt
 sections-step f at next left all r h p q e =
     let (x, n, g, a) = end-good (sized (drop at f)) at next (sym p ∙ q) in
     ap (λ (k : ℕ). endOf k (times (left - 1) sized (drop k f))) a ∙ sym (times-end sized left f at x n h g) ∙ e
+
+ended-not : (end : ℕ) → Broken ≡ End end → ⊥
+ended-not end e = let z : _≡_ {A = ℕ} 0 1 = cc in omega arith
+
+-- where some sections end, the first of them stands
+pub sections-first : (f : List ℕ) (at left end : ℕ) → 0 < left → sectionsAt f at left ≡ End end → (at + 4 + readAt f at 4 ≤ length f) × (sectionsAt f (at + 4 + readAt f at 4) (left - 1) ≡ End end)
+unfolding sectionsAt
+sections-first f at left end h e = go (sized (drop at f)) refl
+  where
+    go : (p : Parsed (List ℕ)) → sized (drop at f) ≡ p → (at + 4 + readAt f at 4 ≤ length f) × (sectionsAt f (at + 4 + readAt f at 4) (left - 1) ≡ End end)
+    go bad g = absurd (ended-not end (sym (times-stop sized left f at h g) ∙ e))
+    go (good x n) g =
+        let (a, b) = size-stands f at x n g in
+        let c : at + 4 + readAt f at 4 ≡ at + n = omega arith in
+        (omega arith, rw c (sym (times-end sized left f at x n h g) ∙ e))
 
 -- ── A frame ──
 
@@ -168,46 +197,75 @@ frame-is k s ss m h e t =
     (then-takes (number 4) (behindExposure k (numberOf (take 8 (drop 4 s)))) (drop 8 (drop 4 s)) (numberOf (take 4 (drop 8 (drop 4 s)))) _ 4 (m + 0) (number-is 4 (drop 8 (drop 4 s)) (omega (arith, length-drop 4 s, length-drop 8 (drop 4 s))))
     (then-takes (times k sized) _ _ ss _ m 0 (rw d₂ t) refl))))
 
+parsed-not : {A : Type 0} (x : A) (n : ℕ) → bad ≡ good x n → ⊥
+parsed-not x n e = let z : _≡_ {A = ℕ} 0 1 = cc in omega arith
+
 -- there is no frame where its parts can not be there
-no-frame : (f : List ℕ) (at k : ℕ) → ((x : Frame) (n : ℕ) → FrameParts k (drop at f) x n → ⊥) → None ≡ frameAt f at k
-unfolding frameAt wholeFrame
+no-frame : (f : List ℕ) (at k : ℕ) → ((x : Frame) (n : ℕ) → FrameParts k (drop at f) x n → ⊥) → Broken ≡ frameEnd f at k
+unfolding frameEnd endOf
 no-frame f at k h = go (frame k (drop at f)) refl
   where
-    go : (p : Parsed Frame) → frame k (drop at f) ≡ p → None ≡ wholeFrame at p
+    go : (p : Parsed Frame) → frame k (drop at f) ≡ p → Broken ≡ endOf at p
     go bad e = refl
     go (good x n) e = absurd (h x n (frame-parts k (drop at f) x n e))
 
-pub frame-short : (f : List ℕ) (at k : ℕ) → length f < 16 → None ≡ frameAt f at k
-frame-short f at k h = no-frame f at k (λ x n p. omega (arith, length-drop at f, p .long))
+pub end-short : (f : List ℕ) (at k : ℕ) → length f < 16 → Broken ≡ frameEnd f at k
+end-short f at k h = no-frame f at k (λ x n p. omega (arith, length-drop at f, p .long))
 
-pub frame-far : (f : List ℕ) (at k : ℕ) → 16 ≤ length f → length f - 16 < at → None ≡ frameAt f at k
-frame-far f at k h e = no-frame f at k (λ x n p. omega (arith, length-drop at f, p .long))
+pub end-far : (f : List ℕ) (at k : ℕ) → 16 ≤ length f → length f - 16 < at → Broken ≡ frameEnd f at k
+end-far f at k h e = no-frame f at k (λ x n p. omega (arith, length-drop at f, p .long))
 
-pub frame-unmarked : (f : List ℕ) (at k m : ℕ) → 16 ≤ length f → at ≤ length f - 16 → m ≡ readAt f at 4 → (m ≡ 3993051903 → ⊥) → None ≡ frameAt f at k
-frame-unmarked f at k m h e p u = no-frame f at k (λ x n q. u (p ∙ read-is f at 4 (omega arith) (omega arith) ∙ q .mark))
+pub end-unmarked : (f : List ℕ) (at k m : ℕ) → 16 ≤ length f → at ≤ length f - 16 → m ≡ readAt f at 4 → (m ≡ 3993051903 → ⊥) → Broken ≡ frameEnd f at k
+end-unmarked f at k m h e p u = no-frame f at k (λ x n q. u (p ∙ read-is f at 4 (omega arith) (omega arith) ∙ q .mark))
 
-sections-bad : (f : List ℕ) (at k : ℕ) (ss : List (List ℕ)) (m : ℕ) → sectionsAt f at k ≡ Broken → times k sized (drop at f) ≡ good ss m → ⊥
-unfolding sectionsAt endOf
-sections-bad f at k ss m b e = let z : _≡_ {A = ℕ} 0 1 = cc in omega arith
-
-pub frame-cut : (f : List ℕ) (at k : ℕ) (r : Place) → r ≡ sectionsAt f (at + 16) k → r ≡ Broken → None ≡ frameAt f at k
-frame-cut f at k r p q = no-frame f at k (λ x n w. sections-bad f (at + 16) k (x .sections) (w .sizes) (sym p ∙ q) (sym (ap (times k sized) (drop-drop 16 at f)) ∙ w .sections))
-
-ended : (a b : ℕ) → End a ≡ End b → a ≡ b
-ended a b w = cc
-
-pub frame-whole : (f : List ℕ) (at k m t e next : ℕ) (r : Place) → 16 ≤ length f → at ≤ length f - 16 → m ≡ readAt f at 4 → m ≡ 3993051903 → r ≡ sectionsAt f (at + 16) k → r ≡ End next → t ≡ readAt f (at + 4) 8 → e ≡ readAt f (at + 12) 4 → Whole next t e ≡ frameAt f at k
-unfolding frameAt wholeFrame sectionsAt endOf
-frame-whole f at k m t e next r h l p q u v a b = go (times k sized (drop (at + 16) f)) refl (sym u ∙ v)
+-- a frame with its mark ends where its sections do
+pub end-sections : (f : List ℕ) (at k m : ℕ) (r : Place) → 16 ≤ length f → at ≤ length f - 16 → m ≡ readAt f at 4 → m ≡ 3993051903 → r ≡ sectionsAt f (at + 16) k → r ≡ frameEnd f at k
+unfolding frameEnd sectionsAt endOf
+end-sections f at k m r h l p q u = u ∙ go (times k sized (drop (at + 16) f)) refl
   where
-    go : (x : Parsed (List (List ℕ))) → times k sized (drop (at + 16) f) ≡ x → endOf (at + 16) x ≡ End next → Whole next t e ≡ frameAt f at k
-    go bad g w = let z : _≡_ {A = ℕ} 0 1 = cc in absurd (omega arith)
-    go (good ss n) g w =
-        let i = frame-is k (drop at f) ss n (omega (arith, length-drop at f)) (sym (read-is f at 4 (omega arith) (omega arith)) ∙ sym p ∙ q) (ap (times k sized) (drop-drop 16 at f) ∙ g) in
-        let a′ : t ≡ numberOf (take 8 (drop 4 (drop at f))) = a ∙ read-is f (at + 4) 8 (omega arith) (omega arith) ∙ sym (ap (λ (l : List ℕ). numberOf (take 8 l)) (drop-drop 4 at f)) in
-        let b′ : e ≡ numberOf (take 4 (drop 12 (drop at f))) = b ∙ read-is f (at + 12) 4 (omega arith) (omega arith) ∙ sym (ap (λ (l : List ℕ). numberOf (take 4 l)) (drop-drop 12 at f)) in
-        let j : next ≡ at + (16 + n) = omega (arith, ended (at + 16 + n) next w) in
-        rw (i, a′, b′, j)
+    d : times k sized (drop 16 (drop at f)) ≡ times k sized (drop (at + 16) f)
+    d = ap (times k sized) (drop-drop 16 at f)
+
+    go : (x : Parsed (List (List ℕ))) → times k sized (drop (at + 16) f) ≡ x → endOf (at + 16) x ≡ frameEnd f at k
+    go bad g = no-frame f at k (λ x n w. let z : _≡_ {A = Parsed (List (List ℕ))} bad (good (x .sections) (w .sizes)) = sym g ∙ sym d ∙ w .sections in parsed-not (x .sections) (w .sizes) z)
+    go (good ss n) g =
+        let i = frame-is k (drop at f) ss n (omega (arith, length-drop at f)) (sym (read-is f at 4 (omega arith) (omega arith)) ∙ sym p ∙ q) (d ∙ g) in
+        rw i (ap End (omega arith))
+
+-- the frame that ends there, and its numbers where they stand
+pub ended : (f : List ℕ) (at k next : ℕ) → frameEnd f at k ≡ End next → (x : Frame) × (n : ℕ) × (frame k (drop at f) ≡ good x n) × (at + n ≡ next) × (x .time ≡ readAt f (at + 4) 8) × (x .exposure ≡ readAt f (at + 12) 4)
+unfolding frameEnd
+ended f at k next q =
+    let (x, n, g, a) = end-good (frame k (drop at f)) at next q in
+    let p = frame-parts k (drop at f) x n g in
+    let l : at + 16 ≤ length f = omega (arith, length-drop at f, p .long) in
+    let t : numberOf (take 8 (drop 4 (drop at f))) ≡ readAt f (at + 4) 8 = ap (λ (s : List ℕ). numberOf (take 8 s)) (drop-drop 4 at f) ∙ sym (read-is f (at + 4) 8 (omega arith) (omega arith)) in
+    let e : numberOf (take 4 (drop 12 (drop at f))) ≡ readAt f (at + 12) 4 = ap (λ (s : List ℕ). numberOf (take 4 s)) (drop-drop 12 at f) ∙ sym (read-is f (at + 12) 4 (omega arith) (omega arith)) in
+    (x, n, g, sym a, p .time ∙ t, p .exposure ∙ e)
+
+-- its sections end with it
+pub sections-ended : (f : List ℕ) (at k next : ℕ) → frameEnd f at k ≡ End next → sectionsAt f (at + 16) k ≡ End next
+unfolding sectionsAt endOf
+sections-ended f at k next q =
+    let (x, n, g, a, t, e) = ended f at k next q in
+    let p = frame-parts k (drop at f) x n g in
+    let s : times k sized (drop (at + 16) f) ≡ good (x .sections) (p .sizes) = sym (ap (times k sized) (drop-drop 16 at f)) ∙ p .sections in
+    rw s (ap End (omega (arith, p .taken)))
+
+pub not-ended : (f : List ℕ) (at k : ℕ) → frameEnd f at k ≡ Broken → frame k (drop at f) ≡ bad
+unfolding frameEnd
+not-ended f at k q = end-bad (frame k (drop at f)) at q
+
+pub frame-none : (f : List ℕ) (at k : ℕ) (r : Place) → r ≡ frameEnd f at k → r ≡ Broken → None ≡ frameAt f at k
+unfolding frameAt wholeFrame
+frame-none f at k r p q = rw (not-ended f at k (sym p ∙ q))
+
+pub frame-whole : (f : List ℕ) (at k t e next : ℕ) (r : Place) → r ≡ frameEnd f at k → r ≡ End next → t ≡ readAt f (at + 4) 8 → e ≡ readAt f (at + 12) 4 → Whole next t e ≡ frameAt f at k
+unfolding frameAt wholeFrame
+frame-whole f at k t e next r p q a b = go (ended f at k next (sym p ∙ q))
+  where
+    go : ((x : Frame) × (n : ℕ) × (frame k (drop at f) ≡ good x n) × (at + n ≡ next) × (x .time ≡ readAt f (at + 4) 8) × (x .exposure ≡ readAt f (at + 12) 4)) → Whole next t e ≡ frameAt f at k
+    go (x, n, g, i, c, d) = rw (g, a, b, c, d, i)
 
 -- ── How long a frame is ──
 
@@ -242,25 +300,34 @@ found f at k next t e q = go (frame k (drop at f)) refl q
     go bad g w = let z : _≡_ {A = ℕ} 0 1 = cc in absurd (omega arith)
     go (good x n) g w = (x, n, g, cc, cc, cc)
 
-pub not-found : (f : List ℕ) (at k : ℕ) → frameAt f at k ≡ None → frame k (drop at f) ≡ bad
-unfolding frameAt wholeFrame
-not-found f at k q = go (frame k (drop at f)) refl q
-  where
-    go : (p : Parsed Frame) → frame k (drop at f) ≡ p → wholeFrame at p ≡ None → frame k (drop at f) ≡ bad
-    go bad g w = g
-    go (good x n) g w = let z : _≡_ {A = ℕ} 0 1 = cc in absurd (omega arith)
-
--- a frame that was found ends behind its place, and its length fits a UInt32
+-- a frame that was found ends behind its place
 pub found-behind : (f : List ℕ) (at k next t e : ℕ) (r : FrameAt) → r ≡ frameAt f at k → r ≡ Whole next t e → at ≤ next
 found-behind f at k next t e r p q = go (found f at k next t e (sym p ∙ q))
   where
     go : ((x : Frame) × (n : ℕ) × (frame k (drop at f) ≡ good x n) × (at + n ≡ next) × (x .time ≡ t) × (x .exposure ≡ e)) → at ≤ next
     go (x, n, g, a, b, c) = omega arith
 
-pub found-short : (f : List ℕ) (at k next t e : ℕ) (r : FrameAt) → k ≤ 8 → r ≡ frameAt f at k → r ≡ Whole next t e → next - at < 2 ^ 32
-found-short f at k next t e r l p q = go (found f at k next t e (sym p ∙ q))
-  where
-    go : ((x : Frame) × (n : ℕ) × (frame k (drop at f) ≡ good x n) × (at + n ≡ next) × (x .time ≡ t) × (x .exposure ≡ e)) → next - at < 2 ^ 32
-    go (x, n, g, a, b, c) = omega (arith, frame-most k (drop at f) x n g)
+-- so does one whose end alone was asked for, and its length fits a UInt32
+pub end-behind : (f : List ℕ) (at k next : ℕ) (r : Place) → r ≡ frameEnd f at k → r ≡ End next → at ≤ next
+end-behind f at k next r p q =
+    let (x, n, g, a, b, c) = ended f at k next (sym p ∙ q) in
+    omega (arith, frame-parts k (drop at f) x n g .taken)
 
-pub ruleset laws = (needs, sized-short, sized-far, sized-large, sized-cut, sized-whole, sections-done, sections-stop, sections-step, frame-short, frame-far, frame-unmarked, frame-cut, frame-whole)
+pub end-within : (f : List ℕ) (at k next : ℕ) (r : Place) → r ≡ frameEnd f at k → r ≡ End next → at + 16 ≤ length f
+end-within f at k next r p q =
+    let (x, n, g, a, b, c) = ended f at k next (sym p ∙ q) in
+    omega (arith, frame-parts k (drop at f) x n g .long, length-drop at f)
+
+-- the places of its time and of its exposure fit
+pub time-fits : (f : List ℕ) (at k next : ℕ) (r : Place) → r ≡ frameEnd f at k → r ≡ End next → length f < 2 ^ 64 → Fits w64 (at + 4)
+time-fits f at k next r p q h = let l = end-within f at k next r p q in record { fits = omega arith }
+
+pub exposure-fits : (f : List ℕ) (at k next : ℕ) (r : Place) → r ≡ frameEnd f at k → r ≡ End next → length f < 2 ^ 64 → Fits w64 (at + 12)
+exposure-fits f at k next r p q h = let l = end-within f at k next r p q in record { fits = omega arith }
+
+pub end-near : (f : List ℕ) (at k next : ℕ) (r : Place) → k ≤ 8 → r ≡ frameEnd f at k → r ≡ End next → next - at < 2 ^ 32
+end-near f at k next r l p q =
+    let (x, n, g, a, b, c) = ended f at k next (sym p ∙ q) in
+    omega (arith, frame-most k (drop at f) x n g)
+
+pub ruleset laws = (needs, sized-short, sized-far, sized-large, sized-cut, sized-whole, sections-done, sections-stop, sections-step, end-short, end-far, end-unmarked, end-sections, frame-none, frame-whole, time-fits, exposure-fits)

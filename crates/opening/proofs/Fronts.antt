@@ -11,7 +11,7 @@ use borrow.Author.Needs.{needs}
 use borrow.Author.Tests.{le-leb, le-ltb, lt-ltb, ltb-false}
 use Rattle.layout.specs.Recording.{Tag, fileMark, same}
 use Rattle.layout.specs.Reading.{Parsed, bad, good, isBad, valueOr, taken, table}
-use Rattle.layout.specs.Opening.{firstOf, headerCount, indexOffset, systemOffset, userOffset, readDefinitions, definedIn, readSystem, walkStart, lastOffset, notFstf, otherRevision, badSections, badSystem, frontLines}
+use Rattle.layout.specs.Opening.{firstOf, headerCount, indexOffset, systemOffset, userOffset, definedIn, readSystem, walkStart, lastOffset, notFstf, otherRevision, badSections, badSystem, frontLines}
 use Rattle.layout.proofs.Lists.{or-false}
 use Rattle.layout.proofs.Lines.{line-pass, line-holds, FrontPasses, front-pass}
 use Rattle.text.specs.Table.{tablePlaceOf}
@@ -40,17 +40,17 @@ pub sections-refused : (f : List ℕ) → sectionsOf f ≡ sectionsAs.Broken →
 unfolding sectionsOf
 sections-refused f e = go (badSections f) e
   where
-    go : (b : Bool) → cond b sectionsAs.Broken (sectionsAs.Legal (length (definedIn f)) (33 + taken (readDefinitions f)) (lastOffset 0 (definedIn f))) ≡ sectionsAs.Broken → b ≡ true
+    go : (b : Bool) → cond b sectionsAs.Broken (sectionsAs.Legal (length (definedIn f)) (lastOffset 0 (definedIn f))) ≡ sectionsAs.Broken → b ≡ true
     go true q = refl
     go false q = let z : _≡_ {A = ℕ} 0 1 = cc in absurd (omega arith)
 
-pub sections-pass : (f : List ℕ) (n end last : ℕ) → sectionsOf f ≡ sectionsAs.Legal n end last → (badSections f ≡ false) × (length (definedIn f) ≡ n) × (33 + taken (readDefinitions f) ≡ end) × (lastOffset 0 (definedIn f) ≡ last)
+pub sections-pass : (f : List ℕ) (n last : ℕ) → sectionsOf f ≡ sectionsAs.Legal n last → (badSections f ≡ false) × (length (definedIn f) ≡ n) × (lastOffset 0 (definedIn f) ≡ last)
 unfolding sectionsOf
-sections-pass f n end last e = go (badSections f) e
+sections-pass f n last e = go (badSections f) e
   where
-    go : (b : Bool) → cond b sectionsAs.Broken (sectionsAs.Legal (length (definedIn f)) (33 + taken (readDefinitions f)) (lastOffset 0 (definedIn f))) ≡ sectionsAs.Legal n end last → (b ≡ false) × (length (definedIn f) ≡ n) × (33 + taken (readDefinitions f) ≡ end) × (lastOffset 0 (definedIn f) ≡ last)
+    go : (b : Bool) → cond b sectionsAs.Broken (sectionsAs.Legal (length (definedIn f)) (lastOffset 0 (definedIn f))) ≡ sectionsAs.Legal n last → (b ≡ false) × (length (definedIn f) ≡ n) × (lastOffset 0 (definedIn f) ≡ last)
     go true q = let z : _≡_ {A = ℕ} 0 1 = cc in absurd (omega arith)
-    go false q = (refl, cc, cc, cc)
+    go false q = (refl, cc, cc)
 
 -- ── 4 ──
 
@@ -122,27 +122,27 @@ front-sections f a b c p q r s t u =
     front-number f 2 (line-pass 1 (notFstf f) _ (sym p ∙ q) ∙ line-pass 2 (otherRevision f) _ (sym r ∙ s) ∙ line-holds 3 (badSections f) _ (sections-refused f (sym t ∙ u)))
 
 -- what the code makes of the header and the sections it found
-system-of : (f : List ℕ) (h : Header) (n end last : ℕ) → notFstf f ≡ false → h ≡ headerOf f → sectionsOf f ≡ sectionsAs.Legal n end last → systemTable f (h .system) last ≡ systemTable f (systemOffset f) (lastOffset 0 (definedIn f))
-system-of f h n end last a p e = rw (p, header-is f a, sections-pass f n end last e .3)
+system-of : (f : List ℕ) (h : Header) (n last : ℕ) → notFstf f ≡ false → h ≡ headerOf f → sectionsOf f ≡ sectionsAs.Legal n last → systemTable f (h .system) last ≡ systemTable f (systemOffset f) (lastOffset 0 (definedIn f))
+system-of f h n last a p e = rw (p, header-is f a, sections-pass f n last e .2)
 
-pub front-system : (f : List ℕ) (a b : Bool) (c : Sections) (h : Header) (n end last : ℕ) (t : TablePlace) → a ≡ notFstf f → a ≡ false → b ≡ otherRevision f → b ≡ false → c ≡ sectionsOf f → c ≡ sectionsAs.Legal n end last → h ≡ headerOf f → t ≡ systemTable f (h .system) last → t ≡ tableAs.Broken → frontAs.Refused 4 ≡ frontOf f
+pub front-system : (f : List ℕ) (a b : Bool) (c : Sections) (h : Header) (n last : ℕ) (t : TablePlace) → a ≡ notFstf f → a ≡ false → b ≡ otherRevision f → b ≡ false → c ≡ sectionsOf f → c ≡ sectionsAs.Legal n last → h ≡ headerOf f → t ≡ systemTable f (h .system) last → t ≡ tableAs.Broken → frontAs.Refused 4 ≡ frontOf f
 unfolding frontLines
-front-system f a b c h n end last t p q r s u v w x y =
+front-system f a b c h n last t p q r s u v w x y =
     front-number f 3
-    (line-pass 1 (notFstf f) _ (sym p ∙ q) ∙ line-pass 2 (otherRevision f) _ (sym r ∙ s) ∙ line-pass 3 (badSections f) _ (sections-pass f n end last (sym u ∙ v) .0)
-    ∙ line-holds 4 (badSystem f) _ (system-refused f (sym (system-of f h n end last (sym p ∙ q) w (sym u ∙ v)) ∙ sym x ∙ y)))
+    (line-pass 1 (notFstf f) _ (sym p ∙ q) ∙ line-pass 2 (otherRevision f) _ (sym r ∙ s) ∙ line-pass 3 (badSections f) _ (sections-pass f n last (sym u ∙ v) .0)
+    ∙ line-holds 4 (badSystem f) _ (system-refused f (sym (system-of f h n last (sym p ∙ q) w (sym u ∙ v)) ∙ sym x ∙ y)))
 
 front-none : (f : List ℕ) → FrontPasses f → firstOf (frontLines f) ≡ 0
 unfolding firstOf
 front-none f p = ap firstOf (sym (append-nil (frontLines f))) ∙ front-pass f [] p
 
-pub front-whole : (f : List ℕ) (a b : Bool) (c : Sections) (h : Header) (n end last tags start : ℕ) (t : TablePlace) → a ≡ notFstf f → a ≡ false → b ≡ otherRevision f → b ≡ false → c ≡ sectionsOf f → c ≡ sectionsAs.Legal n end last → h ≡ headerOf f → t ≡ systemTable f (h .system) last → t ≡ tableAs.Whole tags start → frontAs.Whole (record { sections = n; «definitions_end» = end; system = h .system; «system_tags» = tags; start = start }) ≡ frontOf f
+pub front-whole : (f : List ℕ) (a b : Bool) (c : Sections) (h : Header) (n last tags start : ℕ) (t : TablePlace) → a ≡ notFstf f → a ≡ false → b ≡ otherRevision f → b ≡ false → c ≡ sectionsOf f → c ≡ sectionsAs.Legal n last → h ≡ headerOf f → t ≡ systemTable f (h .system) last → t ≡ tableAs.Whole tags start → frontAs.Whole (record { sections = n; system = h .system; «system_tags» = tags; start = start }) ≡ frontOf f
 unfolding frontOf frontBy frontHeld
-front-whole f a b c h n end last tags start t p q r s u v w x y =
-    let (d, e, g, k) = sections-pass f n end last (sym u ∙ v) in
-    let (z, i, j) = system-pass f tags start (sym (system-of f h n end last (sym p ∙ q) w (sym u ∙ v)) ∙ sym x ∙ y) in
+front-whole f a b c h n last tags start t p q r s u v w x y =
+    let (d, e, k) = sections-pass f n last (sym u ∙ v) in
+    let (z, i, j) = system-pass f tags start (sym (system-of f h n last (sym p ∙ q) w (sym u ∙ v)) ∙ sym x ∙ y) in
     let m : firstOf (frontLines f) ≡ 0 = front-none f (record { mark = sym p ∙ q; version = sym r ∙ s; sections = d; system = z }) in
     let o : h .system ≡ systemOffset f = ap (λ (v : Header). v .system) (w ∙ header-is f (sym p ∙ q)) in
-    rw (m, e, g, i, j, o)
+    rw (m, e, i, j, o)
 
 pub ruleset laws = (needs, system-early, system-late, system-there, front-not-fstf, front-revision, front-sections, front-system, front-whole)

@@ -6,7 +6,7 @@ use mathlib.Core.Path.{_≡_, refl, ap, sym, _∙_}
 use mathlib.Core.Bool.{Bool, true, false, not, _&&_, _||_}
 use mathlib.Core.List.{List, [], _∷_, _++_}
 use lib.ListN.{length, take, drop, getD, length-append, length-drop}
-use lib.Seq.{drop-drop, take-add, length-take-le}
+use lib.Seq.{drop-drop, take-add, take-all, length-take-le}
 use lib.Dec.{leb, ltb, eqb, leb·suc-suc}
 use lib.Pow.{areBytes}
 use borrow.Author.Needs.{needs}
@@ -15,18 +15,20 @@ use mir.Syntax.{w8, w64}
 use mir.Val.{Fits}
 use Rattle.number.specs.Number.{bytesOf, readAt, rank}
 use Rattle.number.proofs.Bytes.{length-bytesOf, slice-bytes, both-true}
+use Rattle.number.proofs.Laws.{read-is}
 use Rattle.layout.specs.Recording.{Frame, frameBytes, entryBytes, entriesBytes, indexBytes, firstTime, follows, follow, inOrder, same, longestSpan}
 use Rattle.layout.specs.Reading.{Parsed, bad, good, frame, Walk, stopped, longer, walk}
-use Rattle.layout.proofs.Lists.{bytes-drop, same-true}
-use Rattle.opening.proofs.Readers.{read-is}
+use Rattle.layout.proofs.Lists.{bytes-drop, bytes-take, same-true}
 use Rattle.opening.proofs.Same.{same-append, same-number}
-use Rattle.opening.proofs.Frames.{frame-parts, found, not-found, found-behind, found-short}
-use Rattle.opening.specs.Opened.{frameAt, sinceFirst, otherEntry, otherWalk, otherFrames, badIndexIn, badIndexBy}
+use Rattle.opening.proofs.Frames.{frame-parts, ended, not-ended, end-behind, time-fits, end-near}
+use Rattle.opening.specs.Opened.{frameEnd, sinceFirst, otherEntry, otherWalk, otherFrames, badIndexIn, badIndexBy}
 use Rattle.header.specs.declared.Header.{Header}
-use Rattle.opening.specs.declared.FrameAt.{FrameAt}
-use Rattle.opening.specs.declared.FrameAt.the-variants.{Whole, None}
+use Rattle.text.specs.declared.Place.{Place}
+use Rattle.text.specs.declared.Place.the-variants.{End, Broken}
 use Rattle.layout.proofs.Walks.{walk-none, walk-stop, walk-step, walk-gives}
 use Rattle.layout.proofs.Exact.{frame-exact}
+use Rattle.layout.proofs.Sizes.{length-entry}
+use Rattle.layout.proofs.Encoded.{length-entries}
 
 -- ── Times ──
 
@@ -53,35 +55,43 @@ follows-right first last time a b d p q h e l = rw (le-leb (rank last) (rank tim
 -- ── An entry ──
 
 -- sixteen bytes are an entry's exactly when its three numbers are read there
-entry-numbers : (f : List ℕ) (entry since offset size : ℕ) → areBytes f ≡ true → entry + 16 ≤ length f → since < 2 ^ 32 → offset < 2 ^ 64 → size < 2 ^ 32 → otherEntry f entry since offset size ≡ not (eqb (readAt f entry 4) since && eqb (readAt f (entry + 4) 8) offset && eqb (readAt f (entry + 12) 4) size)
-unfolding otherEntry
-entry-numbers f entry since offset size b h p q r =
-    let s : List ℕ = drop entry f in
-    let l : length (drop entry f) ≡ length f - entry = length-drop entry f in
-    let l₄ : length (drop (entry + 4) f) ≡ length f - (entry + 4) = length-drop (entry + 4) f in
-    let l₁₂ : length (drop (entry + 12) f) ≡ length f - (entry + 12) = length-drop (entry + 12) f in
-    let t₄ : length (take 4 (drop entry f)) ≡ 4 = length-take-le 4 (drop entry f) (omega arith) in
-    let t₈ : length (take 8 (drop (entry + 4) f)) ≡ 8 = length-take-le 8 (drop (entry + 4) f) (omega arith) in
-    rw (split f entry, same-append (take 4 (drop entry f) ++ take 8 (drop (entry + 4) f)) (take 4 (drop (entry + 12) f)) (bytesOf 4 since ++ bytesOf 8 offset) (bytesOf 4 size) (omega (arith, length-append (take 4 (drop entry f)) (take 8 (drop (entry + 4) f)), length-append (bytesOf 4 since) (bytesOf 8 offset), length-bytesOf 4 since, length-bytesOf 8 offset)), same-append (take 4 (drop entry f)) (take 8 (drop (entry + 4) f)) (bytesOf 4 since) (bytesOf 8 offset) (omega (arith, length-bytesOf 4 since)), same-number 4 (drop entry f) since (bytes-drop entry f b) (omega arith) p, same-number 8 (drop (entry + 4) f) offset (bytes-drop (entry + 4) f b) (omega arith) q, same-number 4 (drop (entry + 12) f) size (bytes-drop (entry + 12) f b) (omega arith) r, read-is f entry 4 (omega arith) (omega arith), read-is f (entry + 4) 8 (omega arith) (omega arith), read-is f (entry + 12) 4 (omega arith) (omega arith))
+entry-numbers : (s : List ℕ) (since offset size : ℕ) → areBytes s ≡ true → length s ≡ 16 → since < 2 ^ 32 → offset < 2 ^ 64 → size < 2 ^ 32 → same s (bytesOf 4 since ++ bytesOf 8 offset ++ bytesOf 4 size) ≡ (eqb (readAt s 0 4) since && eqb (readAt s 4 8) offset && eqb (readAt s 12 4) size)
+entry-numbers s since offset size b h p q r =
+    let l₄ : length (drop 4 s) ≡ length s - 4 = length-drop 4 s in
+    let l₁₂ : length (drop 12 s) ≡ length s - 12 = length-drop 12 s in
+    let t₄ : length (take 4 s) ≡ 4 = length-take-le 4 s (omega arith) in
+    let t₈ : length (take 8 (drop 4 s)) ≡ 8 = length-take-le 8 (drop 4 s) (omega arith) in
+    ap (λ (t : List ℕ). same t (bytesOf 4 since ++ bytesOf 8 offset ++ bytesOf 4 size)) split
+    ∙ rw (same-append (take 4 s ++ take 8 (drop 4 s)) (take 4 (drop 12 s)) (bytesOf 4 since ++ bytesOf 8 offset) (bytesOf 4 size) (omega (arith, length-append (take 4 s) (take 8 (drop 4 s)), length-append (bytesOf 4 since) (bytesOf 8 offset), length-bytesOf 4 since, length-bytesOf 8 offset)), same-append (take 4 s) (take 8 (drop 4 s)) (bytesOf 4 since) (bytesOf 8 offset) (omega (arith, length-bytesOf 4 since)), same-number 4 s since b (omega arith) p, same-number 8 (drop 4 s) offset (bytes-drop 4 s b) (omega arith) q, same-number 4 (drop 12 s) size (bytes-drop 12 s b) (omega arith) r, read-is s 0 4 (omega arith) (omega arith), read-is s 4 8 (omega arith) (omega arith), read-is s 12 4 (omega arith) (omega arith))
   where
-    split : (f : List ℕ) (entry : ℕ) → take 16 (drop entry f) ≡ take 4 (drop entry f) ++ take 8 (drop (entry + 4) f) ++ take 4 (drop (entry + 12) f)
-    split f entry =
-        take-add 12 4 (drop entry f) ∙ ap (λ (t : List ℕ). t ++ take 4 (drop 12 (drop entry f))) (take-add 4 8 (drop entry f)) ∙ rw (drop-drop 12 entry f, drop-drop 4 entry f)
+    split : s ≡ take 4 s ++ take 8 (drop 4 s) ++ take 4 (drop 12 s)
+    split = sym (take-all 16 s (omega arith)) ∙ take-add 12 4 s ∙ ap (λ (t : List ℕ). t ++ take 4 (drop 12 s)) (take-add 4 8 s)
 
-pub other-since : (f : List ℕ) (entry since offset size a : ℕ) → ((i : ℕ) → Fits w8 (getD f i 0)) → entry + 16 ≤ length f → since < 2 ^ 32 → Fits w64 offset → size < 2 ^ 32 → a ≡ readAt f entry 4 → (a ≡ since → ⊥) → true ≡ otherEntry f entry since offset size
-other-since f entry since offset size a b h p q r e u = rw (entry-numbers f entry since offset size (slice-bytes f b) h p (q .fits) r, ne-eqb (readAt f entry 4) since (λ g. u (e ∙ g)))
+-- the part from an entry to the next
+abbrev entryPart : List ℕ → (entry : ℕ) → List ℕ
+entryPart f entry = take (entry + 16 - entry) (drop entry f)
 
-pub other-offset : (f : List ℕ) (entry since offset size a c : ℕ) → ((i : ℕ) → Fits w8 (getD f i 0)) → entry + 16 ≤ length f → since < 2 ^ 32 → Fits w64 offset → size < 2 ^ 32 → a ≡ readAt f entry 4 → a ≡ since → c ≡ readAt f (entry + 4) 8 → (c ≡ offset → ⊥) → true ≡ otherEntry f entry since offset size
+entry-asked : (f : List ℕ) (entry since offset size : ℕ) → ((i : ℕ) → Fits w8 (getD f i 0)) → entry + 16 ≤ length f → since < 2 ^ 32 → Fits w64 offset → size < 2 ^ 32 → otherEntry f entry since offset size ≡ not (eqb (readAt (entryPart f entry) 0 4) since && eqb (readAt (entryPart f entry) 4 8) offset && eqb (readAt (entryPart f entry) 12 4) size)
+unfolding otherEntry
+entry-asked f entry since offset size b h p q r =
+    let e : entry + 16 - entry ≡ 16 = omega arith in
+    let l : length (take 16 (drop entry f)) ≡ 16 = length-take-le 16 (drop entry f) (omega (arith, length-drop entry f)) in
+    rw e (ap not (entry-numbers (take 16 (drop entry f)) since offset size (bytes-take 16 (drop entry f) (bytes-drop entry f (slice-bytes f b))) l p (q .fits) r))
+
+pub other-since : (f : List ℕ) (entry since offset size a : ℕ) → ((i : ℕ) → Fits w8 (getD f i 0)) → entry + 16 ≤ length f → since < 2 ^ 32 → Fits w64 offset → size < 2 ^ 32 → a ≡ readAt (entryPart f entry) 0 4 → (a ≡ since → ⊥) → true ≡ otherEntry f entry since offset size
+other-since f entry since offset size a b h p q r e u = rw (entry-asked f entry since offset size b h p q r, ne-eqb (readAt (entryPart f entry) 0 4) since (λ g. u (e ∙ g)))
+
+pub other-offset : (f : List ℕ) (entry since offset size a c : ℕ) → ((i : ℕ) → Fits w8 (getD f i 0)) → entry + 16 ≤ length f → since < 2 ^ 32 → Fits w64 offset → size < 2 ^ 32 → a ≡ readAt (entryPart f entry) 0 4 → a ≡ since → c ≡ readAt (entryPart f entry) 4 8 → (c ≡ offset → ⊥) → true ≡ otherEntry f entry since offset size
 other-offset f entry since offset size a c b h p q r e g i u =
-    rw (entry-numbers f entry since offset size (slice-bytes f b) h p (q .fits) r, eq-eqb (readAt f entry 4) since (sym e ∙ g), ne-eqb (readAt f (entry + 4) 8) offset (λ k. u (i ∙ k)))
+    rw (entry-asked f entry since offset size b h p q r, eq-eqb (readAt (entryPart f entry) 0 4) since (sym e ∙ g), ne-eqb (readAt (entryPart f entry) 4 8) offset (λ k. u (i ∙ k)))
 
-pub other-size : (f : List ℕ) (entry since offset size a c d : ℕ) → ((i : ℕ) → Fits w8 (getD f i 0)) → entry + 16 ≤ length f → since < 2 ^ 32 → Fits w64 offset → size < 2 ^ 32 → a ≡ readAt f entry 4 → a ≡ since → c ≡ readAt f (entry + 4) 8 → c ≡ offset → d ≡ readAt f (entry + 12) 4 → (d ≡ size → ⊥) → true ≡ otherEntry f entry since offset size
+pub other-size : (f : List ℕ) (entry since offset size a c d : ℕ) → ((i : ℕ) → Fits w8 (getD f i 0)) → entry + 16 ≤ length f → since < 2 ^ 32 → Fits w64 offset → size < 2 ^ 32 → a ≡ readAt (entryPart f entry) 0 4 → a ≡ since → c ≡ readAt (entryPart f entry) 4 8 → c ≡ offset → d ≡ readAt (entryPart f entry) 12 4 → (d ≡ size → ⊥) → true ≡ otherEntry f entry since offset size
 other-size f entry since offset size a c d b h p q r e g i j k u =
-    rw (entry-numbers f entry since offset size (slice-bytes f b) h p (q .fits) r, eq-eqb (readAt f entry 4) since (sym e ∙ g), eq-eqb (readAt f (entry + 4) 8) offset (sym i ∙ j), ne-eqb (readAt f (entry + 12) 4) size (λ m. u (k ∙ m)))
+    rw (entry-asked f entry since offset size b h p q r, eq-eqb (readAt (entryPart f entry) 0 4) since (sym e ∙ g), eq-eqb (readAt (entryPart f entry) 4 8) offset (sym i ∙ j), ne-eqb (readAt (entryPart f entry) 12 4) size (λ m. u (k ∙ m)))
 
-pub this-entry : (f : List ℕ) (entry since offset size a c d : ℕ) → ((i : ℕ) → Fits w8 (getD f i 0)) → entry + 16 ≤ length f → since < 2 ^ 32 → Fits w64 offset → size < 2 ^ 32 → a ≡ readAt f entry 4 → a ≡ since → c ≡ readAt f (entry + 4) 8 → c ≡ offset → d ≡ readAt f (entry + 12) 4 → d ≡ size → false ≡ otherEntry f entry since offset size
+pub this-entry : (f : List ℕ) (entry since offset size a c d : ℕ) → ((i : ℕ) → Fits w8 (getD f i 0)) → entry + 16 ≤ length f → since < 2 ^ 32 → Fits w64 offset → size < 2 ^ 32 → a ≡ readAt (entryPart f entry) 0 4 → a ≡ since → c ≡ readAt (entryPart f entry) 4 8 → c ≡ offset → d ≡ readAt (entryPart f entry) 12 4 → d ≡ size → false ≡ otherEntry f entry since offset size
 this-entry f entry since offset size a c d b h p q r e g i j k m =
-    rw (entry-numbers f entry since offset size (slice-bytes f b) h p (q .fits) r, eq-eqb (readAt f entry 4) since (sym e ∙ g), eq-eqb (readAt f (entry + 4) 8) offset (sym i ∙ j), eq-eqb (readAt f (entry + 12) 4) size (sym k ∙ m))
+    rw (entry-asked f entry since offset size b h p q r, eq-eqb (readAt (entryPart f entry) 0 4) since (sym e ∙ g), eq-eqb (readAt (entryPart f entry) 4 8) offset (sym i ∙ j), eq-eqb (readAt (entryPart f entry) 12 4) size (sym k ∙ m))
 
 -- ── The frames that are left ──
 
@@ -95,11 +105,6 @@ fourth-holds true b c = refl
 fourth-holds false true c = refl
 fourth-holds false false true = refl
 fourth-holds false false false = refl
-
-length-entry : (first time offset size : ℕ) → length (entryBytes first time offset size) ≡ 16
-unfolding entryBytes
-length-entry first time offset size =
-    omega (arith, length-append (bytesOf 4 (rank time - rank first) ++ bytesOf 8 offset) (bytesOf 4 size), length-append (bytesOf 4 (rank time - rank first)) (bytesOf 8 offset), length-bytesOf 4 (rank time - rank first), length-bytesOf 8 offset, length-bytesOf 4 size)
 
 not-both : (a b : Bool) → not (a && b) ≡ (not a || not b)
 not-both true b = refl
@@ -132,9 +137,9 @@ frames-done f k index first left at entry last all z e q = ap not (sym (eq-eqb a
 pub frames-elsewhere : (f : List ℕ) (k index first left at entry last : ℕ) (all : Bool) → left ≤ 0 → (at ≡ index → ⊥) → otherFrames f k index first left at entry last ≡ all → true ≡ all
 frames-elsewhere f k index first left at entry last all z e q = ap not (sym (ne-eqb at index e)) ∙ sym (frames-none f k index first left at entry last z) ∙ q
 
-pub frames-fewer : (f : List ℕ) (k index first left at entry last : ℕ) (r : FrameAt) (all : Bool) → 0 < left → r ≡ frameAt f at k → r ≡ None → otherFrames f k index first left at entry last ≡ all → true ≡ all
+pub frames-fewer : (f : List ℕ) (k index first left at entry last : ℕ) (r : Place) (all : Bool) → 0 < left → r ≡ frameEnd f at k → r ≡ Broken → otherFrames f k index first left at entry last ≡ all → true ≡ all
 unfolding otherFrames otherWalk stopped
-frames-fewer f k index first left at entry last r all h p u q = rw (walk-stop left k (drop at f) (not-found f at k (sym p ∙ u)), lt-ltb 0 left h) at q
+frames-fewer f k index first left at entry last r all h p u q = rw (walk-stop left k (drop at f) (not-ended f at k (sym p ∙ u)), lt-ltb 0 left h) at q
 
 -- one more frame, and the walk behind it
 pub walk-cons : (f : List ℕ) (k left at : ℕ) (x : Frame) (n : ℕ) → 0 < left → frame k (drop at f) ≡ good x n → walk left k (drop at f) ≡ longer x n (walk (left - 1) k (drop (at + n) f))
@@ -176,30 +181,30 @@ asked-right : (w : Walk) (f : List ℕ) (index first left at entry last next tim
 unfolding otherWalk
 asked-right w f index first left at entry last next time size e g = rw (e, g)
 
-frames-cons : (f : List ℕ) (k index first left at entry last next t e : ℕ) → areBytes f ≡ true → 0 < left → entry + 16 * left ≤ length f → frameAt f at k ≡ Whole next t e → otherFrames f k index first left at entry last ≡ asked (walk (left - 1) k (drop next f)) f index first (left - 1) at entry last next t (next - at)
+frames-cons : (f : List ℕ) (k index first left at entry last next t : ℕ) → areBytes f ≡ true → 0 < left → entry + 16 * left ≤ length f → frameEnd f at k ≡ End next → t ≡ readAt f (at + 4) 8 → otherFrames f k index first left at entry last ≡ asked (walk (left - 1) k (drop next f)) f index first (left - 1) at entry last next t (next - at)
 unfolding otherFrames
-frames-cons f k index first left at entry last next t e b h l q = go (found f at k next t e q)
+frames-cons f k index first left at entry last next t b h l q v = go (ended f at k next q)
   where
-    go : ((x : Frame) × (n : ℕ) × (frame k (drop at f) ≡ good x n) × (at + n ≡ next) × (x .time ≡ t) × (x .exposure ≡ e)) → otherFrames f k index first left at entry last ≡ asked (walk (left - 1) k (drop next f)) f index first (left - 1) at entry last next t (next - at)
+    go : ((x : Frame) × (n : ℕ) × (frame k (drop at f) ≡ good x n) × (at + n ≡ next) × (x .time ≡ readAt f (at + 4) 8) × (x .exposure ≡ readAt f (at + 12) 4)) → otherFrames f k index first left at entry last ≡ asked (walk (left - 1) k (drop next f)) f index first (left - 1) at entry last next t (next - at)
     go (x, n, g, a, c, d) =
         let m : next - at ≡ n = omega arith in
         let z : n ≡ length (frameBytes x) = frame-exact k .gives (drop at f) x n (bytes-drop at f b) g .1 in
-        rw (m, ← a, ← c, walk-cons f k left at x n h g) (walk-longer (walk (left - 1) k (drop (at + n) f)) f index first left at entry last x n h (omega arith) z)
+        rw (m, ← a, v, ← c, walk-cons f k left at x n h g) (walk-longer (walk (left - 1) k (drop (at + n) f)) f index first left at entry last x n h (omega arith) z)
 
-pub frames-late : (f : List ℕ) (k index first left at entry last next t e : ℕ) (r : FrameAt) (s all : Bool) → ((i : ℕ) → Fits w8 (getD f i 0)) → 0 < left → entry + 16 * left ≤ length f → r ≡ frameAt f at k → r ≡ Whole next t e → s ≡ follows first last t → s ≡ false → otherFrames f k index first left at entry last ≡ all → true ≡ all
-frames-late f k index first left at entry last next t e r s all b h l p q u v i =
-    let c = frames-cons f k index first left at entry last next t e (slice-bytes f b) h l (sym p ∙ q) in
+pub frames-late : (f : List ℕ) (k index first left at entry last next t : ℕ) (r : Place) (s all : Bool) → ((i : ℕ) → Fits w8 (getD f i 0)) → 0 < left → entry + 16 * left ≤ length f → r ≡ frameEnd f at k → r ≡ End next → t ≡ readAt f (at + 4) 8 → s ≡ follows first last t → s ≡ false → otherFrames f k index first left at entry last ≡ all → true ≡ all
+frames-late f k index first left at entry last next t r s all b h l p q a u v i =
+    let c = frames-cons f k index first left at entry last next t (slice-bytes f b) h l (sym p ∙ q) a in
     sym (asked-late (walk (left - 1) k (drop next f)) f index first (left - 1) at entry last next t (next - at) (sym u ∙ v)) ∙ sym c ∙ i
 
-pub frames-other : (f : List ℕ) (k index first left at entry last next t e d : ℕ) (r : FrameAt) (o all : Bool) → ((i : ℕ) → Fits w8 (getD f i 0)) → 0 < left → entry + 16 * left ≤ length f → r ≡ frameAt f at k → r ≡ Whole next t e → d ≡ sinceFirst first t → o ≡ otherEntry f entry d at (next - at) → o ≡ true → otherFrames f k index first left at entry last ≡ all → true ≡ all
-frames-other f k index first left at entry last next t e d r o all b h l p q w u v i =
-    let c = frames-cons f k index first left at entry last next t e (slice-bytes f b) h l (sym p ∙ q) in
+pub frames-other : (f : List ℕ) (k index first left at entry last next t d : ℕ) (r : Place) (o all : Bool) → ((i : ℕ) → Fits w8 (getD f i 0)) → 0 < left → entry + 16 * left ≤ length f → r ≡ frameEnd f at k → r ≡ End next → t ≡ readAt f (at + 4) 8 → d ≡ sinceFirst first t → o ≡ otherEntry f entry d at (next - at) → o ≡ true → otherFrames f k index first left at entry last ≡ all → true ≡ all
+frames-other f k index first left at entry last next t d r o all b h l p q a w u v i =
+    let c = frames-cons f k index first left at entry last next t (slice-bytes f b) h l (sym p ∙ q) a in
     sym (asked-other (walk (left - 1) k (drop next f)) f index first (left - 1) at entry last next t (next - at) (sym (rw w at u) ∙ v)) ∙ sym c ∙ i
 
-pub frames-step : (f : List ℕ) (k index first left at entry last next t e d : ℕ) (r : FrameAt) (s o all : Bool) → ((i : ℕ) → Fits w8 (getD f i 0)) → 0 < left → entry + 16 * left ≤ length f → r ≡ frameAt f at k → r ≡ Whole next t e → s ≡ follows first last t → s ≡ true → d ≡ sinceFirst first t → o ≡ otherEntry f entry d at (next - at) → o ≡ false → otherFrames f k index first left at entry last ≡ all → otherFrames f k index first (left - 1) next (entry + 16) t ≡ all
+pub frames-step : (f : List ℕ) (k index first left at entry last next t d : ℕ) (r : Place) (s o all : Bool) → ((i : ℕ) → Fits w8 (getD f i 0)) → 0 < left → entry + 16 * left ≤ length f → r ≡ frameEnd f at k → r ≡ End next → t ≡ readAt f (at + 4) 8 → s ≡ follows first last t → s ≡ true → d ≡ sinceFirst first t → o ≡ otherEntry f entry d at (next - at) → o ≡ false → otherFrames f k index first left at entry last ≡ all → otherFrames f k index first (left - 1) next (entry + 16) t ≡ all
 unfolding otherFrames
-frames-step f k index first left at entry last next t e d r s o all b h l p q u v w x y i =
-    let c = frames-cons f k index first left at entry last next t e (slice-bytes f b) h l (sym p ∙ q) in
+frames-step f k index first left at entry last next t d r s o all b h l p q a u v w x y i =
+    let c = frames-cons f k index first left at entry last next t (slice-bytes f b) h l (sym p ∙ q) a in
     sym (asked-right (walk (left - 1) k (drop next f)) f index first (left - 1) at entry last next t (next - at) (sym u ∙ v) (sym (rw w at x) ∙ y)) ∙ sym c ∙ i
 
 -- the time that follows is at most 4,294,967,295 after the first
@@ -221,12 +226,6 @@ fifth-holds false true c d = refl
 fifth-holds false false true d = refl
 fifth-holds false false false true = refl
 fifth-holds false false false false = refl
-
-length-entries : (first at : ℕ) (fs : List Frame) → length (entriesBytes first at fs) ≡ 16 * length fs
-unfolding entriesBytes
-length-entries first at [] = refl
-length-entries first at (x ∷ fs) =
-    omega (arith, length-append (entryBytes first (x .time) at (length (frameBytes x))) (entriesBytes first (at + length (frameBytes x)) fs), length-entry first (x .time) at (length (frameBytes x)), length-entries first (at + length (frameBytes x)) fs)
 
 pub length-index : (at : ℕ) (fs : List Frame) → length (indexBytes at fs) ≡ 4 + 16 * length fs
 unfolding indexBytes
@@ -344,6 +343,6 @@ index-frames f h k start n first r b l m e p q g i =
 -- the times and an entry; the loop over frames and entries; the index as a whole
 pub ruleset entry-laws = (needs, since-before, since-after, follows-early, follows-late, follows-right, other-since, other-offset, other-size, this-entry)
 
-pub ruleset frames-laws = (needs, found-behind, found-short, frames-done, frames-elsewhere, frames-fewer, frames-late, frames-other, frames-step, since-fits)
+pub ruleset frames-laws = (needs, end-behind, time-fits, end-near, frames-done, frames-elsewhere, frames-fewer, frames-late, frames-other, frames-step, since-fits)
 
 pub ruleset index-laws = (needs, index-many, index-behind, index-long, index-count, index-frames)

@@ -10,17 +10,16 @@ use lib.Seq.{drop-cons, length-take-le}
 use lib.Dec.{leb}
 use lib.Pow.{areBytes}
 use borrow.Author.Needs.{needs}
-use borrow.Author.Tests.{le-leb, lt-leb, lt-ltb, le-ltb, eq-eqb, ne-eqb, leb-true, leb-false}
+use borrow.Author.Tests.{lt-ltb, le-ltb, eq-eqb, ne-eqb, leb-true, leb-false}
 use mir.Syntax.{w8}
 use mir.Val.{Fits}
 use Rattle.number.specs.Number.{bytesOf, numberOf, readAt}
 use Rattle.number.proofs.Bytes.{bytesOf-numberOf, slice-bytes}
+use Rattle.number.proofs.Laws.{read-is}
 use Rattle.layout.specs.Recording.{fileMark, same}
-use Rattle.layout.specs.Opening.{field, headerCount, indexOffset, systemOffset, userOffset, notFstf, otherRevision}
+use Rattle.layout.specs.Opening.{notFstf, otherRevision}
 use Rattle.layout.proofs.Lists.{same-refl, same-true, bytes-take}
-use Rattle.opening.proofs.Readers.{read-is}
 use Rattle.opening.specs.Opened.{notClosedBy}
-use Rattle.header.specs.Header.{headerOf}
 use Rattle.header.specs.declared.Header.{Header}
 
 -- ── 1, 2 ──

@@ -16,6 +16,7 @@ use Rattle.layout.specs.Recording.{mostSections, within, distinct}
 use Rattle.layout.specs.Reading.{Parsed, bad, good, Reader, valueOr, taken, _then_, only, times, number, Definition, definition, definedNames, definitions}
 use Rattle.layout.specs.Opening.{readDefinitions, definedIn, steps, offsetsLegal, lastOffset, badSections}
 use Rattle.layout.proofs.Readers.{then-takes}
+use Rattle.layout.proofs.Lists.{cond-same}
 use Rattle.text.specs.Rows.{distinctNames}
 use Rattle.text.specs.declared.Row.the-variants as row
 use Rattle.text.proofs.Readers.{distinct-definitions}
@@ -37,11 +38,11 @@ sections-bad : (f : List ℕ) → readDefinitions f ≡ bad → sectionsOf f ≡
 unfolding sectionsOf badSections
 sections-bad f e = rw e
 
-sections-read : (f : List ℕ) (d : Definition) (ds : List Definition) (n : ℕ) → readDefinitions f ≡ good (d ∷ ds) n → sectionsOf f ≡ cond (eqb (d .offset) (33 + n) && steps (d .offset) ds) (sectionsAs.Legal (length (d ∷ ds)) (33 + n) (lastOffset (d .offset) ds)) sectionsAs.Broken
+sections-read : (f : List ℕ) (d : Definition) (ds : List Definition) (n : ℕ) → readDefinitions f ≡ good (d ∷ ds) n → sectionsOf f ≡ cond (eqb (d .offset) (33 + n) && steps (d .offset) ds) (sectionsAs.Legal (length (d ∷ ds)) (lastOffset (d .offset) ds)) sectionsAs.Broken
 unfolding sectionsOf badSections definedIn valueOr taken offsetsLegal lastOffset
 sections-read f d ds n e = rw e (go (eqb (d .offset) (33 + n) && steps (d .offset) ds))
   where
-    go : (b : Bool) → cond (not b) sectionsAs.Broken (sectionsAs.Legal (length (d ∷ ds)) (33 + n) (lastOffset (d .offset) ds)) ≡ cond b (sectionsAs.Legal (length (d ∷ ds)) (33 + n) (lastOffset (d .offset) ds)) sectionsAs.Broken
+    go : (b : Bool) → cond (not b) sectionsAs.Broken (sectionsAs.Legal (length (d ∷ ds)) (lastOffset (d .offset) ds)) ≡ cond b (sectionsAs.Legal (length (d ∷ ds)) (lastOffset (d .offset) ds)) sectionsAs.Broken
     go true = refl
     go false = refl
 
@@ -85,10 +86,6 @@ and-false : (b : Bool) → (b && false) ≡ false
 and-false true = refl
 and-false false = refl
 
-either-way : {A : Type 0} (b : Bool) (x : A) → cond b x x ≡ x
-either-way true x = refl
-either-way false x = refl
-
 -- ── The number of sections is right ──
 
 module _ (f : List ℕ) (n : ℕ) (h : 33 < length f) (p : n ≡ readAt f 33 1) (k : 1 ≤ n) (l : n ≤ 8) where
@@ -104,11 +101,11 @@ module _ (f : List ℕ) (n : ℕ) (h : 33 < length f) (p : n ≡ readAt f 33 1) 
   list-good ds m e = then-takes (only (within 1 mostSections) (number 1)) (λ j. times j definition) (drop 33 f) n ds 1 m count-read (rw (drop-drop 1 33 f) e)
 
   -- all are read: what is left are the names and the offsets
-  sections-list : (d : Definition) (ds : List Definition) (m : ℕ) → times n definition (drop 34 f) ≡ good (d ∷ ds) m → sectionsOf f ≡ cond (distinctNames f 34 n row.Definition) (cond (eqb (d .offset) (34 + m) && steps (d .offset) ds) (sectionsAs.Legal n (34 + m) (lastOffset (d .offset) ds)) sectionsAs.Broken) sectionsAs.Broken
+  sections-list : (d : Definition) (ds : List Definition) (m : ℕ) → times n definition (drop 34 f) ≡ good (d ∷ ds) m → sectionsOf f ≡ cond (distinctNames f 34 n row.Definition) (cond (eqb (d .offset) (34 + m) && steps (d .offset) ds) (sectionsAs.Legal n (lastOffset (d .offset) ds)) sectionsAs.Broken) sectionsAs.Broken
   unfolding readDefinitions definitions
   sections-list d ds m e = rw (distinct-definitions f 34 n m (d ∷ ds) e) (go (distinct (definedNames (d ∷ ds))) refl)
     where
-      go : (b : Bool) → distinct (definedNames (d ∷ ds)) ≡ b → sectionsOf f ≡ cond b (cond (eqb (d .offset) (34 + m) && steps (d .offset) ds) (sectionsAs.Legal n (34 + m) (lastOffset (d .offset) ds)) sectionsAs.Broken) sectionsAs.Broken
+      go : (b : Bool) → distinct (definedNames (d ∷ ds)) ≡ b → sectionsOf f ≡ cond b (cond (eqb (d .offset) (34 + m) && steps (d .offset) ds) (sectionsAs.Legal n (lastOffset (d .offset) ds)) sectionsAs.Broken) sectionsAs.Broken
       go true q =
           let s = sections-read f d ds (1 + m) (only-pass (λ ds. distinct (definedNames ds)) counted (drop 33 f) (d ∷ ds) (1 + m) (list-good (d ∷ ds) m e) q) in
           let t : 34 + m ≡ 33 + (1 + m) = omega arith in
@@ -116,7 +113,7 @@ module _ (f : List ℕ) (n : ℕ) (h : 33 < length f) (p : n ≡ readAt f 33 1) 
       go false q = sections-bad f (only-fail (λ ds. distinct (definedNames ds)) counted (drop 33 f) (d ∷ ds) (1 + m) (list-good (d ∷ ds) m e) q)
 
   sections-not : (d : Definition) (ds : List Definition) (m : ℕ) → times n definition (drop 34 f) ≡ good (d ∷ ds) m → (eqb (d .offset) (34 + m) && steps (d .offset) ds) ≡ false → sectionsAs.Broken ≡ sectionsOf f
-  sections-not d ds m e t = sym (sections-list d ds m e ∙ rw t (either-way (distinctNames f 34 n row.Definition) sectionsAs.Broken))
+  sections-not d ds m e t = sym (sections-list d ds m e ∙ rw t (cond-same (distinctNames f 34 n row.Definition) sectionsAs.Broken))
 
   pub sections-unnamed : (r : DefinitionAt) → r ≡ definitionAt f 34 → r ≡ definitionAs.Broken → sectionsAs.Broken ≡ sectionsOf f
   sections-unnamed r a b = list-bad (times-first-bad definition n (drop 34 f) k (definition-none f 34 (sym a ∙ b)))
@@ -179,9 +176,9 @@ module _ (f : List ℕ) (n : ℕ) (h : 33 < length f) (p : n ≡ readAt f 33 1) 
       let w = listed next o end last (sym a ∙ b) (sym c ∙ e) in
       sym (sections-list (w .first) (w .others) (w .size) (w .list) ∙ rw (sym u ∙ v))
 
-  pub sections-legal : (next o end last : ℕ) (r : DefinitionAt) (q : Offsets) (t : Bool) → r ≡ definitionAt f 34 → r ≡ definitionAs.Whole next o → q ≡ offsetsAt f next (n - 1) o → q ≡ offsets.Legal end last → o ≡ end → t ≡ distinctNames f 34 n row.Definition → t ≡ true → sectionsAs.Legal n end last ≡ sectionsOf f
+  pub sections-legal : (next o end last : ℕ) (r : DefinitionAt) (q : Offsets) (t : Bool) → r ≡ definitionAt f 34 → r ≡ definitionAs.Whole next o → q ≡ offsetsAt f next (n - 1) o → q ≡ offsets.Legal end last → o ≡ end → t ≡ distinctNames f 34 n row.Definition → t ≡ true → sectionsAs.Legal n last ≡ sectionsOf f
   sections-legal next o end last r q t a b c e i u v =
       let w = listed next o end last (sym a ∙ b) (sym c ∙ e) in
-      sym (sections-list (w .first) (w .others) (w .size) (w .list) ∙ rw (sym u ∙ v, eq-eqb (w .first .offset) (34 + w .size) (w .offset ∙ i ∙ sym (w .ends)), w .ordered, w .ends, w .final))
+      sym (sections-list (w .first) (w .others) (w .size) (w .list) ∙ rw (sym u ∙ v, eq-eqb (w .first .offset) (34 + w .size) (w .offset ∙ i ∙ sym (w .ends)), w .ordered, w .final))
 
 pub ruleset laws = (needs, sections-short, sections-none, sections-many, sections-unnamed, sections-fall, sections-apart, sections-twice, sections-legal)

@@ -18,7 +18,7 @@ use Rattle.layout.specs.Recording.{Tag, tagBytes, tableBytes, mostSections, lar
 use Rattle.layout.specs.Reading.{Parsed, bad, good, isBad, valueOr, taken, exactly, onward, _then_, only, number, times, table, Definition, definition, definedNames, definitions}
 use Rattle.layout.specs.Opening.{Line, line, firstOf, headerCount, indexOffset, systemOffset, userOffset, readDefinitions, definedIn, readSystem, readUser, walkStart, walkOf, counted, offsetsLegal, lastOffset, notFstf, badSections, badSystem, notClosed, badIndex, badUser, frontLines, openingLines, refusal, sectionsFrom, shown}
 use Rattle.layout.proofs.Lists.{or-false, bytes-drop}
-use Rattle.layout.proofs.Lines.{line-pass, line-holds, FrontPasses, front-pass, front-clear, passes-opens}
+use Rattle.layout.proofs.Lines.{line-pass, line-holds, FrontPasses, front-pass, front-clear, passes-opens, lines-first}
 use Rattle.layout.proofs.Exact.{table-exact}
 use Rattle.layout.proofs.Walks.{walk-gives}
 use Rattle.text.specs.Table.{tablePlaceOf}
@@ -55,16 +55,6 @@ front-refuses f n e = go (firstOf (frontLines f)) refl e
     go zero q g = let z : _≡_ {A = ℕ} 0 1 = cc in absurd (omega arith)
     go (suc j) q g = (j, cc, q)
 
--- a number that an order gives is given however it goes on
-pub first-append : (ls more : List Line) (n : ℕ) → firstOf ls ≡ suc n → firstOf (ls ++ more) ≡ suc n
-unfolding firstOf
-first-append [] more n e = absurd (omega arith)
-first-append (l ∷ ls) more n e = go (l .holds) e (first-append ls more n)
-  where
-    go : (b : Bool) → elim b [ true ↦ l .number | false ↦ firstOf ls ] ≡ suc n → (firstOf ls ≡ suc n → firstOf (ls ++ more) ≡ suc n) → elim b [ true ↦ l .number | false ↦ firstOf (ls ++ more) ] ≡ suc n
-    go true q more = q
-    go false q more = more q
-
 open-number : (f : List ℕ) (n : ℕ) → refusal f ≡ suc n → openingAs.Refused (suc n) ≡ openOf f
 unfolding openOf openBy
 open-number f n e = rw e
@@ -74,7 +64,7 @@ unfolding refusal openingLines
 open-front-refused f r n m p q s = go (front-refuses f n (sym p ∙ q)) (s ∙ ap frontRefusal q)
   where
     go : ((j : ℕ) × (n ≡ suc j) × (firstOf (frontLines f) ≡ suc j)) → m ≡ n → openingAs.Refused m ≡ openOf f
-    go (j, k, e) l = rw (l, k) (open-number f j (first-append (frontLines f) _ j e))
+    go (j, k, e) l = rw (l, k) (open-number f j (lines-first (frontLines f) _ j e))
 
 -- ── What a passed line gives ──
 
@@ -222,11 +212,11 @@ module _ (f : List ℕ) (r : Front) (held : FrontHeld) (h : Header) (p : r ≡ f
           go : ((ts : List Tag) × (m : ℕ) × (table (drop (userOffset f) f) ≡ good ts m) × (length ts ≡ tags) × (userOffset f + m ≡ end)) → openingAs.Refused 7 ≡ openOf f
           go (ts, m, a, i, j) = refused-7 (user-long f ts m user-there a (λ k. x (sym j ∙ k)))
 
-      pub opened : (t : TablePlace) (tags end : ℕ) → ((i : ℕ) → Fits w8 (getD f i 0)) → t ≡ tablePlaceOf (h .user) (table (drop (h .user) f)) → t ≡ tableAs.Whole tags end → end ≡ length f → openingAs.Opened (record { frames = h .count; sections = held .sections; «system_tags» = held .«system_tags»; «user_tags» = tags; «definitions_end» = held .«definitions_end»; system = held .system; start = held .start; index = h .index; user = h .user }) ≡ openOf f
+      pub opened : (t : TablePlace) (tags end : ℕ) → ((i : ℕ) → Fits w8 (getD f i 0)) → t ≡ tablePlaceOf (h .user) (table (drop (h .user) f)) → t ≡ tableAs.Whole tags end → end ≡ length f → openingAs.Opened (record { frames = h .count; sections = held .sections; «system_tags» = held .«system_tags»; «user_tags» = tags; system = held .system; start = held .start; index = h .index; user = h .user }) ≡ openOf f
       unfolding openOf openBy heldOf shown frontHeld valueOr badUser
       opened t tags end b e g x = go (table-found f (userOffset f) tags end (sym (table-of t e) ∙ g))
         where
-          go : ((ts : List Tag) × (m : ℕ) × (table (drop (userOffset f) f) ≡ good ts m) × (length ts ≡ tags) × (userOffset f + m ≡ end)) → openingAs.Opened (record { frames = h .count; sections = held .sections; «system_tags» = held .«system_tags»; «user_tags» = tags; «definitions_end» = held .«definitions_end»; system = held .system; start = held .start; index = h .index; user = h .user }) ≡ openOf f
+          go : ((ts : List Tag) × (m : ℕ) × (table (drop (userOffset f) f) ≡ good ts m) × (length ts ≡ tags) × (userOffset f + m ≡ end)) → openingAs.Opened (record { frames = h .count; sections = held .sections; «system_tags» = held .«system_tags»; «user_tags» = tags; system = held .system; start = held .start; index = h .index; user = h .user }) ≡ openOf f
           go (ts, m, a, i, j) =
               let k : readUser f ≡ good ts m = user-read f ts m a (j ∙ x) in
               let o : refusal f ≡ 0 = passes-opens f (record { front = passes; closed = is-closed; index = index-right; user = rw k }) in

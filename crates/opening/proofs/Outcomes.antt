@@ -15,6 +15,7 @@ use Rattle.opening.proofs.front_refusal
 use Rattle.opening.proofs.sized
 use Rattle.opening.proofs.sized_sections
 use Rattle.opening.proofs.frame_at
+use Rattle.opening.proofs.frame_end
 use Rattle.opening.proofs.since
 use Rattle.opening.proofs.follows_last
 use Rattle.opening.proofs.open
@@ -35,6 +36,9 @@ module _ {M : Type 1} (𝓤 : URA M) (H : Heap 𝓤) (A : Atoms 𝓤) (mem : Mem
 
   pub sized-sections-one : Determines 𝓤 «sized_sections».ended («sized_sections».clauses 𝓤 H A mem run)
   sized-sections-one κs a g x y v w = agree 𝓤 (λ p q. (p ∙ sym q, refl))
+
+  pub frame-end-one : Determines 𝓤 «frame_end».ended («frame_end».clauses 𝓤 H A mem run)
+  frame-end-one κs a g x y v w = agree 𝓤 (λ p q. (p ∙ sym q, refl))
 
   pub frame-at-one : Determines 𝓤 «frame_at».ended («frame_at».clauses 𝓤 H A mem run)
   frame-at-one κs a g x y v w = agree 𝓤 (λ p q. (p ∙ sym q, refl))

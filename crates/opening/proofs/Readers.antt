@@ -6,7 +6,6 @@ use mathlib.Core.Path.{_≡_, sym}
 use mathlib.Core.Bool.{Bool, true}
 use mathlib.Core.List.{List, _∷_}
 use lib.ListN.{length, take, drop}
-use borrow.Author.Tests.{le-leb}
 use Rattle.number.specs.Number.{numberOf, readAt}
 use Rattle.layout.specs.Reading.{bad, good, Reader, onward, _then_, only, times, number, block}
 use Rattle.layout.proofs.Readers.{number-good, then-good, times-suc-takes}
@@ -14,11 +13,6 @@ use Rattle.text.proofs.Rows.{number-there, block-cut, end-bad}
 use Rattle.text.proofs.Readers.{only-parts}
 
 -- ── A number at a place ──
-
--- the bytes are all there
-pub read-is : (s : List ℕ) (at w : ℕ) → w ≤ 8 → at + w ≤ length s → readAt s at w ≡ numberOf (take w (drop at s))
-unfolding readAt
-read-is s at w e h = rw (le-leb w 8 e, le-leb (at + w) (length s) h)
 
 pub number-read : (s : List ℕ) (at w : ℕ) → w ≤ 8 → at + w ≤ length s → number w (drop at s) ≡ good (readAt s at w) w
 number-read s at w e h = number-there w s at e (omega arith) (omega arith)

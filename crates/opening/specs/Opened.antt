@@ -3,13 +3,12 @@ use Prim.Native.Nat.{ℕ, zero, suc, _+_, _*_, _-_}
 use mathlib.Core.Bool.{Bool, not, cond, _||_}
 use mathlib.Core.List.{List, [], _++_}
 use lib.ListN.{length, take, drop}
-use lib.Dec.{leb, ltb, eqb}
+use lib.Dec.{ltb, eqb}
 use Rattle.number.specs.Number.{bytesOf, rank}
-use Rattle.layout.specs.Recording.{headerLength, longestConfiguration, mostFrames, largestUserOffset, same, follow, inOrder, entriesBytes, indexBytes}
-use Rattle.layout.specs.Opening.{headerCount, indexOffset, systemOffset, userOffset, readDefinitions, definedIn, steps, lastOffset, badSections, readSystem, walkStart, firstOf, frontLines, refusal, shown}
+use Rattle.layout.specs.Recording.{longestConfiguration, mostFrames, largestUserOffset, same, follow, inOrder, entriesBytes, indexBytes}
+use Rattle.layout.specs.Opening.{indexOffset, systemOffset, userOffset, definedIn, steps, lastOffset, badSections, readSystem, walkStart, firstOf, frontLines, refusal, shown}
 use Rattle.layout.specs.Recording.{Frame}
-use Rattle.layout.specs.Reading.{Parsed, bad, good, valueOr, taken, table, times, Definition, definition, sized, frame, Walk, walk}
-use Rattle.header.specs.Header.{headerOf}
+use Rattle.layout.specs.Reading.{Parsed, bad, good, valueOr, table, times, Definition, definition, sized, frame, Walk, walk}
 use Rattle.header.specs.declared.Header.{Header}
 use Rattle.text.specs.Rows.{endOf}
 use Rattle.text.specs.Table.{tablePlaceOf}
@@ -41,6 +40,10 @@ sizedAt f at = endOf at (sized (drop at f))
 
 unfoldable pub sectionsAt : List ℕ → (at sections : ℕ) → Place
 sectionsAt f at sections = endOf at (times sections sized (drop at f))
+
+-- where the whole frame at a place ends
+unfoldable pub frameEnd : List ℕ → (at sections : ℕ) → Place
+frameEnd f at sections = endOf at (frame sections (drop at f))
 
 -- the whole frame at a place: where it ends, and its two numbers
 unfoldable pub wholeFrame : (at : ℕ) → Parsed Frame → FrameAt
@@ -101,11 +104,11 @@ legalOffsets at offset (good ds n) = cond (steps offset ds) (offsets.Legal (at +
 unfoldable pub offsetsAt : List ℕ → (at definitions offset : ℕ) → Offsets
 offsetsAt f at definitions offset = legalOffsets at offset (times definitions definition (drop at f))
 
--- 3: broken, or how many sections there are, where their definitions end, and the offset of the last configuration
+-- 3: broken, or how many sections there are, and the offset of the last configuration
 unfoldable pub sectionsOf : List ℕ → Sections
 sectionsOf f =
     cond (badSections f) sectionsAs.Broken
-    (sectionsAs.Legal (length (definedIn f)) (headerLength + taken (readDefinitions f)) (lastOffset 0 (definedIn f)))
+    (sectionsAs.Legal (length (definedIn f)) (lastOffset 0 (definedIn f)))
 
 -- ── The front ──
 
@@ -118,7 +121,6 @@ unfoldable pub frontHeld : List ℕ → FrontHeld
 frontHeld f =
     record {
       sections = length (definedIn f);
-      «definitions_end» = headerLength + taken (readDefinitions f);
       system = systemOffset f;
       «system_tags» = length (valueOr [] (readSystem f));
       start = walkStart f;
@@ -147,7 +149,6 @@ heldOf f =
       sections = length (shown f .sections);
       «system_tags» = length (shown f .system);
       «user_tags» = length (shown f .user);
-      «definitions_end» = headerLength + taken (readDefinitions f);
       system = systemOffset f;
       start = walkStart f;
       index = indexOffset f;

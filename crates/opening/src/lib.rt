@@ -10,7 +10,7 @@ ghost use Prim.Native.Nat.{_+_, _*_, _^_, _<_, _≤_};
 ghost use lib.ListN.{length};
 ghost use Rattle.layout.specs.Recording.{follows};
 ghost use Rattle.layout.specs.Opening.{notFstf, otherRevision};
-ghost use Rattle.opening.specs.Opened.{notClosedBy, sizedAt, sectionsAt, frameAt, sinceFirst, otherEntry, otherFrames, badIndexBy, definitionAt, offsetsAt, sectionsOf, systemTable, frontOf, frontRefusal, openOf, openRefusal};
+ghost use Rattle.opening.specs.Opened.{notClosedBy, sizedAt, sectionsAt, frameEnd, frameAt, sinceFirst, otherEntry, otherFrames, badIndexBy, definitionAt, offsetsAt, sectionsOf, systemTable, frontOf, frontRefusal, openOf, openRefusal};
 
 // 1: "under 34 bytes, or the first four differ"
 fn not_fstf(file: &[u8]) -> bool
@@ -91,13 +91,9 @@ fn later_offsets(file: &[u8], at: usize, definitions: usize, offset: usize) -> O
     Offsets::Legal { end: place, last }
 }
 
-// The sections' definitions: how many, where they end, and the offset of the last configuration.
+// The sections' definitions: how many, and the offset of the last configuration.
 pub enum Sections {
-    Legal {
-        count: usize,
-        end: usize,
-        last: usize,
-    },
+    Legal { count: usize, last: usize },
     Broken,
 }
 
@@ -127,7 +123,7 @@ fn sections_in(file: &[u8]) -> Sections
         return Sections::Broken;
     }
     if text::distinct_names(file, Header::LENGTH + 1, count, Row::Definition) {
-        Sections::Legal { count, end, last }
+        Sections::Legal { count, last }
     } else {
         Sections::Broken
     }
@@ -148,11 +144,9 @@ fn system_table(file: &[u8], system: usize, last: usize) -> TablePlace
     text::table(file, system)
 }
 
-// What stands ahead of the frames: the number of sections, where their definitions end, the system table's offset and number of tags, and where the
-// frames start.
+// What stands ahead of the frames: the number of sections, the system table's offset and number of tags, and where the frames start.
 pub struct FrontHeld {
     pub sections: usize,
-    pub definitions_end: usize,
     pub system: usize,
     pub system_tags: usize,
     pub start: usize,
@@ -174,7 +168,7 @@ pub fn open_front(file: &[u8]) -> Front
         return Front::Refused(2);
     }
     let defined = sections_in(file);
-    let Sections::Legal { count, end, last } = defined else {
+    let Sections::Legal { count, last } = defined else {
         return Front::Refused(3);
     };
     let header = Header::parse(file);
@@ -184,7 +178,6 @@ pub fn open_front(file: &[u8]) -> Front
     };
     Front::Whole(FrontHeld {
         sections: count,
-        definitions_end: end,
         system: header.system,
         system_tags: tags,
         start,
@@ -241,6 +234,23 @@ pub fn sized_sections(file: &[u8], at: usize, sections: usize) -> Place
     Place::End(place)
 }
 
+// Where the whole frame that stands at a place ends: "all its bytes by the rule are there, whatever its time". A walk asks no more of a frame than
+// this and its time.
+pub fn frame_end(file: &[u8], at: usize, sections: usize) -> Place
+    ensures { λ r. ⌜ r ≡ frameEnd (now (file .entry)) at sections ⌝ }
+{
+    if file.len() < Header::FRAME_HEAD {
+        return Place::Broken;
+    }
+    if file.len() - Header::FRAME_HEAD < at {
+        return Place::Broken;
+    }
+    if number::read(file, at, 4) == Header::FRAME_MARK {} else {
+        return Place::Broken;
+    }
+    sized_sections(file, at + Header::FRAME_HEAD, sections)
+}
+
 pub enum FrameAt {
     Whole {
         next: usize,
@@ -250,21 +260,12 @@ pub enum FrameAt {
     None,
 }
 
-// The whole frame that stands at a place: "all its bytes by the rule are there, whatever its time". The time is the pattern of its Int64.
+// The whole frame that stands at a place, with its two numbers. The time is the pattern of its Int64.
 pub fn frame_at(file: &[u8], at: usize, sections: usize) -> FrameAt
     ensures { λ r. ⌜ r ≡ frameAt (now (file .entry)) at sections ⌝ }
 {
-    if file.len() < Header::FRAME_HEAD {
-        return FrameAt::None;
-    }
-    if file.len() - Header::FRAME_HEAD < at {
-        return FrameAt::None;
-    }
-    if number::read(file, at, 4) == Header::FRAME_MARK {} else {
-        return FrameAt::None;
-    }
-    let behind = sized_sections(file, at + Header::FRAME_HEAD, sections);
-    let Place::End(next) = behind else {
+    let end = frame_end(file, at, sections);
+    let Place::End(next) = end else {
         return FrameAt::None;
     };
     FrameAt::Whole {
@@ -303,18 +304,21 @@ pub fn follows_last(first: u64, last: u64, time: u64) -> bool
 
 // ── The index ──
 
-// Whether an index entry is not the one that a frame must have: time since the first frame, offset, length.
+// Whether an index entry is not the one that a frame must have: time since the first frame, offset, length. Its numbers are read from a part of
+// sixteen bytes, in which they are all there.
 fn other_entry(file: &[u8], entry: usize, since: u64, offset: usize, size: usize) -> bool
     requires { ⌜ (entry + 16 ≤ length (now file)) × (since < 2 ^ 32) × (size < 2 ^ 32) ⌝ }
     ensures { λ r. ⌜ r ≡ otherEntry (now (file .entry)) entry since offset size ⌝ }
 {
-    if number::read(file, entry, 4) == since {} else {
+    let behind = entry + Header::INDEX_ENTRY;
+    let held = &file[entry..behind];
+    if number::read(held, 0, 4) == since {} else {
         return true;
     }
-    if number::read(file, entry + 4, 8) == offset as u64 {} else {
+    if number::read(held, 4, 8) == offset as u64 {} else {
         return true;
     }
-    if number::read(file, entry + 12, 4) == size as u64 {
+    if number::read(held, 12, 4) == size as u64 {
         return false;
     }
     true
@@ -338,15 +342,11 @@ fn other_frames(
     let mut last = first;
     let mut left = count;
     while 0 < left {
-        let frame = frame_at(file, place, sections);
-        let FrameAt::Whole {
-            next,
-            time,
-            exposure: _,
-        } = frame
-        else {
+        let end = frame_end(file, place, sections);
+        let Place::End(next) = end else {
             return true;
         };
+        let time = number::read(file, place + 4, 8);
         if follows_last(first, last, time) {} else {
             return true;
         }
@@ -419,7 +419,6 @@ pub struct Held {
     pub sections: usize,
     pub system_tags: usize,
     pub user_tags: usize,
-    pub definitions_end: usize,
     pub system: usize,
     pub start: usize,
     pub index: usize,
@@ -458,7 +457,6 @@ pub fn open(file: &[u8]) -> Opening
         sections: held.sections,
         system_tags: held.system_tags,
         user_tags: tags,
-        definitions_end: held.definitions_end,
         system: held.system,
         start: held.start,
         index: header.index,

@@ -1,6 +1,6 @@
 -- What the calls answer: the number of the first line that holds, or the item.
 -- Assumes nothing.
-use Prim.Native.Nat.{ℕ, zero, suc, _+_, _*_, _-_, _^_, _<_, _≤_}
+use Prim.Native.Nat.{ℕ, zero, suc, _+_, _-_, _^_, _<_, _≤_}
 use native.Mathlib.Omega.{arith}
 use native.Mathlib.Nat.{add-sub-cancel-left}
 use mathlib.Core.Path.{_≡_, refl, ap, sym, _∙_}
@@ -9,12 +9,11 @@ use mathlib.Core.Logic.{_⊎_, inl, inr}
 use mathlib.Core.List.{List, [], _∷_, _++_}
 use lib.ListN.{length, take, drop}
 use borrow.Author.Needs.{needs}
-use borrow.Author.Tests.{lt-ltb, le-ltb, le-leb, lt-leb}
+use borrow.Author.Tests.{lt-ltb, le-ltb}
 use mir.Syntax.{w32, w64}
 use mir.Val.{Fits, toZ, ofZ}
 use mir.Facts.{ofZ-toZ}
 use lib.IntN.{ℤ}
-use Rattle.number.specs.Number.{readAt}
 use Rattle.number.proofs.Bytes.{slice-bytes}
 use Rattle.layout.specs.Recording.{Frame, frameBytes}
 use Rattle.layout.specs.Opening.{line, firstOf, openingLines, refusal, shown}
@@ -24,6 +23,8 @@ use Rattle.layout.proofs.Lists.{le-or-lt, bytes-drop}
 use Rattle.layout.proofs.Lines.{line-pass, line-holds, lines-first, opening-pass, opens-passes}
 use Rattle.layout.proofs.Places.{item-stands}
 use Rattle.layout.proofs.Exact.{frame-exact, frame-legal}
+use Rattle.text.specs.declared.Place.{Place}
+use Rattle.text.specs.declared.Place.the-variants.{End, Broken}
 use Rattle.opening.specs.Opened.{heldOf, openOf, openRefusal, frameAt, wholeFrame}
 use Rattle.opening.specs.declared.Held.{Held}
 use Rattle.opening.specs.declared.Opening.{Opening}
@@ -32,22 +33,23 @@ use Rattle.opening.specs.declared.FrameAt.{FrameAt}
 use Rattle.opening.specs.declared.FrameAt.the-variants.{Whole, None}
 use Rattle.opening.proofs.Lines.{open-opens, open-refuses}
 use Rattle.opening.proofs.Frames.{found, found-behind}
-use Rattle.reading.specs.Read.{itemOf, foundIn, foundBy, findOf, numberOf, frameBy, frameReadOf, frameFrom, entryPlace, heldFrame}
+use Rattle.reading.specs.Read.{itemOf, foundIn, foundBy, findOf, numberOf, frameBy, frameReadOf, framePlace, frameFrom, frameBehind, heldFrame, heldFound}
 use Rattle.reading.specs.Read as read
 use Rattle.reading.specs.declared.Item.{Item}
 use Rattle.reading.specs.declared.Found.{Found}
 use Rattle.reading.specs.declared.Found.the-variants.{At, Refused}
 use Rattle.reading.specs.declared.FrameRead.{FrameRead}
 use Rattle.reading.specs.declared.FrameRead.the-variants as frameAs
-use Rattle.reading.proofs.Opened.{Bytes, legal, here, order, frame-place, frame-here}
-use Rattle.reading.proofs.Held.{held-frames, held-sections, held-index}
+use Rattle.reading.proofs.Opened.{Bytes, legal, here, frame-here}
+use Rattle.reading.proofs.Laws.{place-past}
+use Rattle.reading.proofs.Held.{held-frames, held-sections, held-index, shown-place, shown-item}
 
 -- ── What opening's answer says ──
 
-pub opens : (f : List ℕ) (r : Opening) (h : Held) → r ≡ openOf f → r ≡ openingAs.Opened h → refusal f ≡ 0
+opens : (f : List ℕ) (r : Opening) (h : Held) → r ≡ openOf f → r ≡ openingAs.Opened h → refusal f ≡ 0
 opens f r h e g = open-opens f h (sym e ∙ g) .0
 
-pub holds : (f : List ℕ) (r : Opening) (h : Held) → r ≡ openOf f → r ≡ openingAs.Opened h → h ≡ heldOf f
+holds : (f : List ℕ) (r : Opening) (h : Held) → r ≡ openOf f → r ≡ openingAs.Opened h → h ≡ heldOf f
 holds f r h e g = open-opens f h (sym e ∙ g) .1
 
 refused-with : (f : List ℕ) (r : Opening) (q n : ℕ) → r ≡ openOf f → r ≡ openingAs.Refused q → n ≡ openRefusal r → (k : ℕ) × (refusal f ≡ suc k) × (n ≡ suc k)
@@ -85,9 +87,9 @@ found-item f it o = go (noSuchItem (shown f) it) refl
     go true e = rw (eight-holds f (noSuchItem (shown f) it) o e, e)
     go false e = rw (eight-passed f (noSuchItem (shown f) it) o e, e)
 
-pub find-opened : (f : List ℕ) (r : Opening) (h : Held) (it : Item) (x : Found) → r ≡ openOf f → r ≡ openingAs.Opened h → x ≡ foundIn (shown f) (itemOf it) → x ≡ findOf f it
+pub find-opened : (f : List ℕ) (r : Opening) (h : Held) (it : Item) (x : Found) → Bytes f → r ≡ openOf f → r ≡ openingAs.Opened h → x ≡ heldFound f h it → x ≡ findOf f it
 unfolding findOf
-find-opened f r h it x e g u = u ∙ found-item f (itemOf it) (opens f r h e g)
+find-opened f r h it x b e g u = u ∙ shown-item f b (opens f r h e g) h (holds f r h e g) it ∙ found-item f (itemOf it) (opens f r h e g)
 
 pub number-found : (f : List ℕ) (it : Item) (r : Found) (n : ℕ) → r ≡ findOf f it → n ≡ numberOf r → n ≡ itemRefusal f (itemOf it)
 unfolding findOf foundBy
@@ -165,13 +167,13 @@ frame-refused f r q n i e g h =
     ap frameAs.Refused m ∙ sym u
 
 -- the frame that the numbers lead to
-held-past : (f : List ℕ) (h : Held) (i : ℕ) → h .frames ≤ i → frameAs.Refused 8 ≡ heldFrame f h i
-unfolding heldFrame
-held-past f h i l = rw (le-ltb i (h .frames) l)
+pub frame-nowhere : (f : List ℕ) (h : Held) (i : ℕ) (q : Place) → q ≡ framePlace f (h .frames) (h .index) i → q ≡ Broken → frameAs.Refused 8 ≡ heldFrame f h i
+unfolding heldFrame frameBehind
+frame-nowhere f h i q e g = sym (ap (frameBehind f (h .sections)) (sym e ∙ g))
 
-held-found : (f : List ℕ) (h : Held) (i : ℕ) → i < h .frames → i < 1000000 → h .index ≤ length f → heldFrame f h i ≡ frameFrom (entryPlace f (h .index) i) (frameAt f (entryPlace f (h .index) i) (h .sections))
-unfolding heldFrame
-held-found f h i l m n = rw (lt-ltb i (h .frames) l, lt-ltb i 1000000 m, le-leb (h .index) (length f) n)
+frame-there : (f : List ℕ) (h : Held) (i : ℕ) (q : Place) (p : ℕ) → q ≡ framePlace f (h .frames) (h .index) i → q ≡ End p → heldFrame f h i ≡ frameFrom p (frameAt f p (h .sections))
+unfolding heldFrame frameBehind
+frame-there f h i q p e g = ap (frameBehind f (h .sections)) (sym e ∙ g)
 
 -- of a file that opens it is the frame shown
 pub shown-frame : (f : List ℕ) (h : Held) (i : ℕ) → Bytes f → refusal f ≡ 0 → h ≡ heldOf f → heldFrame f h i ≡ frameReadOf f i
@@ -181,33 +183,21 @@ shown-frame f h i b o e = go (le-or-lt (length (shown f .frames)) i)
     go : (length (shown f .frames) ≤ i) ⊎ (i < length (shown f .frames)) → heldFrame f h i ≡ frameReadOf f i
     go (inl l) =
         let u : frameReadOf f i ≡ frameAs.Refused 8 = rw (eight-holds f (noSuchFrame (shown f) i) o (rw (le-ltb i (length (shown f .frames)) l))) in
-        sym (held-past f h i (omega (arith, held-frames f b o h e))) ∙ sym u
+        sym (frame-nowhere f h i _ refl (sym (place-past f (h .frames) (h .index) i (omega (arith, held-frames f b o h e))))) ∙ sym u
     go (inr l) =
         let x : Frame = frameOf (shown f) i in
-        let p : entryPlace f (h .index) i ≡ frameStart (shown f) i = rw (held-index f b o h e) (frame-place f b o i l) in
+        let p : framePlace f (h .frames) (h .index) i ≡ End (frameStart (shown f) i) = shown-place f b o (h .frames) (h .index) i (held-frames f b o h e) (held-index f b o h e) (omega (arith, held-frames f b o h e)) in
         let u : frameReadOf f i ≡ frameAs.Frame (frameStart (shown f) i) (length (frameBytes x)) (toZ w64 (x .time)) (x .exposure) = rw (eight-passed f (noSuchFrame (shown f) i) o (rw (lt-ltb i (length (shown f .frames)) l))) in
-        let v : heldFrame f h i ≡ frameFrom (entryPlace f (h .index) i) (frameAt f (entryPlace f (h .index) i) (h .sections)) = held-found f h i (omega (arith, held-frames f b o h e)) (omega (arith, legal f b o .framesFew)) (omega (arith, held-index f b o h e, order f b o .index, order f b o .user)) in
         let a : frameStart (shown f) i + length (frameBytes x) - frameStart (shown f) i ≡ length (frameBytes x) = omega arith in
         let w : frameFrom (frameStart (shown f) i) (frameAt f (frameStart (shown f) i) (length (shown f .sections))) ≡ frameAs.Frame (frameStart (shown f) i) (length (frameBytes x)) (toZ w64 (x .time)) (x .exposure) = rw (frame-here f b o i l, a) in
-        v ∙ rw (p, held-sections f b o h e) w ∙ sym u
+        frame-there f h i _ (frameStart (shown f) i) refl p ∙ rw (held-sections f b o h e) w ∙ sym u
 
 pub frame-opened : (f : List ℕ) (r : Opening) (h : Held) (i : ℕ) (x : FrameRead) → Bytes f → r ≡ openOf f → r ≡ openingAs.Opened h → x ≡ heldFrame f h i → x ≡ frameReadOf f i
 frame-opened f r h i x b e g u = u ∙ shown-frame f h i b (opens f r h e g) (holds f r h e g)
 
-pub no-frame : (f : List ℕ) (h : Held) (i : ℕ) → h .frames ≤ i → frameAs.Refused 8 ≡ heldFrame f h i
-no-frame = held-past
-
-pub frame-high : (f : List ℕ) (h : Held) (i : ℕ) → i < h .frames → 1000000 ≤ i → frameAs.Refused 8 ≡ heldFrame f h i
-unfolding heldFrame
-frame-high f h i l m = rw (lt-ltb i (h .frames) l, le-ltb i 1000000 m)
-
-pub frame-far : (f : List ℕ) (h : Held) (i : ℕ) → i < h .frames → i < 1000000 → length f < h .index → frameAs.Refused 8 ≡ heldFrame f h i
-unfolding heldFrame
-frame-far f h i l m n = rw (lt-ltb i (h .frames) l, lt-ltb i 1000000 m, lt-leb (h .index) (length f) n)
-
-pub frame-none : (f : List ℕ) (h : Held) (i p : ℕ) (r : FrameAt) → i < h .frames → i < 1000000 → h .index ≤ length f → p ≡ readAt f (h .index + 4 + 16 * i + 4) 8 → r ≡ frameAt f p (h .sections) → r ≡ None → frameAs.Refused 8 ≡ heldFrame f h i
+pub frame-none : (f : List ℕ) (h : Held) (i p : ℕ) (q : Place) (r : FrameAt) → q ≡ framePlace f (h .frames) (h .index) i → q ≡ End p → r ≡ frameAt f p (h .sections) → r ≡ None → frameAs.Refused 8 ≡ heldFrame f h i
 unfolding frameFrom
-frame-none f h i p r l m n e g u = sym (held-found f h i l m n ∙ rw (← e, ← g, u))
+frame-none f h i p q r e g u v = sym (frame-there f h i q p e g ∙ ap (frameFrom p) (sym u ∙ v))
 
 -- its numbers fit
 frame-fits : (f : List ℕ) (p k next t x : ℕ) (r : FrameAt) → Bytes f → r ≡ frameAt f p k → r ≡ Whole next t x → (t < 2 ^ 64) × (x < 2 ^ 32)
@@ -220,10 +210,10 @@ pub exposure-fits : (f : List ℕ) (p k next t x : ℕ) (r : FrameAt) → Bytes 
 exposure-fits f p k next t x r b e g = record { fits = frame-fits f p k next t x r b e g .1 }
 
 -- an Int64 is stored by its pattern
-pub frame-some : (f : List ℕ) (h : Held) (i p next t x : ℕ) (z : ℤ) (r : FrameAt) → Bytes f → i < h .frames → i < 1000000 → h .index ≤ length f → p ≡ readAt f (h .index + 4 + 16 * i + 4) 8 → r ≡ frameAt f p (h .sections) → r ≡ Whole next t x → z ≡ toZ w64 t → frameAs.Frame p (next - p) (toZ w64 (ofZ w64 z)) x ≡ heldFrame f h i
+pub frame-some : (f : List ℕ) (h : Held) (i p next t x : ℕ) (z : ℤ) (q : Place) (r : FrameAt) → Bytes f → q ≡ framePlace f (h .frames) (h .index) i → q ≡ End p → r ≡ frameAt f p (h .sections) → r ≡ Whole next t x → z ≡ toZ w64 t → frameAs.Frame p (next - p) (toZ w64 (ofZ w64 z)) x ≡ heldFrame f h i
 unfolding frameFrom
-frame-some f h i p next t x z r b l m n e g u v =
-    let o : ofZ w64 z ≡ t = ap (ofZ w64) v ∙ ofZ-toZ {w = w64} {n = t} (record { fits = frame-fits f p (h .sections) next t x r b g u .0 }) in
-    rw o (sym (held-found f h i l m n ∙ rw (← e, ← g, u)))
+frame-some f h i p next t x z q r b e g u v w =
+    let o : ofZ w64 z ≡ t = ap (ofZ w64) w ∙ ofZ-toZ {w = w64} {n = t} (record { fits = frame-fits f p (h .sections) next t x r b u v .0 }) in
+    rw o (sym (frame-there f h i q p e g ∙ ap (frameFrom p) (sym u ∙ v)))
 
-pub ruleset laws = (needs, end-fits, end-within, part-refused, part-found, frame-refused, frame-opened, no-frame, frame-high, frame-far, frame-none, frame-some, found-behind, exposure-fits, opens, holds, find-refused, find-opened, number-found)
+pub ruleset laws = (needs, end-fits, end-within, part-refused, part-found, frame-refused, frame-opened, frame-nowhere, frame-none, frame-some, found-behind, exposure-fits, find-refused, find-opened, number-found)

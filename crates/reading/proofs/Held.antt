@@ -1,37 +1,43 @@
--- The numbers of an opened file are those of the recording that it shows; an item by its kind.
+-- The numbers of an opened file are those of the recording that it shows, and each item by the numbers is that recording's.
 -- Assumes nothing.
-use Prim.Native.Nat.{ℕ, _<_, _≤_}
+use Prim.Native.Nat.{ℕ, suc, _+_, _*_, _-_, _<_, _≤_}
 use native.Mathlib.Omega.{arith}
-use mathlib.Core.Path.{_≡_, refl, ap, _∙_}
-use mathlib.Core.Bool.{Bool, true, false, not, cond}
+use mathlib.Core.Path.{_≡_, refl, ap, sym, _∙_}
+use mathlib.Core.Bool.{Bool, true, false, not, cond, _&&_}
 use mathlib.Core.Logic.{_⊎_, inl, inr}
-use mathlib.Core.List.{List, _++_, flatMap}
-use lib.ListN.{length, drop, getD}
+use mathlib.Core.List.{List, [], _++_, flatMap}
+use lib.ListN.{length, take, drop, getD, length-append}
+use lib.Seq.{take-all}
 use lib.Dec.{ltb}
-use borrow.Author.Needs.{needs}
-use borrow.Author.Tests.{lt-ltb, le-ltb}
-use Rattle.number.proofs.Bytes.{slice-bytes}
-use Rattle.layout.specs.Recording.{Tag, frameBytes, tableBytes, framesEnd, userStart}
-use Rattle.layout.specs.Reading.{good, taken, table}
+use borrow.Author.Tests.{lt-ltb, le-ltb, eq-eqb, ne-eqb}
+use Rattle.number.specs.Number.{readAt}
+use Rattle.number.proofs.Bytes.{length-bytesOf, slice-bytes}
+use Rattle.layout.specs.Recording.{Section, Tag, frameBytes, sizedBytes, tableBytes, definitionsEnd, configurationsBytes, framesEnd, userStart}
+use Rattle.layout.specs.Reading.{good, taken, table, string}
 use Rattle.layout.specs.Opening.{refusal, shown, systemOffset, userOffset, walkStart, readSystem, readUser}
-use Rattle.layout.specs.Items.{frameSection, sectionName, configuration, noTag, noSuchItem, itemStart, itemBytes, nameStart, valueStart, systemStart}
-use Rattle.layout.proofs.Lists.{le-or-lt}
+use Rattle.layout.specs.Items.{frameSection, sectionName, configuration, noSection, noTag, noSuchItem, itemStart, itemBytes, nameStart, valueStart, systemStart, frameStart, frameOf}
+use Rattle.layout.proofs.Lists.{le-or-lt, flatMap-take}
 use Rattle.layout.proofs.Readers.{exactly-good}
 use Rattle.layout.proofs.Lines.{opens-passes}
 use Rattle.layout.proofs.Fronts.{FrontRead}
 use Rattle.layout.proofs.Encoded.{legal-front, legal-user, behindFrames, opens-placed}
+use Rattle.text.specs.Text.{textOf}
+use Rattle.text.specs.Rows.{endOf}
 use Rattle.text.specs.Table.{tagFound}
-use Rattle.text.specs.declared.TagFound.{TagFound}
+use Rattle.text.specs.declared.Place.the-variants.{End}
 use Rattle.text.specs.declared.TagFound.the-variants as tag
+use Rattle.text.specs.declared.Text.the-variants as text
 use Rattle.text.proofs.Places.{tag-found-at, tag-found-past}
-use Rattle.opening.specs.Opened.{heldOf}
+use Rattle.opening.specs.Opened.{heldOf, sizedAt, sectionsAt, definitionAt, wholeDefinition}
+use Rattle.opening.specs.declared.DefinitionAt.the-variants as definitionAs
 use Rattle.opening.specs.declared.Held.{Held}
-use Rattle.reading.specs.Read.{itemOf, foundIn, nameOf, valueOf}
+use Rattle.reading.specs.Read.{itemOf, foundIn, framePlace, heldSection, definitionPlace, heldName, offsetOr, nextAt, heldConfiguration, nameOf, valueOf, heldFound}
 use Rattle.reading.specs.declared.Item.{Item}
 use Rattle.reading.specs.declared.Item.the-variants as item
-use Rattle.reading.specs.declared.Found.{Found}
 use Rattle.reading.specs.declared.Found.the-variants.{At, Refused}
-use Rattle.reading.proofs.Opened.{Bytes, legal, again}
+use Rattle.reading.proofs.Standing.{configurations-next}
+use Rattle.reading.proofs.Opened.{Bytes, legal, again, order, definitionStart, definitions-ahead, definitionOf, definition-here, definition-next, name-here, frame-within, frame-place, sizeStart, sections-ahead, section-here}
+use Rattle.reading.proofs.Laws.{name-past, name-found, configuration-past, configuration-found, place-past, place-there, section-past, section-nowhere, section-found}
 
 -- ── A file that opens ──
 
@@ -88,13 +94,6 @@ tag-in f at n i ts e = go (le-or-lt (length ts) i)
     go (inl h) = rw (le-ltb i (length ts) h) (tag-found-past f at n i ts e h)
     go (inr h) = rw (lt-ltb i (length ts) h) (tag-found-at f at n i ts e h)
 
--- a tag that was found, by the lengths and places of its name and value
-pub name-some : (t : TagFound) (p q k l : ℕ) → t ≡ tag.At p q k l → At p q ≡ nameOf t
-name-some t p q k l e = rw e
-
-pub value-some : (t : TagFound) (p q k l : ℕ) → t ≡ tag.At p q k l → At k l ≡ valueOf t
-value-some t p q k l e = rw e
-
 -- its name, or 8; its value, or 8
 name-or : (b : Bool) (p q k l : ℕ) → nameOf (cond b (tag.At p q k l) tag.Nothing) ≡ cond (not b) (Refused 8) (At p q)
 name-or true p q k l = refl
@@ -104,43 +103,85 @@ value-or : (b : Bool) (p q k l : ℕ) → valueOf (cond b (tag.At p q k l) tag.N
 value-or true p q k l = refl
 value-or false p q k l = refl
 
--- ── An item by its kind ──
+-- ── Items by the numbers ──
 
-module _ (f : List ℕ) (it : Item) (x : Found) where
-  pub item-section : (i j : ℕ) → it ≡ item.Section i j → x ≡ foundIn (shown f) (frameSection i j) → x ≡ foundIn (shown f) (itemOf it)
-  unfolding itemOf
-  item-section i j e g = rw e g
+-- of a file that opens each is the item of the recording shown
+module _ (f : List ℕ) (b : Bytes f) (o : refusal f ≡ 0) where
+  module _ (i n : ℕ) (c : n ≡ length (shown f .sections)) where
+    shown-name : heldName f n i ≡ foundIn (shown f) (sectionName i)
+    unfolding foundIn noSuchItem itemStart itemBytes definitionStart textOf
+    shown-name = go (le-or-lt n i)
+      where
+        go : (n ≤ i) ⊎ (i < n) → heldName f n i ≡ foundIn (shown f) (sectionName i)
+        go (inl h) = rw (le-ltb i (length (shown f .sections)) (omega arith)) (sym (name-past f n i h))
+        go (inr h) =
+            let t : textOf (string (drop (definitionStart (shown f) i) f)) ≡ text.Whole (length (getD (shown f .sections) i noSection .name)) = rw (name-here f b o i (omega arith)) in
+            rw (lt-ltb i (length (shown f .sections)) (omega arith)) (sym (name-found f n i h (definitionPlace f i) refl (definitionStart (shown f) i) (definitions-ahead f b o i (omega arith)) _ refl _ t))
 
-  pub item-section-name : (i : ℕ) → it ≡ item.SectionName i → x ≡ foundIn (shown f) (sectionName i) → x ≡ foundIn (shown f) (itemOf it)
-  unfolding itemOf
-  item-section-name i e g = rw e g
+    -- the next offset is where the configurations up to this one end
+    next-offset : (system : ℕ) → i < n → system ≡ systemStart (shown f) → nextAt f (definitionStart (shown f) (suc i)) (n - i - 1) system ≡ definitionsEnd (shown f .sections) + length (configurationsBytes (take (suc i) (shown f .sections)))
+    unfolding nextAt offsetOr systemStart definitionAt wholeDefinition definitionOf
+    next-offset system h s = go (le-or-lt (n - i - 1) 0)
+      where
+        go : (n - i - 1 ≤ 0) ⊎ (0 < n - i - 1) → nextAt f (definitionStart (shown f) (suc i)) (n - i - 1) system ≡ definitionsEnd (shown f .sections) + length (configurationsBytes (take (suc i) (shown f .sections)))
+        go (inl z) = rw (eq-eqb (n - i - 1) 0 (omega arith), take-all (suc i) (shown f .sections) (omega arith)) s
+        go (inr z) = rw (ne-eqb (n - i - 1) 0 (λ e. omega arith), definition-here f b o (suc i) (omega arith))
 
-  pub item-configuration : (i : ℕ) → it ≡ item.Configuration i → x ≡ foundIn (shown f) (configuration i) → x ≡ foundIn (shown f) (itemOf it)
-  unfolding itemOf
-  item-configuration i e g = rw e g
+    shown-configuration : (system : ℕ) → system ≡ systemStart (shown f) → heldConfiguration f n system i ≡ foundIn (shown f) (configuration i)
+    unfolding foundIn noSuchItem itemStart itemBytes definitionOf definitionAt wholeDefinition systemStart configurationsBytes
+    shown-configuration system s = go (le-or-lt n i)
+      where
+        go : (n ≤ i) ⊎ (i < n) → heldConfiguration f n system i ≡ foundIn (shown f) (configuration i)
+        go (inl h) = rw (le-ltb i (length (shown f .sections)) (omega arith)) (sym (configuration-past f n system i h))
+        go (inr h) =
+            let ss : List Section = shown f .sections in
+            let start : ℕ = definitionsEnd ss + length (configurationsBytes (take i ss)) in
+            let end : ℕ = definitionsEnd ss + length (configurationsBytes (take (suc i) ss)) in
+            let t : definitionAt f (definitionStart (shown f) i) ≡ definitionAs.Whole (definitionStart (shown f) (suc i)) start = rw (definition-here f b o i (omega arith)) (ap (λ (m : ℕ). definitionAs.Whole m start) (definition-next f b o i (omega arith))) in
+            let k : length (configurationsBytes (take (suc i) ss)) ≡ length (configurationsBytes (take i ss)) + length (getD ss i noSection .configuration) = configurations-next i ss (omega arith) in
+            let l : end ≤ length f = omega (arith, flatMap-take (λ (x : Section). x .configuration) (suc i) ss, order f b o .system, order f b o .frames, order f b o .index, order f b o .user) in
+            let m : end - start ≡ length (getD ss i noSection .configuration) = omega arith in
+            rw (lt-ltb i (length (shown f .sections)) (omega arith), ← m) (sym (configuration-found f n i h (definitionPlace f i) refl (definitionStart (shown f) i) (definitions-ahead f b o i (omega arith)) _ refl system _ start end t (sym (next-offset system h s)) (omega arith) l))
 
-  -- a tag of either table
-  module _ (i : ℕ) (h : Held) (b : Bytes f) (o : refusal f ≡ 0) (k : h ≡ heldOf f) (t : TagFound) where
-    system-tag : t ≡ tagFound f (h .system) i → t ≡ cond (ltb i (length (shown f .system))) (tag.At (nameStart (systemStart (shown f)) (shown f .system) i) (length (getD (shown f .system) i noTag .name)) (valueStart (systemStart (shown f)) (shown f .system) i) (length (getD (shown f .system) i noTag .value))) tag.Nothing
-    system-tag u = u ∙ rw (held-system f b o h k) (tag-in f (systemStart (shown f)) _ i (shown f .system) (system-read f b o))
+  module _ (frames index i : ℕ) (c : frames ≡ length (shown f .frames)) (d : index ≡ framesEnd (shown f)) (h : i < frames) where
+    -- a frame starts where it does in the recording
+    pub shown-place : framePlace f frames index i ≡ End (frameStart (shown f) i)
+    shown-place =
+        let e : frameStart (shown f) i ≡ readAt f (index + 4 + 16 * i + 4) 8 = sym (frame-place f b o i (omega arith)) ∙ ap (λ (k : ℕ). readAt f (k + 4 + 16 * i + 4) 8) (sym d) in
+        sym (place-there f frames index i (frameStart (shown f) i) h (omega (arith, legal f b o .framesFew)) (omega (arith, order f b o .index, order f b o .user)) e)
 
-    user-tag : t ≡ tagFound f (h .user) i → t ≡ cond (ltb i (length (shown f .user))) (tag.At (nameStart (userStart (shown f)) (shown f .user) i) (length (getD (shown f .user) i noTag .name)) (valueStart (userStart (shown f)) (shown f .user) i) (length (getD (shown f .user) i noTag .value))) tag.Nothing
-    user-tag u = u ∙ rw (held-user f b o h k) (tag-in f (userStart (shown f)) _ i (shown f .user) (user-read f b o))
+  shown-section : (frames index n i j : ℕ) → frames ≡ length (shown f .frames) → index ≡ framesEnd (shown f) → n ≡ length (shown f .sections) → heldSection f frames index n i j ≡ foundIn (shown f) (frameSection i j)
+  unfolding foundIn noSuchItem itemStart itemBytes sizeStart sectionsAt sizedAt endOf sizedBytes
+  shown-section frames index n i j c d m = go (le-or-lt n j) (le-or-lt frames i)
+    where
+      past : (x : Bool) → cond (not (x && false)) (Refused 8) (At (itemStart (shown f) (frameSection i j)) (length (itemBytes (shown f) (frameSection i j)))) ≡ Refused 8
+      past true = refl
+      past false = refl
 
-    pub item-system-name : it ≡ item.SystemName i → t ≡ tagFound f (h .system) i → x ≡ nameOf t → x ≡ foundIn (shown f) (itemOf it)
-    unfolding itemOf foundIn noSuchItem itemStart itemBytes
-    item-system-name e u g = g ∙ ap nameOf (system-tag u) ∙ rw e (name-or (ltb i (length (shown f .system))) _ _ _ _)
+      go : (n ≤ j) ⊎ (j < n) → (frames ≤ i) ⊎ (i < frames) → heldSection f frames index n i j ≡ foundIn (shown f) (frameSection i j)
+      go (inl h) k = sym (section-past f frames index n i j h) ∙ sym (rw (le-ltb j (length (shown f .sections)) (omega arith)) (past (ltb i (length (shown f .frames)))))
+      go (inr h) (inl k) = rw (le-ltb i (length (shown f .frames)) (omega arith)) (sym (section-nowhere f frames index n i j h (framePlace f frames index i) refl (sym (place-past f frames index i k))))
+      go (inr h) (inr k) =
+          let x : List ℕ = getD (frameOf (shown f) i .sections) j [] in
+          let s : ℕ = sizeStart (shown f) i j in
+          let t : sizedAt f s ≡ End (s + 4 + length x) = rw (section-here f b o i j (omega arith) (omega arith)) (ap End (simp (length-append, length-bytesOf) (omega arith))) in
+          let z : s + 4 + length x - s - 4 ≡ length x = omega arith in
+          let l : frameStart (shown f) i ≤ length f = omega (arith, frame-within f b o i, order f b o .index, order f b o .user) in
+          rw (lt-ltb i (length (shown f .frames)) (omega arith), lt-ltb j (length (shown f .sections)) (omega arith), ← z) (sym (section-found f frames index n i j h (framePlace f frames index i) refl (frameStart (shown f) i) (shown-place frames index i c d k) l _ refl s (sections-ahead f b o i j (omega arith) (omega arith)) _ refl (s + 4 + length x) t))
 
-    pub item-system-value : it ≡ item.SystemValue i → t ≡ tagFound f (h .system) i → x ≡ valueOf t → x ≡ foundIn (shown f) (itemOf it)
-    unfolding itemOf foundIn noSuchItem itemStart itemBytes
-    item-system-value e u g = g ∙ ap valueOf (system-tag u) ∙ rw e (value-or (ltb i (length (shown f .system))) _ _ _ _)
+  module _ (h : Held) (e : h ≡ heldOf f) where
+    shown-system : (i : ℕ) → tagFound f (h .system) i ≡ cond (ltb i (length (shown f .system))) (tag.At (nameStart (systemStart (shown f)) (shown f .system) i) (length (getD (shown f .system) i noTag .name)) (valueStart (systemStart (shown f)) (shown f .system) i) (length (getD (shown f .system) i noTag .value))) tag.Nothing
+    shown-system i = rw (held-system f b o h e) (tag-in f (systemStart (shown f)) _ i (shown f .system) (system-read f b o))
 
-    pub item-user-name : it ≡ item.UserName i → t ≡ tagFound f (h .user) i → x ≡ nameOf t → x ≡ foundIn (shown f) (itemOf it)
-    unfolding itemOf foundIn noSuchItem itemStart itemBytes
-    item-user-name e u g = g ∙ ap nameOf (user-tag u) ∙ rw e (name-or (ltb i (length (shown f .user))) _ _ _ _)
+    shown-user : (i : ℕ) → tagFound f (h .user) i ≡ cond (ltb i (length (shown f .user))) (tag.At (nameStart (userStart (shown f)) (shown f .user) i) (length (getD (shown f .user) i noTag .name)) (valueStart (userStart (shown f)) (shown f .user) i) (length (getD (shown f .user) i noTag .value))) tag.Nothing
+    shown-user i = rw (held-user f b o h e) (tag-in f (userStart (shown f)) _ i (shown f .user) (user-read f b o))
 
-    pub item-user-value : it ≡ item.UserValue i → t ≡ tagFound f (h .user) i → x ≡ valueOf t → x ≡ foundIn (shown f) (itemOf it)
-    unfolding itemOf foundIn noSuchItem itemStart itemBytes
-    item-user-value e u g = g ∙ ap valueOf (user-tag u) ∙ rw e (value-or (ltb i (length (shown f .user))) _ _ _ _)
-
-pub ruleset laws = (needs, name-some, value-some, held-frames, held-sections, held-index, held-system, held-user, item-section, item-section-name, item-configuration, item-system-name, item-system-value, item-user-name, item-user-value)
+    pub shown-item : (it : Item) → heldFound f h it ≡ foundIn (shown f) (itemOf it)
+    unfolding heldFound itemOf foundIn noSuchItem itemStart itemBytes
+    shown-item (item.Section i j) = shown-section (h .frames) (h .index) (h .sections) i j (held-frames f b o h e) (held-index f b o h e) (held-sections f b o h e)
+    shown-item (item.SectionName i) = shown-name i (h .sections) (held-sections f b o h e)
+    shown-item (item.Configuration i) = shown-configuration i (h .sections) (held-sections f b o h e) (h .system) (held-system f b o h e)
+    shown-item (item.SystemName i) = ap nameOf (shown-system i) ∙ name-or (ltb i (length (shown f .system))) _ _ _ _
+    shown-item (item.SystemValue i) = ap valueOf (shown-system i) ∙ value-or (ltb i (length (shown f .system))) _ _ _ _
+    shown-item (item.UserName i) = ap nameOf (shown-user i) ∙ name-or (ltb i (length (shown f .user))) _ _ _ _
+    shown-item (item.UserValue i) = ap valueOf (shown-user i) ∙ value-or (ltb i (length (shown f .user))) _ _ _ _

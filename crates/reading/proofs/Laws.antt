@@ -1,57 +1,53 @@
--- What the functions of this crate leave to be shown, as laws about the definitions.
+-- What the functions of this crate leave to be shown, as laws about the definitions: one for each way out.
 -- Assumes nothing.
-use Prim.Native.Nat.{ℕ, suc, _+_, _*_, _-_, _^_, _<_, _≤_}
+use Prim.Native.Nat.{ℕ, _+_, _*_, _-_, _^_, _<_, _≤_}
 use native.Mathlib.Omega.{arith}
-use mathlib.Core.Path.{_≡_, refl, ap, sym, _∙_}
-use mathlib.Core.Bool.{Bool, true, false, _&&_, not, cond}
-use mathlib.Core.Logic.{_⊎_, inl, inr}
-use mathlib.Core.List.{List, []}
-use lib.ListN.{length, take, drop, getD, length-append, length-drop}
-use lib.Seq.{take-all}
-use lib.Dec.{ltb}
+use mathlib.Core.Path.{_≡_, ap, sym, _∙_}
+use mathlib.Core.Bool.{Bool}
+use mathlib.Core.List.{List}
+use lib.ListN.{length, drop, length-append, length-drop}
 use borrow.Author.Needs.{needs}
-use borrow.Author.Tests.{lt-ltb, le-ltb, eq-eqb, ne-eqb}
+use borrow.Author.Tests.{lt-ltb, le-ltb, eq-eqb, ne-eqb, le-leb, lt-leb}
 use mir.Syntax.{w64}
 use mir.Val.{Fits}
 use Rattle.number.specs.Number.{readAt}
 use Rattle.number.proofs.Bytes.{length-bytesOf, slice-bytes}
-use Rattle.layout.specs.Recording.{definitionsEnd, configurationsBytes, sizedBytes, framesEnd}
-use Rattle.layout.specs.Reading.{times, string, sized}
-use Rattle.layout.specs.Opening.{refusal, shown}
-use Rattle.layout.specs.Items.{Item, frameSection, sectionName, configuration, noSuchItem, itemStart, itemBytes, noSection, systemStart, frameStart, frameOf}
-use Rattle.layout.proofs.Lists.{le-or-lt, bytes-drop}
-use Rattle.layout.proofs.Exact.{sized-exact}
+use Rattle.layout.specs.Recording.{sizedBytes}
+use Rattle.layout.specs.Reading.{good, Reader, times, string, sized}
+use Rattle.layout.proofs.Lists.{bytes-drop}
+use Rattle.layout.proofs.Exact.{Exact, sized-exact}
 use Rattle.text.proofs.Laws.{text-place}
 use Rattle.text.proofs.Rows.{end-good}
 use Rattle.text.specs.Text.{textOf}
 use Rattle.text.specs.Rows.{endOf, rowName}
+use Rattle.text.specs.Table.{tagFound}
 use Rattle.text.specs.declared.Row.the-variants as row
 use Rattle.text.specs.declared.Place.{Place}
 use Rattle.text.specs.declared.Place.the-variants.{End, Broken}
+use Rattle.text.specs.declared.TagFound.{TagFound}
+use Rattle.text.specs.declared.TagFound.the-variants as tag
 use Rattle.text.specs.declared.Text.{Text}
 use Rattle.text.specs.declared.Text.the-variants as text
-use Rattle.opening.specs.Opened.{sizedAt, sectionsAt, definitionAt, wholeDefinition}
+use Rattle.opening.specs.Opened.{sizedAt, sectionsAt, definitionAt}
 use Rattle.opening.specs.declared.DefinitionAt.{DefinitionAt}
 use Rattle.opening.specs.declared.DefinitionAt.the-variants as definitionAs
-use Rattle.reading.specs.Read.{foundIn, offsetOr, nextAt}
+use Rattle.opening.specs.declared.Held.{Held}
+use Rattle.reading.specs.Read.{from, framePlace, sectionAt, sectionFrom, heldSection, stringFrom, nameAt, heldName, offsetOr, nextAt, between, configurationFrom, configurationAt, heldConfiguration, nameOf, valueOf, heldFound}
+use Rattle.reading.specs.declared.Item.{Item}
+use Rattle.reading.specs.declared.Item.the-variants as item
 use Rattle.reading.specs.declared.Found.{Found}
 use Rattle.reading.specs.declared.Found.the-variants.{At, Refused}
-use Rattle.reading.proofs.Standing.{configurations-next}
-use Rattle.reading.proofs.Opened.{Bytes, legal, order, definitionStart, definitions-ahead, definitionOf, definition-here, definition-next, name-here, frame-within, frame-place, sizeStart, sections-ahead, section-here}
-
--- nothing that is there can be missing
-never : {A : Type 0} → _≡_ {A = ℕ} 0 1 → A
-never z = absurd (omega arith)
+use Rattle.reading.proofs.Opened.{Bytes}
 
 -- ── A section's name and configuration ──
 
-pub name-past : (f : List ℕ) (i n : ℕ) → n ≡ length (shown f .sections) → n ≤ i → Refused 8 ≡ foundIn (shown f) (sectionName i)
-unfolding foundIn noSuchItem
-name-past f i n c h = rw (le-ltb i (length (shown f .sections)) (omega arith))
+pub name-past : (f : List ℕ) (n i : ℕ) → n ≤ i → Refused 8 ≡ heldName f n i
+unfolding heldName
+name-past f n i h = rw (le-ltb i n h)
 
-pub configuration-past : (f : List ℕ) (i n : ℕ) → n ≡ length (shown f .sections) → n ≤ i → Refused 8 ≡ foundIn (shown f) (configuration i)
-unfolding foundIn noSuchItem
-configuration-past f i n c h = rw (le-ltb i (length (shown f .sections)) (omega arith))
+pub configuration-past : (f : List ℕ) (n system i : ℕ) → n ≤ i → Refused 8 ≡ heldConfiguration f n system i
+unfolding heldConfiguration
+configuration-past f n system i h = rw (le-ltb i n h)
 
 pub next-none : (f : List ℕ) (at left system : ℕ) → left ≡ 0 → system ≡ nextAt f at left system
 unfolding nextAt
@@ -65,98 +61,102 @@ pub next-some : (f : List ℕ) (at left system next offset : ℕ) (r : Definitio
 unfolding nextAt offsetOr
 next-some f at left system next offset r h e g = rw (ne-eqb left 0 h, ← e, g)
 
-module _ (f : List ℕ) (b : Bytes f) (o : refusal f ≡ 0) (i n : ℕ) (c : n ≡ length (shown f .sections)) (h : i < n) where
-  there : i < length (shown f .sections)
-  there = omega arith
+module _ (f : List ℕ) (n i : ℕ) (h : i < n) (r : Place) (e : r ≡ endOf 34 (times i (rowName row.Definition) (drop 34 f))) where
+  name-from : heldName f n i ≡ from r (nameAt f)
+  unfolding heldName
+  name-from = rw (lt-ltb i n h) (ap (λ (x : Place). from x (nameAt f)) (sym e))
 
-  -- the next offset is where the configurations up to this one end
-  next-offset : (system : ℕ) → system ≡ systemStart (shown f) → nextAt f (definitionStart (shown f) (suc i)) (n - i - 1) system ≡ definitionsEnd (shown f .sections) + length (configurationsBytes (take (suc i) (shown f .sections)))
-  unfolding nextAt offsetOr systemStart definitionAt wholeDefinition definitionOf
-  next-offset system s = go (le-or-lt (n - i - 1) 0)
-    where
-      go : (n - i - 1 ≤ 0) ⊎ (0 < n - i - 1) → nextAt f (definitionStart (shown f) (suc i)) (n - i - 1) system ≡ definitionsEnd (shown f .sections) + length (configurationsBytes (take (suc i) (shown f .sections)))
-      go (inl z) = rw (eq-eqb (n - i - 1) 0 (omega arith), take-all (suc i) (shown f .sections) (omega arith)) s
-      go (inr z) = rw (ne-eqb (n - i - 1) 0 (λ e. omega arith), definition-here f b o (suc i) (omega arith))
+  configuration-from : (system : ℕ) → heldConfiguration f n system i ≡ from r (configurationAt f (n - i - 1) system)
+  unfolding heldConfiguration
+  configuration-from system = rw (lt-ltb i n h) (ap (λ (x : Place). from x (configurationAt f (n - i - 1) system)) (sym e))
 
-  module _ (r : Place) (e : r ≡ endOf 34 (times i (rowName row.Definition) (drop 34 f))) where
-    ahead : r ≡ End (definitionStart (shown f) i)
-    ahead = e ∙ definitions-ahead f b o i (omega arith)
+  pub name-nowhere : r ≡ Broken → Refused 8 ≡ heldName f n i
+  unfolding from
+  name-nowhere g = sym (name-from ∙ ap (λ (x : Place). from x (nameAt f)) g)
 
-    pub no-definition : (x : Found) (it : Item) → r ≡ Broken → x ≡ foundIn (shown f) it
-    no-definition x it g = never (cc ahead)
+  pub configuration-nowhere : (system : ℕ) → r ≡ Broken → Refused 8 ≡ heldConfiguration f n system i
+  unfolding from
+  configuration-nowhere system g = sym (configuration-from system ∙ ap (λ (x : Place). from x (configurationAt f (n - i - 1) system)) g)
 
-    module _ (p : ℕ) (g : r ≡ End p) where
-      place : p ≡ definitionStart (shown f) i
-      place = cc ahead
+  module _ (p : ℕ) (g : r ≡ End p) where
+    module _ (t : Text) (u : t ≡ textOf (string (drop p f))) where
+      name-read : heldName f n i ≡ stringFrom p t
+      unfolding from nameAt
+      name-read = name-from ∙ ap (λ (x : Place). from x (nameAt f)) g ∙ ap (stringFrom p) (sym u)
 
-      module _ (t : Text) (u : t ≡ textOf (string (drop p f))) where
-        name-there : t ≡ text.Whole (length (getD (shown f .sections) i noSection .name))
-        unfolding textOf
-        name-there = u ∙ rw (place, name-here f b o i there)
+      pub no-name : t ≡ text.Broken → Refused 8 ≡ heldName f n i
+      unfolding stringFrom
+      no-name v = sym (name-read ∙ ap (stringFrom p) v)
 
-        pub no-name : (x : Found) → t ≡ text.Broken → x ≡ foundIn (shown f) (sectionName i)
-        no-name x v = never (cc name-there)
+      pub name-found : (l : ℕ) → t ≡ text.Whole l → At (p + 1) l ≡ heldName f n i
+      unfolding stringFrom
+      name-found l v = sym (name-read ∙ ap (stringFrom p) v)
 
-        pub name-found : (l : ℕ) → t ≡ text.Whole l → At (p + 1) l ≡ foundIn (shown f) (sectionName i)
-        unfolding foundIn noSuchItem itemStart itemBytes definitionStart
-        name-found l v =
-            let m : l ≡ length (getD (shown f .sections) i noSection .name) = cc name-there in
-            rw (lt-ltb i (length (shown f .sections)) there, place, m)
+    module _ (t : DefinitionAt) (u : t ≡ definitionAt f p) (system : ℕ) where
+      configuration-read : heldConfiguration f n system i ≡ configurationFrom f (n - i - 1) system t
+      unfolding from configurationAt
+      configuration-read = configuration-from system ∙ ap (λ (x : Place). from x (configurationAt f (n - i - 1) system)) g ∙ ap (configurationFrom f (n - i - 1) system) (sym u)
 
-      module _ (t : DefinitionAt) (u : t ≡ definitionAt f p) where
-        definition-there : t ≡ definitionAs.Whole (definitionStart (shown f) (suc i)) (definitionOf (shown f) i .offset)
-        unfolding definitionAt wholeDefinition
-        definition-there = u ∙ rw (place, definition-here f b o i there) (ap (λ (m : ℕ). definitionAs.Whole m (definitionOf (shown f) i .offset)) (definition-next f b o i there))
+      pub no-offset : t ≡ definitionAs.Broken → Refused 8 ≡ heldConfiguration f n system i
+      unfolding configurationFrom
+      no-offset v = sym (configuration-read ∙ ap (configurationFrom f (n - i - 1) system) v)
 
-        pub no-offset : (x : Found) → t ≡ definitionAs.Broken → x ≡ foundIn (shown f) (configuration i)
-        no-offset x v = never (cc definition-there)
+      module _ (next offset end : ℕ) (v : t ≡ definitionAs.Whole next offset) (w : end ≡ nextAt f next (n - i - 1) system) where
+        offsets-read : heldConfiguration f n system i ≡ between f offset end
+        unfolding configurationFrom
+        offsets-read = configuration-read ∙ ap (configurationFrom f (n - i - 1) system) v ∙ ap (between f offset) (sym w)
 
-        module _ (next offset system end : ℕ) (v : t ≡ definitionAs.Whole next offset) (s : system ≡ systemStart (shown f)) (w : end ≡ nextAt f next (n - i - 1) system) where
-          start-is : offset ≡ definitionOf (shown f) i .offset
-          start-is = cc definition-there
+        pub offsets-fall : end < offset → Refused 8 ≡ heldConfiguration f n system i
+        unfolding between
+        offsets-fall k = sym (offsets-read ∙ rw (lt-leb offset end k))
 
-          end-is : end ≡ definitionOf (shown f) i .offset + length (getD (shown f .sections) i noSection .configuration)
-          unfolding definitionOf
-          end-is =
-              let q : next ≡ definitionStart (shown f) (suc i) = cc definition-there in
-              let a : end ≡ nextAt f (definitionStart (shown f) (suc i)) (n - i - 1) system = rw (← q) w in
-              omega (arith, next-offset system s, configurations-next i (shown f .sections) there)
+        pub offsets-far : offset ≤ end → length f < end → Refused 8 ≡ heldConfiguration f n system i
+        unfolding between
+        offsets-far k l = sym (offsets-read ∙ rw (le-leb offset end k, lt-leb end (length f) l))
 
-          pub no-end : (x : Found) → end < offset → x ≡ foundIn (shown f) (configuration i)
-          no-end x k = absurd (omega (arith, start-is, end-is))
+        pub configuration-found : offset ≤ end → end ≤ length f → At offset (end - offset) ≡ heldConfiguration f n system i
+        unfolding between
+        configuration-found k l = sym (offsets-read ∙ rw (le-leb offset end k, le-leb end (length f) l))
 
-          pub configuration-found : At offset (end - offset) ≡ foundIn (shown f) (configuration i)
-          unfolding foundIn noSuchItem itemStart itemBytes definitionOf
-          configuration-found =
-              let m : end - offset ≡ length (getD (shown f .sections) i noSection .configuration) = omega (arith, start-is, end-is) in
-              rw (lt-ltb i (length (shown f .sections)) there, m, start-is)
+-- ── Where a frame starts ──
+
+pub place-past : (f : List ℕ) (n index i : ℕ) → n ≤ i → Broken ≡ framePlace f n index i
+unfolding framePlace
+place-past f n index i h = rw (le-ltb i n h)
+
+pub place-high : (f : List ℕ) (n index i : ℕ) → i < n → 1000000 ≤ i → Broken ≡ framePlace f n index i
+unfolding framePlace
+place-high f n index i h k = rw (lt-ltb i n h, le-ltb i 1000000 k)
+
+pub place-far : (f : List ℕ) (n index i : ℕ) → i < n → i < 1000000 → length f < index → Broken ≡ framePlace f n index i
+unfolding framePlace
+place-far f n index i h k l = rw (lt-ltb i n h, lt-ltb i 1000000 k, lt-leb index (length f) l)
+
+pub place-there : (f : List ℕ) (n index i p : ℕ) → i < n → i < 1000000 → index ≤ length f → p ≡ readAt f (index + 4 + 16 * i + 4) 8 → End p ≡ framePlace f n index i
+unfolding framePlace
+place-there f n index i p h k l e = rw (lt-ltb i n h, lt-ltb i 1000000 k, le-leb index (length f) l, e)
 
 -- ── A section of a frame ──
 
-pub frame-past : (f : List ℕ) (i j n : ℕ) → n ≡ length (shown f .frames) → n ≤ i → Refused 8 ≡ foundIn (shown f) (frameSection i j)
-unfolding foundIn noSuchItem
-frame-past f i j n c h = rw (le-ltb i (length (shown f .frames)) (omega arith))
+pub section-past : (f : List ℕ) (frames index n i j : ℕ) → n ≤ j → Refused 8 ≡ heldSection f frames index n i j
+unfolding heldSection
+section-past f frames index n i j h = rw (le-ltb j n h)
 
-pub section-past : (f : List ℕ) (i j n : ℕ) → n ≡ length (shown f .sections) → n ≤ j → Refused 8 ≡ foundIn (shown f) (frameSection i j)
-unfolding foundIn noSuchItem
-section-past f i j n c h = rw (le-ltb j (length (shown f .sections)) (omega arith)) (go (ltb i (length (shown f .frames))))
-  where
-    go : (b : Bool) → Refused 8 ≡ cond (not (b && false)) (Refused 8) (At (itemStart (shown f) (frameSection i j)) (length (itemBytes (shown f) (frameSection i j))))
-    go true = refl
-    go false = refl
-
-pub index-within : (f : List ℕ) (index : ℕ) → Bytes f → refusal f ≡ 0 → index ≡ framesEnd (shown f) → index ≤ length f
-index-within f index b o e = omega (arith, order f b o .index, order f b o .user)
+-- what was read from a place on is all there
+pub read-ends : {A : Type 0} {ok : A → Bool} {bytes : A → List ℕ} {p : Reader A} → Exact ok bytes p → (f : List ℕ) (s n : ℕ) (x : A) → Bytes f → p (drop s f) ≡ good x n → (n ≡ length (bytes x)) × (n ≤ length f - s)
+read-ends {A} {ok} {bytes} e f s n x b h =
+    let (l, m, w) = e .gives (drop s f) x n (bytes-drop s f (slice-bytes f b)) h in
+    let a : length f - s ≡ length (bytes x) + length (drop n (drop s f)) = sym (length-drop s f) ∙ ap length w ∙ length-append (bytes x) (drop n (drop s f)) in
+    (m, omega arith)
 
 -- a section that was read has a size, and ends within the file
 module _ (f : List ℕ) (b : Bytes f) (s end : ℕ) (t : Place) (u : t ≡ sizedAt f s) (v : t ≡ End end) where
-  sized-ends : (s + 4 ≤ end) × (end ≤ length f)
+  pub sized-ends : (s + 4 ≤ end) × (end ≤ length f)
   unfolding sizedAt sizedBytes
   sized-ends =
       let (x, n, p, q) = end-good (sized (drop s f)) s end (sym u ∙ v) in
-      let (l, m, w) = sized-exact .gives (drop s f) x n (bytes-drop s f (slice-bytes f b)) p in
+      let (m, l) = read-ends sized-exact f s n x b p in
       let k : n ≡ 4 + length x = m ∙ simp (length-append, length-bytesOf) in
-      let a : length f - s ≡ n + length (drop n (drop s f)) = sym (length-drop s f) ∙ ap length w ∙ length-append (sizedBytes x) (drop n (drop s f)) ∙ ap (λ (z : ℕ). z + length (drop n (drop s f))) (sym m) in
       (omega arith, omega arith)
 
   pub section-fits : length f < 2 ^ 64 → Fits w64 (s + 4)
@@ -168,41 +168,83 @@ module _ (f : List ℕ) (b : Bytes f) (s end : ℕ) (t : Place) (u : t ≡ sized
   pub section-size : 4 ≤ end - s
   section-size = omega (arith, sized-ends .0)
 
-module _ (f : List ℕ) (b : Bytes f) (o : refusal f ≡ 0) (i n : ℕ) (c : n ≡ length (shown f .frames)) (h : i < n) where
-  pub frame-number : i < 1000000
-  frame-number = omega (arith, legal f b o .framesFew)
+module _ (f : List ℕ) (frames index n i j : ℕ) (h : j < n) (q : Place) (e : q ≡ framePlace f frames index i) where
+  section-from : heldSection f frames index n i j ≡ from q (sectionFrom f j)
+  unfolding heldSection
+  section-from = rw (lt-ltb j n h) (ap (λ (x : Place). from x (sectionFrom f j)) (sym e))
 
-  module _ (index p : ℕ) (d : index ≡ framesEnd (shown f)) (e : p ≡ readAt f (index + 4 + 16 * i + 4) 8) where
-    frame-starts : p ≡ frameStart (shown f) i
-    frame-starts = e ∙ ap (λ (k : ℕ). readAt f (k + 4 + 16 * i + 4) 8) d ∙ frame-place f b o i (omega arith)
+  pub section-nowhere : q ≡ Broken → Refused 8 ≡ heldSection f frames index n i j
+  unfolding from
+  section-nowhere g = sym (section-from ∙ ap (λ (x : Place). from x (sectionFrom f j)) g)
 
-    pub head-fits : Fits w64 (p + 16)
-    head-fits = record { fits = omega (arith, frame-starts, frame-within f b o i, order f b o .index, order f b o .limit) }
+  module _ (p : ℕ) (g : q ≡ End p) where
+    frame-read : heldSection f frames index n i j ≡ sectionFrom f j p
+    unfolding from
+    frame-read = section-from ∙ ap (λ (x : Place). from x (sectionFrom f j)) g
 
-    module _ (j k : ℕ) (m : k ≡ length (shown f .sections)) (l : j < k) (r : Place) (g : r ≡ sectionsAt f (p + 16) j) where
-      sizes-ahead : r ≡ End (sizeStart (shown f) i j)
-      unfolding sectionsAt
-      sizes-ahead = g ∙ rw frame-starts (sections-ahead f b o i j (omega arith) (omega arith))
+    pub section-far : length f < p → Refused 8 ≡ heldSection f frames index n i j
+    unfolding sectionFrom
+    section-far k = sym (frame-read ∙ rw (lt-leb p (length f) k))
 
-      pub no-size : (x : Found) → r ≡ Broken → x ≡ foundIn (shown f) (frameSection i j)
-      no-size x u = never (cc sizes-ahead)
+    module _ (k : p ≤ length f) (r : Place) (a : r ≡ sectionsAt f (p + 16) j) where
+      sizes-read : heldSection f frames index n i j ≡ from r (sectionAt f)
+      unfolding sectionFrom
+      sizes-read = frame-read ∙ rw (le-leb p (length f) k) (ap (λ (x : Place). from x (sectionAt f)) (sym a))
+
+      pub no-size : r ≡ Broken → Refused 8 ≡ heldSection f frames index n i j
+      unfolding from
+      no-size u = sym (sizes-read ∙ ap (λ (x : Place). from x (sectionAt f)) u)
 
       module _ (s : ℕ) (u : r ≡ End s) (t : Place) (v : t ≡ sizedAt f s) where
-        size-place : s ≡ sizeStart (shown f) i j
-        size-place = cc sizes-ahead
+        section-read : heldSection f frames index n i j ≡ from t (λ end. At (s + 4) (end - s - 4))
+        unfolding from sectionAt
+        section-read = sizes-read ∙ ap (λ (x : Place). from x (sectionAt f)) u ∙ ap (λ (x : Place). from x (λ end. At (s + 4) (end - s - 4))) (sym v)
 
-        section-there : t ≡ End (s + 4 + length (getD (frameOf (shown f) i .sections) j []))
-        unfolding sizedAt endOf sizedBytes
-        section-there = v ∙ rw (size-place, section-here f b o i j (omega arith) (omega arith)) (ap End (simp (length-append, length-bytesOf) (omega arith)))
+        pub no-section : t ≡ Broken → Refused 8 ≡ heldSection f frames index n i j
+        unfolding from
+        no-section w = sym (section-read ∙ ap (λ (x : Place). from x (λ end. At (s + 4) (end - s - 4))) w)
 
-        pub no-section : (x : Found) → t ≡ Broken → x ≡ foundIn (shown f) (frameSection i j)
-        no-section x w = never (cc section-there)
+        pub section-found : (end : ℕ) → t ≡ End end → At (s + 4) (end - s - 4) ≡ heldSection f frames index n i j
+        unfolding from
+        section-found end w = sym (section-read ∙ ap (λ (x : Place). from x (λ end. At (s + 4) (end - s - 4))) w)
 
-        pub section-found : (end : ℕ) → t ≡ End end → At (s + 4) (end - s - 4) ≡ foundIn (shown f) (frameSection i j)
-        unfolding foundIn noSuchItem itemStart itemBytes sizeStart
-        section-found end w =
-            let z : end ≡ s + 4 + length (getD (frameOf (shown f) i .sections) j []) = cc section-there in
-            let q : end - s - 4 ≡ length (getD (frameOf (shown f) i .sections) j []) = omega arith in
-            rw (lt-ltb i (length (shown f .frames)) (omega arith), lt-ltb j (length (shown f .sections)) (omega arith), q, size-place)
+-- ── An item by its kind ──
 
-pub ruleset laws = (needs, text-place, name-past, no-definition, no-name, name-found, next-none, next-broken, next-some, configuration-past, no-offset, no-end, configuration-found, frame-past, section-past, index-within, frame-number, head-fits, no-size, no-section, section-fits, section-behind, section-size, section-found)
+-- a tag that was found, by the lengths and places of its name and value
+pub name-some : (t : TagFound) (p q k l : ℕ) → t ≡ tag.At p q k l → At p q ≡ nameOf t
+name-some t p q k l e = rw e
+
+pub value-some : (t : TagFound) (p q k l : ℕ) → t ≡ tag.At p q k l → At k l ≡ valueOf t
+value-some t p q k l e = rw e
+
+module _ (f : List ℕ) (h : Held) (it : Item) (x : Found) where
+  pub item-section : (i j : ℕ) → it ≡ item.Section i j → x ≡ heldSection f (h .frames) (h .index) (h .sections) i j → x ≡ heldFound f h it
+  unfolding heldFound
+  item-section i j e g = rw e g
+
+  pub item-section-name : (i : ℕ) → it ≡ item.SectionName i → x ≡ heldName f (h .sections) i → x ≡ heldFound f h it
+  unfolding heldFound
+  item-section-name i e g = rw e g
+
+  pub item-configuration : (i : ℕ) → it ≡ item.Configuration i → x ≡ heldConfiguration f (h .sections) (h .system) i → x ≡ heldFound f h it
+  unfolding heldFound
+  item-configuration i e g = rw e g
+
+  module _ (i : ℕ) (t : TagFound) where
+    pub item-system-name : it ≡ item.SystemName i → t ≡ tagFound f (h .system) i → x ≡ nameOf t → x ≡ heldFound f h it
+    unfolding heldFound
+    item-system-name e u g = rw e (g ∙ ap nameOf u)
+
+    pub item-system-value : it ≡ item.SystemValue i → t ≡ tagFound f (h .system) i → x ≡ valueOf t → x ≡ heldFound f h it
+    unfolding heldFound
+    item-system-value e u g = rw e (g ∙ ap valueOf u)
+
+    pub item-user-name : it ≡ item.UserName i → t ≡ tagFound f (h .user) i → x ≡ nameOf t → x ≡ heldFound f h it
+    unfolding heldFound
+    item-user-name e u g = rw e (g ∙ ap nameOf u)
+
+    pub item-user-value : it ≡ item.UserValue i → t ≡ tagFound f (h .user) i → x ≡ valueOf t → x ≡ heldFound f h it
+    unfolding heldFound
+    item-user-value e u g = rw e (g ∙ ap valueOf u)
+
+pub ruleset laws = (needs, text-place, name-past, configuration-past, next-none, next-broken, next-some, name-nowhere, configuration-nowhere, no-name, name-found, no-offset, offsets-fall, offsets-far, configuration-found, place-past, place-high, place-far, place-there, section-past, section-fits, section-behind, section-size, section-nowhere, section-far, no-size, no-section, section-found, name-some, value-some, item-section, item-section-name, item-configuration, item-system-name, item-system-value, item-user-name, item-user-value)

@@ -10,6 +10,7 @@ use lib.Seq.{length-take-le, take-at, take-suc}
 use borrow.Author.Tests.{eq-eqb}
 use Rattle.number.specs.Number.{bytesOf, readAt}
 use Rattle.number.proofs.Bytes.{and-true, length-bytesOf, numberOf-bytesOf}
+use Rattle.number.proofs.Laws.{read-is}
 use Rattle.layout.specs.Recording.{Section, Frame, definitionListBytes, configurationsBytes, frameBytes, entryBytes, entriesBytes, every}
 use Rattle.layout.specs.Reading.{good, Reader, times, Definition}
 use Rattle.layout.specs.Items.{noSection, noFrame}
@@ -18,7 +19,6 @@ use Rattle.layout.proofs.Exact.{Exact, times-exact, definitionBytes}
 use Rattle.layout.proofs.Fronts.{definedAt, defined-bytes, length-defined, length-definitions, length-configurations}
 use Rattle.layout.proofs.Sizes.{length-entry}
 use Rattle.layout.proofs.Places.{Stands, stands-front, stands-back, stands-at, stands-one, every-one}
-use Rattle.opening.proofs.Readers.{read-is}
 
 -- ── Encodings in a row ──
 

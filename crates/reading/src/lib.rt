@@ -9,14 +9,8 @@ use text::Row;
 use text::TagFound;
 use text::Text;
 ghost use mathlib.Core.Path.{_≡_};
-ghost use Prim.Native.Nat.{_+_, _*_, _<_, _≤_};
-ghost use lib.ListN.{length};
-ghost use Rattle.number.specs.Number.{readAt};
-ghost use Rattle.layout.specs.Recording.{framesEnd};
-ghost use Rattle.layout.specs.Opening.{refusal, shown};
-ghost use Rattle.layout.specs.Items.{frameSection, sectionName, configuration, systemStart, itemRefusal, itemPart};
-ghost use Rattle.opening.specs.Opened.{heldOf};
-ghost use Rattle.reading.specs.Read.{itemOf, foundIn, findOf, lies, partOf, numberOf, nextAt, nameOf, valueOf, heldFrame, frameReadOf};
+ghost use Rattle.layout.specs.Items.{itemRefusal, itemPart};
+ghost use Rattle.reading.specs.Read.{itemOf, findOf, lies, partOf, numberOf, heldName, nextAt, heldConfiguration, nameOf, valueOf, framePlace, heldSection, heldFound, heldFrame, frameReadOf};
 
 // Frames, sections and tags by their numbers, from 0.
 pub enum Item {
@@ -36,13 +30,12 @@ pub enum Found {
 }
 
 // "a frame, section or tag number not below its count". In a file that opened nothing else gives it: what the other tests below would find missing is
-// there, by their proofs.
+// there, by their proofs. Numbers that no opening gave may lead nowhere, which gives it too.
 const NO_SUCH_ITEM: u8 = 8;
 
 // The name of a section stands behind the definitions ahead of its own.
 fn section_name(file: &[u8], sections: usize, i: u64) -> Found
-    requires { ⌜ (refusal (now file) ≡ 0) × (sections ≡ length (shown (now file) .sections)) ⌝ }
-    ensures { λ r. ⌜ r ≡ foundIn (shown (now (file .entry))) (sectionName i) ⌝ }
+    ensures { λ r. ⌜ r ≡ heldName (now (file .entry)) sections i ⌝ }
 {
     if sections as u64 <= i {
         return Found::Refused(NO_SUCH_ITEM);
@@ -76,8 +69,7 @@ fn next_offset(file: &[u8], at: usize, left: usize, system: usize) -> usize
 }
 
 fn configuration(file: &[u8], sections: usize, system: usize, i: u64) -> Found
-    requires { ⌜ (refusal (now file) ≡ 0) × (sections ≡ length (shown (now file) .sections)) × (system ≡ systemStart (shown (now file))) ⌝ }
-    ensures { λ r. ⌜ r ≡ foundIn (shown (now (file .entry))) (configuration i) ⌝ }
+    ensures { λ r. ⌜ r ≡ heldConfiguration (now (file .entry)) sections system i ⌝ }
 {
     if sections as u64 <= i {
         return Found::Refused(NO_SUCH_ITEM);
@@ -93,6 +85,9 @@ fn configuration(file: &[u8], sections: usize, system: usize, i: u64) -> Found
     };
     let end = next_offset(file, next, sections - number - 1, system);
     if end < offset {
+        return Found::Refused(NO_SUCH_ITEM);
+    }
+    if file.len() < end {
         return Found::Refused(NO_SUCH_ITEM);
     }
     Found::At {
@@ -137,25 +132,36 @@ fn value_of(tag: TagFound) -> Found
 }
 
 // Where a frame starts: its index entry says so behind the time.
-fn frame_place(file: &[u8], index: usize, i: usize) -> usize
-    requires { ⌜ (index ≤ length (now file)) × (i < 1000000) ⌝ }
-    ensures { λ r. ⌜ r ≡ readAt (now (file .entry)) (index + 4 + 16 * i + 4) 8 ⌝ }
+fn frame_place(file: &[u8], frames: usize, index: usize, i: u64) -> Place
+    ensures { λ r. ⌜ r ≡ framePlace (now (file .entry)) frames index i ⌝ }
 {
-    number::read(file, index + 4 + Header::INDEX_ENTRY * i + 4, 8) as usize
+    if frames as u64 <= i {
+        return Place::Broken;
+    }
+    if Header::MOST_FRAMES as u64 <= i {
+        return Place::Broken;
+    }
+    if file.len() < index {
+        return Place::Broken;
+    }
+    let entry = index + 4 + Header::INDEX_ENTRY * i as usize;
+    Place::End(number::read(file, entry + 4, 8) as usize)
 }
 
 // The bytes of a section of a frame stand behind the frame's head, the sections ahead and its own size.
 fn section(file: &[u8], frames: usize, index: usize, sections: usize, i: u64, j: u64) -> Found
-    requires { ⌜ (refusal (now file) ≡ 0) × (frames ≡ length (shown (now file) .frames)) × (index ≡ framesEnd (shown (now file))) × (sections ≡ length (shown (now file) .sections)) ⌝ }
-    ensures { λ r. ⌜ r ≡ foundIn (shown (now (file .entry))) (frameSection i j) ⌝ }
+    ensures { λ r. ⌜ r ≡ heldSection (now (file .entry)) frames index sections i j ⌝ }
 {
-    if frames as u64 <= i {
-        return Found::Refused(NO_SUCH_ITEM);
-    }
     if sections as u64 <= j {
         return Found::Refused(NO_SUCH_ITEM);
     }
-    let place = frame_place(file, index, i as usize);
+    let frame = frame_place(file, frames, index, i);
+    let Place::End(place) = frame else {
+        return Found::Refused(NO_SUCH_ITEM);
+    };
+    if file.len() < place {
+        return Found::Refused(NO_SUCH_ITEM);
+    }
     let ahead = opening::sized_sections(file, place + Header::FRAME_HEAD, j as usize);
     let Place::End(start) = ahead else {
         return Found::Refused(NO_SUCH_ITEM);
@@ -170,10 +176,9 @@ fn section(file: &[u8], frames: usize, index: usize, sections: usize, i: u64, j:
     }
 }
 
-// An item of a file that opened with these numbers.
-fn held_item(file: &[u8], held: Held, item: Item) -> Found
-    requires { ⌜ (refusal (now file) ≡ 0) × (held ≡ heldOf (now file)) ⌝ }
-    ensures { λ r. ⌜ r ≡ foundIn (shown (now (file .entry))) (itemOf item) ⌝ }
+// An item of a file that opened with these numbers. Any other numbers are taken too; what they lead to lies in the file.
+pub fn find_of(file: &[u8], held: Held, item: Item) -> Found
+    ensures { λ r. ⌜ r ≡ heldFound (now (file .entry)) held item ⌝ }
 {
     match item {
         Item::Section(i, j) => section(file, held.frames, held.index, held.sections, i, j),
@@ -194,7 +199,7 @@ pub fn find(file: &[u8], item: Item) -> Found
     let Opening::Opened(held) = opening else {
         return Found::Refused(opening::open_refusal(opening));
     };
-    held_item(file, held, item)
+    find_of(file, held, item)
 }
 
 // The part of the lent file that holds the item's bytes; refused, "the empty part at the file's start".
@@ -240,16 +245,10 @@ pub enum FrameRead {
 pub fn frame_of(file: &[u8], held: Held, i: u64) -> FrameRead
     ensures { λ r. ⌜ r ≡ heldFrame (now (file .entry)) held i ⌝ }
 {
-    if held.frames as u64 <= i {
+    let frame = frame_place(file, held.frames, held.index, i);
+    let Place::End(place) = frame else {
         return FrameRead::Refused(NO_SUCH_ITEM);
-    }
-    if Header::MOST_FRAMES as u64 <= i {
-        return FrameRead::Refused(NO_SUCH_ITEM);
-    }
-    if file.len() < held.index {
-        return FrameRead::Refused(NO_SUCH_ITEM);
-    }
-    let place = frame_place(file, held.index, i as usize);
+    };
     let found = opening::frame_at(file, place, held.sections);
     let FrameAt::Whole {
         next,

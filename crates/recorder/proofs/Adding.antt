@@ -35,6 +35,7 @@ use Rattle.recorder.proofs.Answers.{refused-made, accepted-made}
 use Rattle.recorder.proofs.Exactly.{ends-broken, ends-exact, ends-other}
 use Rattle.recorder.proofs.Output.{write-behind, copy-behind}
 use Rattle.layout.proofs.Outputs.{filled-is, write-is}
+use Rattle.layout.proofs.Places.{length-head}
 use Rattle.recorder.proofs.Limits.{or-left, sound, long-end}
 
 -- ── 14 ──
@@ -204,13 +205,9 @@ more-index-fits r h = let s = sound r h in record { fits = omega arith }
 
 -- ── The frame and its entry ──
 
-head-length : (t e : ℕ) → length (frameHeadBytes t e) ≡ 16
-unfolding frameHeadBytes
-head-length t e = simp (length-append, length-bytesOf)
-
 frame-length : (t e : ℕ) (s : List ℕ) → length (framePiece t e s) ≡ 16 + length s
 unfolding framePiece
-frame-length t e s = length-append (frameHeadBytes t e) s ∙ ap (λ (n : ℕ). n + length s) (head-length t e)
+frame-length t e s = length-append (frameHeadBytes t e) s ∙ ap (λ (n : ℕ). n + length s) (length-head t e)
 
 pub frame-written : (out s a b c d : List ℕ) (t e : ℕ) → 16 + length s ≤ length out → a ≡ writeAt out 0 4 3993051903 → b ≡ writeAt a 4 8 t → c ≡ writeAt b 12 4 e → d ≡ copied s 0 c 16 (length s) → d ≡ sets out 0 (framePiece t e s)
 unfolding framePiece frameHeadBytes

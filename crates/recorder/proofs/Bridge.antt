@@ -1,7 +1,7 @@
 -- The code's recorder and the layout's state are the same numbers: a chain of the code's calls is the chain of the definitions' calls.
 -- Assumes nothing.
 use Prim.Native.Nat.{ℕ, zero, suc}
-use mathlib.Core.Path.{_≡_, refl, ap, sym, _∙_}
+use mathlib.Core.Path.{_≡_, refl, _∙_}
 use mathlib.Core.Bool.{Bool, true, false, cond}
 use mathlib.Core.List.{List}
 use lib.ListN.{length, take, drop}
@@ -9,7 +9,7 @@ use lib.Seq.{take-append-seam}
 use lib.IntN.{ℤ}
 use lib.Dec.{eqb}
 use mir.Syntax.{w64}
-use mir.Val.{Fits, SFits, ofZ, toZ}
+use mir.Val.{Fits, SFits, ofZ}
 use mir.Facts.{toZ-ofZ, ofZ-toZ, fits-ofZ, fits-lit, sfits-lit, sfits-toZ}
 use Rattle.layout.specs.Opening.{firstOf}
 use Rattle.layout.specs.Recorder as layout

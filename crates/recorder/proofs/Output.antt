@@ -1,16 +1,14 @@
 -- Bytes stored in a lent output, one part behind the other.
 -- Assumes nothing.
-use Prim.Native.Nat.{ℕ, suc, _+_, _≤_}
+use Prim.Native.Nat.{ℕ, _+_, _≤_}
 use native.Mathlib.Omega.{arith}
 use mathlib.Core.Path.{_≡_, refl, ap, sym, _∙_}
 use mathlib.Core.Bool.{Bool, true, false, cond}
 use lib.Dec.{leb}
 use mathlib.Core.List.{List, [], _∷_, _++_}
-use lib.ListN.{length, take, drop, set}
-use lib.Seq.{sets, sets-eq, length-sets}
-use borrow.Author.Tests.{le-leb}
+use lib.ListN.{length, take, drop}
+use lib.Seq.{sets, length-sets}
 use Rattle.number.specs.Number.{bytesOf, writeAt}
-use Rattle.layout.specs.Recorder.{filled}
 use Rattle.text.specs.Text.{copied}
 use Rattle.text.proofs.Laws.{copied-there}
 use Rattle.layout.proofs.Outputs.{sets-append, write-is}

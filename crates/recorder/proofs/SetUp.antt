@@ -11,11 +11,12 @@ use lib.Dec.{leb}
 use borrow.Author.Tests.{le-leb, lt-leb, leb-true, not-false}
 use Rattle.number.specs.Number.{numberOf, readAt}
 use Rattle.number.proofs.Bytes.{both-true}
+use Rattle.number.proofs.Laws.{read-is}
 use Rattle.layout.specs.Recording.{Section, Tag, within, every, distinct, legalSectionName, sectionNames}
 use Rattle.layout.specs.Reading.{Parsed, bad, good, onward, only, times, exactly, number, block, string, table, _then_, give, isBad, valueOr, taken}
 use Rattle.layout.specs.Recorder.{setUpSection, setUpList, sectionsOf, badSetUp}
 use Rattle.layout.proofs.Lists.{or-false}
-use Rattle.layout.proofs.Readers.{number-good, block-good, exactly-good}
+use Rattle.layout.proofs.Readers.{number-good, block-good, exactly-good, then-takes, times-suc-takes}
 use Rattle.layout.proofs.Fronts.{read-good}
 use Rattle.layout.proofs.Lists.{or-right}
 use Rattle.text.specs.Text.{textOf}
@@ -32,9 +33,9 @@ use Rattle.text.specs.declared.RowPlace.{RowPlace}
 use Rattle.text.specs.declared.RowPlace.the-variants.{Whole, Broken}
 use Rattle.text.proofs.Laws.{string-parts, part-length}
 use Rattle.text.proofs.Rows.{row-parts, row-broken, then-bad, then-good, end-later, number-cut}
-use Rattle.text.proofs.Times.{times-parts, times-both, times-length, times-led}
-use Rattle.text.proofs.Readers.{then-parts, give-parts, then-give, then-both, set-up-row, distinct-set-up}
-use Rattle.opening.proofs.Readers.{number-read, number-then, read-is}
+use Rattle.text.proofs.Times.{times-parts, times-length, times-led}
+use Rattle.text.proofs.Readers.{then-parts, give-parts, then-give, set-up-row, distinct-set-up}
+use Rattle.opening.proofs.Readers.{number-read, number-then}
 use Rattle.recorder.specs.Recorded.{rows}
 use Rattle.recorder.proofs.Exactly.{ends-broken, ends-exact, ends-other}
 use Rattle.recorder.proofs.Limits.{or-left}
@@ -71,7 +72,7 @@ row-read-parts s at n end m l q w =
         let d₂ : drop b (drop a (drop at s)) ≡ drop (at + 3 + n) s = ap (drop b) d₁ ∙ drop-drop b (at + 1 + n) s ∙ ap (λ (i : ℕ). drop i s) p₂ in
         let l₁ : 2 ≤ length s - (at + 1 + n) = rw (← length-drop (at + 1 + n) s, ← d₁) u₁ in
         let l₂ : c ≤ length s - (at + 3 + n) = rw (← length-drop (at + 3 + n) s, ← d₂) w₁ in
-        let t : setUpSection (drop at s) ≡ good (record { name = v; configuration = x }) (a + k) = then-both string (λ n. (number 2 then block) then λ c. give (record { name = n; configuration = c })) (drop at s) v (record { name = v; configuration = x }) a k f (then-give (number 2 then block) (λ c. record { name = v; configuration = c }) (drop a (drop at s)) x k gx) in
+        let t : setUpSection (drop at s) ≡ good (record { name = v; configuration = x }) (a + k) = then-takes string (λ n. (number 2 then block) then λ c. give (record { name = n; configuration = c })) (drop at s) v (record { name = v; configuration = x }) a k f (then-give (number 2 then block) (λ c. record { name = v; configuration = c }) (drop a (drop at s)) x k gx) in
         let z : x ≡ take c (drop (at + 3 + n) s) = sym w₂ ∙ ap (take c) d₂ in
         let i : a + k ≡ 3 + n + c = omega (arith, o .1) in
         record { size = c; ends = omega (arith, o .1); inside = omega (arith, o .1); byte = o .0; named = f ∙ rw (y, o .1); read = rw (y, ← z, ← i) t }
@@ -129,7 +130,7 @@ led-back : (k : ℕ) (t : List ℕ) (vs : List (List ℕ)) (m : ℕ) → times k
 unfolding times
 led-back zero t vs m e = ([], cc)
 led-back (suc k) t vs m e =
-    times-parts (rowName SetUp) k t vs m e (λ v n ys j f g h i. let (x, p) = row-back t v n f in let (xs, q) = led-back k (drop n t) ys j g in (x ∷ xs, times-both setUpSection k t x xs n j p q ∙ rw (← i)))
+    times-parts (rowName SetUp) k t vs m e (λ v n ys j f g h i. let (x, p) = row-back t v n f in let (xs, q) = led-back k (drop n t) ys j g in (x ∷ xs, times-suc-takes setUpSection k t x xs n j p q ∙ rw (← i)))
 
 -- the length bytes lead over exactly the sections
 rows-end : (k : ℕ) (t : List ℕ) (at : ℕ) → endOf at (times k (rowName SetUp) t) ≡ endOf at (times k setUpSection t)

@@ -23,7 +23,7 @@ use Rattle.layout.proofs.Lines.{line-pass, line-holds}
 use Rattle.layout.proofs.Outputs.{sets-append, filled-is}
 use Rattle.layout.proofs.Walks.{Walked, walk-gives, took, walk-exactly}
 use Rattle.opening.proofs.Index.{walk-first, by-first, length-index}
-use Rattle.repair.specs.Repaired.{made, answerOf, madeOf, walkedAll, walkedIn, entriesIn, indexIn, tailed, tailOf, walkLines, keeping, walkRepaired, framesRepaired}
+use Rattle.repair.specs.Repaired.{made, answerOf, madeOf, walkedAll, walkedIn, framesIn, entriesIn, indexIn, tailed, tailOf, walkLines, keeping, walkRepaired, framesRepaired}
 use Rattle.repair.specs.declared.Repaired.the-variants.{Kept, Refused}
 use Rattle.repair.specs.declared.Walked as declared
 use Rattle.repair.specs.declared.Walked.the-variants.{InOrder, OutOfOrder}
@@ -115,6 +115,16 @@ walk-again most k s h =
     let g = walk-gives most k s h in
     ap (λ (w : Walk). w .frames) (ap (walk (length (walk most k s .frames)) k) (g .front) ∙ walk-exactly (walk most k s .frames) k (drop (walk most k s .bytes) s) (g .legal))
 
+again-many : (f : List ℕ) (most k start count end : ℕ) → areBytes f ≡ true → walkedAll (walk most k (drop start f)) start ≡ InOrder count end → framesIn f k count start ≡ count
+unfolding framesIn
+again-many f most k start count end h e =
+    let c : length (walk most k (drop start f) .frames) ≡ count = walked-well (walk most k (drop start f)) start count end e .1 in
+    ap (λ (n : ℕ). length (walk n k (drop start f) .frames)) (sym c) ∙ ap length (walk-again most k (drop start f) (bytes-drop start f h)) ∙ c
+
+pub frames-again : (f : List ℕ) (k start count end : ℕ) (r : declared.Walked) → ((i : ℕ) → Fits w8 (getD f i 0)) → r ≡ walkedIn f k start → r ≡ InOrder count end → framesIn f k count start ≡ count
+unfolding walkedIn
+frames-again f k start count end r s p q = again-many f 1000000 k start count end (slice-bytes f s) (sym p ∙ q)
+
 -- the index that the code writes is that of the walked frames
 index-is : (f : List ℕ) (most k start count : ℕ) → areBytes f ≡ true → length (walk most k (drop start f) .frames) ≡ count → indexIn f k start count ≡ indexBytes start (walk most k (drop start f) .frames)
 unfolding indexIn entriesIn indexBytes
@@ -161,4 +171,4 @@ index-fits f k start count end r s p q = let c = count-few f k start count end r
 pub user-fits : (f : List ℕ) (k start count end : ℕ) (r : declared.Walked) → ((i : ℕ) → Fits w8 (getD f i 0)) → r ≡ walkedIn f k start → r ≡ InOrder count end → end ≤ 1099511115772 → Fits w64 (end + (4 + 16 * count))
 user-fits f k start count end r s p q h = let c = count-few f k start count end r s p q in record { fits = omega arith }
 
-pub ruleset frames = (frames-clock, frames-far, frames-long, frames-room, frames-kept, entries-fit, index-fits, user-fits)
+pub ruleset frames = (frames-clock, frames-far, frames-long, frames-room, frames-again, frames-kept, entries-fit, index-fits, user-fits)

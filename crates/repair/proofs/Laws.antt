@@ -2,9 +2,9 @@
 -- Assumes nothing.
 use borrow.Author.Needs.{needs}
 use Rattle.repair.proofs.Walks.{walk-start, walk-most, walk-end, walk-breaks, walk-goes}
-use Rattle.opening.proofs.Frames.{found-behind}
+use Rattle.opening.proofs.Frames.{time-fits}
 use Rattle.repair.proofs.Frames.{frames}
 use Rattle.repair.proofs.Order.{order}
-use Rattle.repair.proofs.Tails.{entry-written, entries-done, entries-stop, entries-step, stored-length, room-left, index-written, table-written, tail-written, table-room}
+use Rattle.repair.proofs.Tails.{entry-filled, entry-written, entry-part, part-read, sizes-done, size-there, size-end-fits, size-fits, sizes-step, sections-known, head-there, head-fits, known-time-fits, known-behind, known-left, entries-done, entries-step, stored-length, room-left, index-written, table-written, tail-written, table-room}
 
-pub ruleset laws = (needs, walk-start, walk-most, walk-end, walk-breaks, walk-goes, found-behind, entry-written, entries-done, entries-stop, entries-step, stored-length, room-left, index-written, table-written, tail-written, table-room, frames, order)
+pub ruleset laws = (needs, walk-start, walk-most, walk-end, walk-breaks, walk-goes, time-fits, entry-filled, entry-written, entry-part, part-read, sizes-done, size-there, size-end-fits, size-fits, sizes-step, sections-known, head-there, head-fits, known-time-fits, known-behind, known-left, entries-done, entries-step, stored-length, room-left, index-written, table-written, tail-written, table-room, frames, order)

@@ -13,7 +13,7 @@ use mir.Val.{Fits}
 use Rattle.number.proofs.Bytes.{slice-bytes}
 use Rattle.layout.specs.Opening.{definedIn, walkStart, walkOf, firstOf, frontLines, refusal}
 use Rattle.layout.specs.Repair.{walked, keptLength, keptCount, tail, repairLines, repairRefusal, repair}
-use Rattle.layout.proofs.Lines.{line-pass, line-holds, FrontPasses, front-pass}
+use Rattle.layout.proofs.Lines.{line-pass, line-holds, FrontPasses, front-pass, lines-first}
 use Rattle.opening.specs.Opened.{frontHeld, frontOf, frontRefusal, openOf}
 use Rattle.opening.specs.declared.FrontHeld.{FrontHeld}
 use Rattle.opening.specs.declared.Front.{Front}
@@ -21,7 +21,7 @@ use Rattle.opening.specs.declared.Front.the-variants as frontAs
 use Rattle.opening.specs.declared.Held.{Held}
 use Rattle.opening.specs.declared.Opening.{Opening}
 use Rattle.opening.specs.declared.Opening.the-variants as openingAs
-use Rattle.opening.proofs.Lines.{front-passes, front-refuses, first-append, start-within, open-opens, open-refuses}
+use Rattle.opening.proofs.Lines.{front-passes, front-refuses, start-within, open-opens, open-refuses}
 use Rattle.repair.proofs.Frames.{refused-made}
 use Rattle.repair.specs.Repaired.{made, repairOf, tailOf, walkLines, keeping, walkRepaired, framesRepaired}
 use Rattle.repair.specs.declared.Repaired.{Repaired}
@@ -49,7 +49,7 @@ unfolding repairRefusal repairLines
 repair-front f out r n m p q s = go (front-refuses f n (sym p ∙ q)) (s ∙ ap frontRefusal q)
   where
     go : ((j : ℕ) × (n ≡ suc j) × (firstOf (frontLines f) ≡ suc j)) → m ≡ n → made (Refused m) out ≡ repairOf f out
-    go (j, k, e) l = rw (l, k) (refused-repair f out j (first-append (frontLines f) _ j e))
+    go (j, k, e) l = rw (l, k) (refused-repair f out j (lines-first (frontLines f) _ j e))
 
 module _ (f out : List ℕ) (r : Front) (held : FrontHeld) (p : r ≡ frontOf f) (q : r ≡ frontAs.Whole held) where
   passes : FrontPasses f

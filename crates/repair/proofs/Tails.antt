@@ -1,41 +1,135 @@
--- The tail as it is written: an entry, the entries one by one, the index, and the empty table.
+-- The tail as it is written: an entry, the frames that are known to stand, the entries one by one, the index, and the empty table.
 -- Assumes nothing.
-use Prim.Native.Nat.{ℕ, _+_, _*_, _-_, _<_, _≤_}
+use Prim.Native.Nat.{ℕ, suc, _+_, _*_, _-_, _^_, _<_, _≤_}
 use native.Mathlib.Omega.{arith}
 use mathlib.Core.Path.{_≡_, refl, ap, sym, _∙_}
-use mathlib.Core.List.{List, [], _++_, flatMap}
-use lib.ListN.{length, drop, getD, length-append}
-use lib.Seq.{sets, length-sets}
-use mir.Syntax.{w8}
+use mathlib.Core.List.{List, [], _++_, append-assoc, append-nil, flatMap}
+use lib.ListN.{length, take, drop, getD, length-append, length-drop, drop-of-length-le}
+use lib.Seq.{sets, length-sets, sets-eq, drop-drop, take-all, length-take-le}
+use mir.Syntax.{w8, w64}
 use mir.Val.{Fits}
-use Rattle.number.specs.Number.{bytesOf, readAt, writeAt, rank}
+use Rattle.number.specs.Number.{bytesOf, numberOf, readAt, writeAt}
 use Rattle.number.proofs.Bytes.{length-bytesOf, slice-bytes}
+use Rattle.number.proofs.Laws.{read-is}
 use Rattle.layout.specs.Recording.{Frame, frameBytes, entryBytes, entriesBytes, tableBytes}
-use Rattle.layout.specs.Reading.{good, frame, Walk, stopped, longer, walk}
+use Rattle.layout.specs.Reading.{Parsed, bad, good, frame, Walk, stopped, longer, walk}
+use Rattle.layout.specs.Recorder.{filled}
 use Rattle.layout.proofs.Lists.{bytes-drop}
-use Rattle.layout.proofs.Outputs.{sets-append, write-is}
+use Rattle.layout.proofs.Outputs.{sets-append, filled-is, write-is}
 use Rattle.layout.proofs.Walks.{walk-none, walk-stop}
 use Rattle.layout.proofs.Exact.{frame-exact}
 use Rattle.layout.proofs.Sizes.{length-entry}
-use Rattle.opening.specs.Opened.{frameAt, sinceFirst}
-use Rattle.opening.specs.declared.FrameAt.{FrameAt}
-use Rattle.opening.specs.declared.FrameAt.the-variants.{Whole, None}
-use Rattle.opening.proofs.Frames.{found, not-found}
+use Rattle.text.specs.Rows.{endOf}
+use Rattle.text.specs.declared.Place.the-variants.{End}
+use Rattle.opening.specs.Opened.{sectionsAt, frameEnd, sinceFirst}
+use Rattle.opening.proofs.Frames.{sections-done, sections-first, ended, sections-ended, end-behind, end-within}
 use Rattle.opening.proofs.Index.{walk-cons}
-use Rattle.repair.specs.Repaired.{entriesIn, indexIn, tailed}
+use Rattle.repair.specs.Repaired.{endIn, framesIn, entriesIn, indexIn, tailed}
 
 -- ── An entry ──
 
-pub entry-written : (out a b c : List ℕ) (at first time offset size since : ℕ) → at + 16 ≤ length out → since ≡ sinceFirst first time → a ≡ writeAt out at 4 since → b ≡ writeAt a (at + 4) 8 offset → c ≡ writeAt b (at + 12) 4 size → c ≡ sets out at (entryBytes first time offset size)
-unfolding entryBytes sinceFirst
-entry-written out a b c at first time offset size since h s p q r =
-    let p′ : a ≡ sets out at (bytesOf 4 since) = p ∙ write-is out at 4 since (omega arith) in
-    let l : length a ≡ length out = ap length p′ ∙ length-sets out at (bytesOf 4 since) in
-    let q′ : b ≡ sets a (at + 4) (bytesOf 8 offset) = q ∙ write-is a (at + 4) 8 offset (omega arith) in
-    let m : length b ≡ length a = ap length q′ ∙ length-sets a (at + 4) (bytesOf 8 offset) in
-    let r′ : c ≡ sets b (at + 12) (bytesOf 4 size) = r ∙ write-is b (at + 12) 4 size (omega arith) in
-    let n : at + length (bytesOf 4 (rank time - rank first) ++ bytesOf 8 offset) ≡ at + 12 = ap (λ (k : ℕ). at + k) (length-append (bytesOf 4 (rank time - rank first)) (bytesOf 8 offset) ∙ rw (length-bytesOf 4 (rank time - rank first), length-bytesOf 8 offset)) in
-    rw (sets-append out at (bytesOf 4 (rank time - rank first) ++ bytesOf 8 offset) (bytesOf 4 size), sets-append out at (bytesOf 4 (rank time - rank first)) (bytesOf 8 offset), n, length-bytesOf 4 (rank time - rank first), ← s, ← p′, ← q′) r′
+-- sixteen bytes become an entry's
+pub entry-filled : (s a b c : List ℕ) (first time offset size since : ℕ) → length s ≡ 16 → since ≡ sinceFirst first time → a ≡ writeAt s 0 4 since → b ≡ writeAt a 4 8 offset → c ≡ writeAt b 12 4 size → c ≡ entryBytes first time offset size
+unfolding entryBytes sinceFirst filled
+entry-filled s a b c first time offset size since h e p q r =
+    let p′ : a ≡ sets s 0 (bytesOf 4 since) = p ∙ write-is s 0 4 since (omega arith) in
+    let l : length a ≡ length s = ap length p′ ∙ length-sets s 0 (bytesOf 4 since) in
+    let q′ : b ≡ sets a 4 (bytesOf 8 offset) = q ∙ write-is a 4 8 offset (omega arith) in
+    let m : length b ≡ length a = ap length q′ ∙ length-sets a 4 (bytesOf 8 offset) in
+    let r′ : c ≡ sets b 12 (bytesOf 4 size) = r ∙ write-is b 12 4 size (omega arith) in
+    let n : length (bytesOf 4 since ++ bytesOf 8 offset) ≡ 12 = length-append (bytesOf 4 since) (bytesOf 8 offset) ∙ rw (length-bytesOf 4 since, length-bytesOf 8 offset) in
+    let w : sets s 0 (bytesOf 4 since ++ bytesOf 8 offset ++ bytesOf 4 size) ≡ c = rw (sets-append s 0 (bytesOf 4 since ++ bytesOf 8 offset) (bytesOf 4 size), sets-append s 0 (bytesOf 4 since) (bytesOf 8 offset), n, length-bytesOf 4 since, ← p′, ← q′) (sym r′) in
+    rw (← e) (sym w ∙ sets-all (bytesOf 4 since ++ bytesOf 8 offset ++ bytesOf 4 size) s (length-append (bytesOf 4 since ++ bytesOf 8 offset) (bytesOf 4 size) ∙ rw (n, length-bytesOf 4 size, h)))
+  where
+    sets-all : (vs l : List ℕ) → length vs ≡ length l → sets l 0 vs ≡ vs
+    sets-all vs l g = filled-is l vs (omega arith) ∙ ap (λ (t : List ℕ). vs ++ t) (drop-of-length-le l {i = length vs} (omega arith)) ∙ append-nil vs
+
+-- the entry's part of the output, lent and given back
+pub entry-written : (out s : List ℕ) (at first time offset size : ℕ) → at + 16 ≤ length out → s ≡ entryBytes first time offset size → take at out ++ (s ++ drop (at + 16 - at) (drop at out)) ≡ sets out at (entryBytes first time offset size)
+entry-written out s at first time offset size h e =
+    let l : length (entryBytes first time offset size) ≡ 16 = length-entry first time offset size in
+    let d : at + 16 - at ≡ 16 = omega arith in
+    let m : at + length (entryBytes first time offset size) ≡ at + 16 = ap (λ (k : ℕ). at + k) l in
+    rw (e, d, drop-drop 16 at out) (sym (append-assoc (take at out) (entryBytes first time offset size) (drop (at + 16) out)) ∙ sym (rw m at (sets-eq (entryBytes first time offset size) out at (omega arith))))
+
+pub entry-part : (out : List ℕ) (at : ℕ) → at + 16 ≤ length out → length (take (at + 16 - at) (drop at out)) ≡ 16
+entry-part out at h =
+    let d : at + 16 - at ≡ 16 = omega arith in
+    rw d (length-take-le 16 (drop at out) (omega (arith, length-drop at out)))
+
+-- ── A frame that is known to stand ──
+
+-- a number that is read from a part of just its bytes
+pub part-read : (f : List ℕ) (at w n : ℕ) → w ≤ 8 → at + w ≤ length f → n ≡ readAt (take (at + w - at) (drop at f)) 0 w → n ≡ readAt f at w
+part-read f at w n h l e =
+    let d : at + w - at ≡ w = omega arith in
+    let m : length (take w (drop at f)) ≡ w = length-take-le w (drop at f) (omega (arith, length-drop at f)) in
+    e ∙ rw d (read-is (take w (drop at f)) 0 w h (omega arith) ∙ ap numberOf (take-all w (take w (drop at f)) (omega arith)) ∙ sym (read-is f at w h l))
+
+pub sizes-done : (f : List ℕ) (place left end : ℕ) → left ≤ 0 → sectionsAt f place left ≡ End end → place ≡ end
+sizes-done f place left end h e = place-end place end (sections-done f place left (End end) h e)
+  where
+    place-end : (a b : ℕ) → End a ≡ End b → a ≡ b
+    place-end a b q = cc
+
+pub size-there : (f : List ℕ) (place left end : ℕ) → 0 < left → sectionsAt f place left ≡ End end → place + 4 ≤ length f
+size-there f place left end h e = omega (arith, sections-first f place left end h e .0)
+
+pub size-end-fits : (f : List ℕ) (place left end : ℕ) → 0 < left → sectionsAt f place left ≡ End end → length f < 2 ^ 64 → Fits w64 (place + 4)
+size-end-fits f place left end h e l = let s = size-there f place left end h e in record { fits = omega arith }
+
+pub size-fits : (f : List ℕ) (place left end n : ℕ) → 0 < left → sectionsAt f place left ≡ End end → n ≡ readAt f place 4 → length f < 2 ^ 64 → Fits w64 (place + 4 + n)
+size-fits f place left end n h e p l = let s = sections-first f place left end h e .0 in record { fits = omega arith }
+
+pub sizes-step : (f : List ℕ) (place left end n : ℕ) → 0 < left → sectionsAt f place left ≡ End end → n ≡ readAt f place 4 → sectionsAt f (place + 4 + n) (left - 1) ≡ End end
+sizes-step f place left end n h e p = rw p (sections-first f place left end h e .1)
+
+-- the frame that stands where some are left, and as many as are left behind it
+stands : (f : List ℕ) (k left place : ℕ) → 0 < left → framesIn f k left place ≡ left → (next : ℕ) × (frameEnd f place k ≡ End next) × (framesIn f k (left - 1) next ≡ left - 1)
+unfolding framesIn frameEnd endOf stopped longer
+stands f k left place h e = go (frame k (drop place f)) refl
+  where
+    go : (p : Parsed Frame) → frame k (drop place f) ≡ p → (next : ℕ) × (frameEnd f place k ≡ End next) × (framesIn f k (left - 1) next ≡ left - 1)
+    go bad g =
+        let z : 0 ≡ left = rw (walk-stop left k (drop place f) g) at e in
+        absurd (omega arith)
+    go (good x n) g =
+        let m : suc (length (walk (left - 1) k (drop (place + n) f) .frames)) ≡ left = rw (walk-cons f k left place x n h g) at e in
+        (place + n, rw g, omega arith)
+
+-- its sections say where it ends
+known : (f : List ℕ) (k left place next : ℕ) → 0 < left → framesIn f k left place ≡ left → next ≡ endIn (sectionsAt f (place + 16) k) → (frameEnd f place k ≡ End next) × (framesIn f k (left - 1) next ≡ left - 1)
+unfolding endIn
+known f k left place next h e p =
+    let (m, a, b) = stands f k left place h e in
+    let q : next ≡ m = p ∙ ap endIn (sections-ended f place k m a) in
+    (rw q a, rw q b)
+
+pub sections-known : (f : List ℕ) (k left place : ℕ) → 0 < left → framesIn f k left place ≡ left → sectionsAt f (place + 16) k ≡ End (endIn (sectionsAt f (place + 16) k))
+unfolding endIn
+sections-known f k left place h e =
+    let (m, a, b) = stands f k left place h e in
+    rw (sections-ended f place k m a)
+
+pub head-there : (f : List ℕ) (k left place : ℕ) → 0 < left → framesIn f k left place ≡ left → place + 4 + 8 ≤ length f
+head-there f k left place h e =
+    let (m, a, b) = stands f k left place h e in
+    omega (arith, end-within f place k m (End m) (sym a) refl)
+
+pub head-fits : (f : List ℕ) (k left place : ℕ) → 0 < left → framesIn f k left place ≡ left → length f < 2 ^ 64 → Fits w64 (place + 16)
+head-fits f k left place h e l =
+    let (m, a, b) = stands f k left place h e in
+    let w = end-within f place k m (End m) (sym a) refl in
+    record { fits = omega arith }
+
+pub known-time-fits : (f : List ℕ) (k left place : ℕ) → 0 < left → framesIn f k left place ≡ left → length f < 2 ^ 64 → Fits w64 (place + 4)
+known-time-fits f k left place h e l = let w = head-there f k left place h e in record { fits = omega arith }
+
+pub known-behind : (f : List ℕ) (k left place next : ℕ) → 0 < left → framesIn f k left place ≡ left → next ≡ endIn (sectionsAt f (place + 16) k) → place ≤ next
+known-behind f k left place next h e p = end-behind f place k next (End next) (sym (known f k left place next h e p .0)) refl
+
+pub known-left : (f : List ℕ) (k left place next : ℕ) → 0 < left → framesIn f k left place ≡ left → next ≡ endIn (sectionsAt f (place + 16) k) → framesIn f k (left - 1) next ≡ left - 1
+known-left f k left place next h e p = known f k left place next h e p .1
 
 -- ── The entries ──
 
@@ -48,26 +142,23 @@ entries-done f out all k first left place entry h e =
     let z : left ≡ 0 = omega arith in
     rw (stopped-entries f k first left place (rw z (walk-none k (drop place f)))) at e
 
-pub entries-stop : (f out all : List ℕ) (k first left place entry : ℕ) (r : FrameAt) → r ≡ frameAt f place k → r ≡ None → sets out entry (entriesIn f k first left place) ≡ all → out ≡ all
-entries-stop f out all k first left place entry r p q e = rw (stopped-entries f k first left place (walk-stop left k (drop place f) (not-found f place k (sym p ∙ q)))) at e
-
 longer-entries : (w : Walk) (x : Frame) (n first place : ℕ) → n ≡ length (frameBytes x) → entriesBytes first place (longer x n w .frames) ≡ entryBytes first (x .time) place n ++ entriesBytes first (place + n) (w .frames)
 unfolding longer entriesBytes
 longer-entries w x n first place e = rw e
 
-entries-cons : (f : List ℕ) (k first left place next t e : ℕ) → ((i : ℕ) → Fits w8 (getD f i 0)) → 0 < left → frameAt f place k ≡ Whole next t e → entriesIn f k first left place ≡ entryBytes first t place (next - place) ++ entriesIn f k first (left - 1) next
+entries-cons : (f : List ℕ) (k first left place next t : ℕ) → ((i : ℕ) → Fits w8 (getD f i 0)) → 0 < left → frameEnd f place k ≡ End next → t ≡ readAt f (place + 4) 8 → entriesIn f k first left place ≡ entryBytes first t place (next - place) ++ entriesIn f k first (left - 1) next
 unfolding entriesIn
-entries-cons f k first left place next t e b h q = go (found f place k next t e q)
+entries-cons f k first left place next t b h q v = go (ended f place k next q)
   where
-    go : ((x : Frame) × (n : ℕ) × (frame k (drop place f) ≡ good x n) × (place + n ≡ next) × (x .time ≡ t) × (x .exposure ≡ e)) → entriesIn f k first left place ≡ entryBytes first t place (next - place) ++ entriesIn f k first (left - 1) next
+    go : ((x : Frame) × (n : ℕ) × (frame k (drop place f) ≡ good x n) × (place + n ≡ next) × (x .time ≡ readAt f (place + 4) 8) × (x .exposure ≡ readAt f (place + 12) 4)) → entriesIn f k first left place ≡ entryBytes first t place (next - place) ++ entriesIn f k first (left - 1) next
     go (x, n, g, a, c, d) =
         let m : next - place ≡ n = omega arith in
         let z : n ≡ length (frameBytes x) = frame-exact k .gives (drop place f) x n (bytes-drop place f (slice-bytes f b)) g .1 in
-        rw (m, ← a, ← c, walk-cons f k left place x n h g) (longer-entries (walk (left - 1) k (drop (place + n) f)) x n first place z)
+        rw (m, ← a, v, ← c, walk-cons f k left place x n h g) (longer-entries (walk (left - 1) k (drop (place + n) f)) x n first place z)
 
-pub entries-step : (f out new all : List ℕ) (k first left place entry next t e : ℕ) (r : FrameAt) → ((i : ℕ) → Fits w8 (getD f i 0)) → 0 < left → r ≡ frameAt f place k → r ≡ Whole next t e → new ≡ sets out entry (entryBytes first t place (next - place)) → sets out entry (entriesIn f k first left place) ≡ all → sets new (entry + 16) (entriesIn f k first (left - 1) next) ≡ all
-entries-step f out new all k first left place entry next t e r b h p q w i =
-    let c = entries-cons f k first left place next t e b h (sym p ∙ q) in
+pub entries-step : (f out new all : List ℕ) (k first left place entry next t : ℕ) → ((i : ℕ) → Fits w8 (getD f i 0)) → 0 < left → framesIn f k left place ≡ left → next ≡ endIn (sectionsAt f (place + 16) k) → t ≡ readAt f (place + 4) 8 → new ≡ sets out entry (entryBytes first t place (next - place)) → sets out entry (entriesIn f k first left place) ≡ all → sets new (entry + 16) (entriesIn f k first (left - 1) next) ≡ all
+entries-step f out new all k first left place entry next t b h s p q w i =
+    let c = entries-cons f k first left place next t b h (known f k left place next h s p .0) q in
     let l = length-entry first t place (next - place) in
     rw w (sym (rw (c, sets-append out entry (entryBytes first t place (next - place)) (entriesIn f k first (left - 1) next), l)) ∙ i)
 

@@ -10,10 +10,10 @@ use Rattle.number.specs.Number.{readAt}
 use Rattle.layout.specs.Recording.{Frame, follows, follow}
 use Rattle.layout.specs.Reading.{good, frame, Walk, stopped, longer, walk}
 use Rattle.layout.proofs.Walks.{walk-none, walk-stop}
-use Rattle.opening.specs.Opened.{frameAt}
-use Rattle.opening.specs.declared.FrameAt.{FrameAt}
-use Rattle.opening.specs.declared.FrameAt.the-variants.{Whole, None}
-use Rattle.opening.proofs.Frames.{found, not-found}
+use Rattle.text.specs.declared.Place.{Place}
+use Rattle.text.specs.declared.Place.the-variants.{End, Broken}
+use Rattle.opening.specs.Opened.{frameEnd}
+use Rattle.opening.proofs.Frames.{ended, not-ended}
 use Rattle.opening.proofs.Index.{walk-cons, walk-first, by-first}
 use Rattle.repair.specs.Repaired.{walkedBehind, walkedFrom, walkedAll, walkedIn}
 use Rattle.repair.specs.declared.Walked.{Walked}
@@ -46,9 +46,9 @@ walk-most f k first left last count place all h e =
     let z : left ≡ 0 = omega arith in
     sym (rw (z, walk-none) (behind-stopped first last count place)) ∙ e
 
-pub walk-end : (f : List ℕ) (k first left last count place : ℕ) (r : FrameAt) (all : Walked) → r ≡ frameAt f place k → r ≡ None → walkedFrom f k first left last count place ≡ all → InOrder count place ≡ all
+pub walk-end : (f : List ℕ) (k first left last count place : ℕ) (r : Place) (all : Walked) → r ≡ frameEnd f place k → r ≡ Broken → walkedFrom f k first left last count place ≡ all → InOrder count place ≡ all
 unfolding walkedFrom
-walk-end f k first left last count place r all p q e = sym (rw (walk-stop left k (drop place f) (not-found f place k (sym p ∙ q))) (behind-stopped first last count place)) ∙ e
+walk-end f k first left last count place r all p q e = sym (rw (walk-stop left k (drop place f) (not-ended f place k (sym p ∙ q))) (behind-stopped first last count place)) ∙ e
 
 -- a frame more, and the walk behind it
 behind-longer : (w : Walk) (x : Frame) (n first last count place : ℕ) → walkedBehind (longer x n w) first last count place ≡ cond (follows first last (x .time)) (walkedBehind w first (x .time) (count + 1) (place + n)) OutOfOrder
@@ -62,19 +62,19 @@ behind-longer w x n first last count place =
     go true t i = refl
     go false t i = refl
 
-walk-longer : (f : List ℕ) (k first left last count place next t e : ℕ) → 0 < left → frameAt f place k ≡ Whole next t e → walkedFrom f k first left last count place ≡ cond (follows first last t) (walkedFrom f k first (left - 1) t (count + 1) next) OutOfOrder
+walk-longer : (f : List ℕ) (k first left last count place next t : ℕ) → 0 < left → frameEnd f place k ≡ End next → t ≡ readAt f (place + 4) 8 → walkedFrom f k first left last count place ≡ cond (follows first last t) (walkedFrom f k first (left - 1) t (count + 1) next) OutOfOrder
 unfolding walkedFrom
-walk-longer f k first left last count place next t e h q = go (found f place k next t e q)
+walk-longer f k first left last count place next t h q v = go (ended f place k next q)
   where
-    go : ((x : Frame) × (n : ℕ) × (frame k (drop place f) ≡ good x n) × (place + n ≡ next) × (x .time ≡ t) × (x .exposure ≡ e)) → walkedFrom f k first left last count place ≡ cond (follows first last t) (walkedFrom f k first (left - 1) t (count + 1) next) OutOfOrder
-    go (x, n, g, a, c, d) = rw (← a, ← c, walk-cons f k left place x n h g) (behind-longer (walk (left - 1) k (drop (place + n) f)) x n first last count place)
+    go : ((x : Frame) × (n : ℕ) × (frame k (drop place f) ≡ good x n) × (place + n ≡ next) × (x .time ≡ readAt f (place + 4) 8) × (x .exposure ≡ readAt f (place + 12) 4)) → walkedFrom f k first left last count place ≡ cond (follows first last t) (walkedFrom f k first (left - 1) t (count + 1) next) OutOfOrder
+    go (x, n, g, a, c, d) = rw (← a, v, ← c, walk-cons f k left place x n h g) (behind-longer (walk (left - 1) k (drop (place + n) f)) x n first last count place)
 
-pub walk-breaks : (f : List ℕ) (k first left last count place next t e : ℕ) (r : FrameAt) (s : Bool) (all : Walked) → 0 < left → r ≡ frameAt f place k → r ≡ Whole next t e → s ≡ follows first last t → s ≡ false → walkedFrom f k first left last count place ≡ all → OutOfOrder ≡ all
-walk-breaks f k first left last count place next t e r s all h p q u v i =
+pub walk-breaks : (f : List ℕ) (k first left last count place next t : ℕ) (r : Place) (s : Bool) (all : Walked) → 0 < left → r ≡ frameEnd f place k → r ≡ End next → t ≡ readAt f (place + 4) 8 → s ≡ follows first last t → s ≡ false → walkedFrom f k first left last count place ≡ all → OutOfOrder ≡ all
+walk-breaks f k first left last count place next t r s all h p q w u v i =
     let b : follows first last t ≡ false = sym u ∙ v in
-    sym (rw b at (walk-longer f k first left last count place next t e h (sym p ∙ q))) ∙ i
+    sym (rw b at (walk-longer f k first left last count place next t h (sym p ∙ q) w)) ∙ i
 
-pub walk-goes : (f : List ℕ) (k first left last count place next t e : ℕ) (r : FrameAt) (s : Bool) (all : Walked) → 0 < left → r ≡ frameAt f place k → r ≡ Whole next t e → s ≡ follows first last t → s ≡ true → walkedFrom f k first left last count place ≡ all → walkedFrom f k first (left - 1) t (count + 1) next ≡ all
-walk-goes f k first left last count place next t e r s all h p q u v i =
+pub walk-goes : (f : List ℕ) (k first left last count place next t : ℕ) (r : Place) (s : Bool) (all : Walked) → 0 < left → r ≡ frameEnd f place k → r ≡ End next → t ≡ readAt f (place + 4) 8 → s ≡ follows first last t → s ≡ true → walkedFrom f k first left last count place ≡ all → walkedFrom f k first (left - 1) t (count + 1) next ≡ all
+walk-goes f k first left last count place next t r s all h p q w u v i =
     let b : follows first last t ≡ true = sym u ∙ v in
-    sym (rw b at (walk-longer f k first left last count place next t e h (sym p ∙ q))) ∙ i
+    sym (rw b at (walk-longer f k first left last count place next t h (sym p ∙ q) w)) ∙ i

@@ -10,6 +10,8 @@ use Rattle.layout.specs.Reading.{Walk, walk}
 use Rattle.layout.specs.Opening.{Line, line, firstOf}
 use Rattle.layout.specs.Recorder.{tooLong, noRoom, filled}
 use Rattle.layout.specs.Repair.{Repair, repairAnswer, repair}
+use Rattle.text.specs.declared.Place.{Place}
+use Rattle.text.specs.declared.Place.the-variants.{End, Broken}
 use Rattle.repair.specs.declared.Repaired.{Repaired}
 use Rattle.repair.specs.declared.Repaired.the-variants.{Kept, Refused}
 use Rattle.repair.specs.declared.Walked.{Walked}
@@ -54,6 +56,15 @@ walkedAll w start = cond (inOrder (w .frames)) (InOrder (length (w .frames)) (st
 
 unfoldable pub walkedIn : List ℕ → (sections start : ℕ) → Walked
 walkedIn f sections start = walkedAll (walk mostFrames sections (drop start f)) start
+
+-- how many frames a walk of at most `count` takes from a place on
+unfoldable pub framesIn : List ℕ → (sections count place : ℕ) → ℕ
+framesIn f sections count place = length (walk count sections (drop place f) .frames)
+
+-- the end that was found; 0 for none
+unfoldable pub endIn : Place → ℕ
+endIn (End n) = n
+endIn Broken = 0
 
 -- ── The tail ──
 

@@ -1,17 +1,20 @@
 // Repair of a recording that was cut: its frames are walked, and the index and the empty user table that it lacks are written.
 // Nothing is written before all is accepted.
 use header::Header;
-use opening::FrameAt;
 use opening::Front;
 use opening::Opening;
+use text::Place;
 ghost use mathlib.Core.Path.{_≡_};
 ghost use mathlib.Core.List.{[]};
 ghost use Prim.Native.Nat.{_+_, _*_, _≤_};
 ghost use lib.ListN.{length};
 ghost use lib.Seq.{sets};
+ghost use Rattle.number.specs.Number.{readAt};
 ghost use Rattle.layout.specs.Recording.{entryBytes, tableBytes};
 ghost use Rattle.layout.specs.Repair.{whole};
-ghost use Rattle.repair.specs.Repaired.{walkedIn, entriesIn, indexIn, tailed, made, framesRepaired, repairOf};
+ghost use Rattle.text.specs.declared.Place.the-variants.{End};
+ghost use Rattle.opening.specs.Opened.{sectionsAt};
+ghost use Rattle.repair.specs.Repaired.{endIn, framesIn, walkedIn, entriesIn, indexIn, tailed, made, framesRepaired, repairOf};
 
 // The kept length, the three header fields, and the length of the tail, which stands at the start of the lent output; or the refusal number.
 pub enum Repaired {
@@ -44,15 +47,11 @@ fn walk(file: &[u8], sections: usize, start: usize) -> Walked
     let mut last = first;
     let mut left = Header::MOST_FRAMES;
     while 0 < left {
-        let frame = opening::frame_at(file, place, sections);
-        let FrameAt::Whole {
-            next,
-            time,
-            exposure: _,
-        } = frame
-        else {
+        let end = opening::frame_end(file, place, sections);
+        let Place::End(next) = end else {
             return Walked::InOrder { count, end: place };
         };
+        let time = number::read(file, place + 4, 8);
         if opening::follows_last(first, last, time) {} else {
             return Walked::OutOfOrder;
         }
@@ -64,17 +63,50 @@ fn walk(file: &[u8], sections: usize, start: usize) -> Walked
     Walked::InOrder { count, end: place }
 }
 
-// An index entry: time since the first frame, offset, length.
+// A number whose bytes are known to be there: in a part of just these bytes it is read with no test.
+fn read_known(file: &[u8], at: usize, w: usize) -> u64
+    requires { ⌜ (w ≤ 8) × (at + w ≤ length (now file)) ⌝ }
+    ensures { λ r. ⌜ r ≡ readAt (now (file .entry)) at w ⌝ }
+{
+    let end = at + w;
+    number::read(&file[at..end], 0, w)
+}
+
+// Where sections that are known to be whole end: their sizes are read and not tested again.
+fn known_end(file: &[u8], at: usize, sections: usize) -> usize
+    requires { ⌜ sectionsAt (now file) at sections ≡ End (endIn (sectionsAt (now file) at sections)) ⌝ }
+    ensures { λ r. ⌜ r ≡ endIn (sectionsAt (now (file .entry)) at sections) ⌝ }
+{
+    let mut place = at;
+    let mut left = sections;
+    while 0 < left {
+        let size = read_known(file, place, 4) as usize;
+        place = place + 4 + size;
+        left -= 1;
+    }
+    place
+}
+
+// An index entry in its sixteen bytes, all of which there is room for: time since the first frame, offset, length.
+fn fill_entry(entry: &mut [u8], first: u64, time: u64, offset: usize, size: usize)
+    requires { ⌜ length (now entry) ≡ 16 ⌝ }
+    ensures { λ r. ⌜ now (entry .exit) ≡ entryBytes first time offset size ⌝ }
+{
+    number::write(entry, 0, 4, opening::since(first, time));
+    number::write(entry, 4, 8, offset as u64);
+    number::write(entry, 12, 4, size as u64);
+}
+
+// That entry at a place of the output.
 fn write_entry(out: &mut [u8], at: usize, first: u64, time: u64, offset: usize, size: usize)
     requires { ⌜ at + 16 ≤ length (now out) ⌝ }
     ensures { λ r. ⌜ now (out .exit) ≡ sets (now (out .entry)) at (entryBytes first time offset size) ⌝ }
 {
-    number::write(out, at, 4, opening::since(first, time));
-    number::write(out, at + 4, 8, offset as u64);
-    number::write(out, at + 12, 4, size as u64);
+    let end = at + Header::INDEX_ENTRY;
+    fill_entry(&mut out[at..end], first, time, offset, size);
 }
 
-// The entries of the first `count` frames, behind the index's number of frames.
+// The entries of the first `count` frames, behind the index's number of frames. The walk has found these frames whole.
 fn write_entries(
     file: &[u8],
     sections: usize,
@@ -83,22 +115,15 @@ fn write_entries(
     count: usize,
     out: &mut [u8],
 )
-    requires { ⌜ 4 + 16 * count ≤ length (now out) ⌝ }
+    requires { ⌜ (4 + 16 * count ≤ length (now out)) × (framesIn (now file) sections count start ≡ count) ⌝ }
     ensures { λ r. ⌜ now (out .exit) ≡ sets (now (out .entry)) 4 (entriesIn (now (file .entry)) sections first count start) ⌝ }
 {
     let mut place = start;
     let mut entry = 4;
     let mut left = count;
     while 0 < left {
-        let frame = opening::frame_at(file, place, sections);
-        let FrameAt::Whole {
-            next,
-            time,
-            exposure: _,
-        } = frame
-        else {
-            return;
-        };
+        let next = known_end(file, place + Header::FRAME_HEAD, sections);
+        let time = read_known(file, place + 4, 8);
         write_entry(out, entry, first, time, place, next - place);
         place = next;
         entry += Header::INDEX_ENTRY;
@@ -108,7 +133,7 @@ fn write_entries(
 
 // The index of the first `count` frames, at the output's start.
 fn write_index(file: &[u8], sections: usize, start: usize, count: usize, out: &mut [u8])
-    requires { ⌜ (start ≤ length (now file)) × (4 + 16 * count ≤ length (now out)) ⌝ }
+    requires { ⌜ (start ≤ length (now file)) × (4 + 16 * count ≤ length (now out)) × (framesIn (now file) sections count start ≡ count) ⌝ }
     ensures { λ r. ⌜ now (out .exit) ≡ sets (now (out .entry)) 0 (indexIn (now (file .entry)) sections start count) ⌝ }
 {
     let first = number::read(file, start + 4, 8);
@@ -126,7 +151,7 @@ fn write_empty_table(out: &mut [u8], at: usize)
 
 // "a tail: the index of the walked frames and an empty user table"
 fn write_tail(file: &[u8], sections: usize, start: usize, count: usize, out: &mut [u8])
-    requires { ⌜ (start ≤ length (now file)) × (4 + 16 * count + 4 ≤ length (now out)) ⌝ }
+    requires { ⌜ (start ≤ length (now file)) × (4 + 16 * count + 4 ≤ length (now out)) × (framesIn (now file) sections count start ≡ count) ⌝ }
     ensures { λ r. ⌜ now (out .exit) ≡ tailed (now (file .entry)) sections start count (now (out .entry)) ⌝ }
 {
     write_index(file, sections, start, count, out);

@@ -3,6 +3,9 @@ pub mod Values
 pub mod Looks
 pub mod Parts
 pub mod Sizes
+pub mod Places
+pub mod Walks
+pub mod Searches
 pub mod Legal
 pub mod Applies
 pub mod Saves

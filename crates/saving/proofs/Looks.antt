@@ -6,50 +6,41 @@ use mathlib.Core.Path.{_≡_, refl, ap, sym, _∙_}
 use mathlib.Core.Bool.{Bool, true, false, not, _||_, cond}
 use mathlib.Core.List.{List, [], _∷_}
 use lib.ListN.{length, take, drop, getD}
-use lib.Seq.{drop-drop}
+use lib.Seq.{drop-drop, drop-cons}
 use borrow.Author.Needs.{needs}
-use borrow.Author.Tests.{lt-ltb, le-ltb}
+use borrow.Author.Tests.{lt-ltb, le-ltb, ne-eqb}
 use mir.Syntax.{w64}
 use mir.Val.{Fits}
 use Rattle.layout.specs.Recording.{Tag}
 use Rattle.layout.specs.Reading.{Reader, good, number, string}
-use Rattle.layout.specs.Saving.{Change, absent, holds, lookUp, sameEntry, agrees, conflicts, someConflict, conflictPlace}
+use Rattle.layout.specs.Saving.{Entry, Change, sameEntry, agrees, conflicts, someConflict, conflictPlace}
 use Rattle.text.specs.Text.{samePart}
-use Rattle.text.specs.Rows.{entry, rest, rowName, rowOf, found, findName}
+use Rattle.text.specs.Rows.{entry, rest, rowName, rowOf}
 use Rattle.text.specs.declared.Row.{Row}
 use Rattle.text.specs.declared.Row.the-variants as row
 use Rattle.text.specs.declared.RowPlace.{RowPlace}
 use Rattle.text.specs.declared.RowPlace.the-variants as rowPlace
-use Rattle.text.specs.declared.Found.{Found}
-use Rattle.text.specs.declared.Found.the-variants as found
 use Rattle.text.proofs.Rows.{row-broken}
-use Rattle.text.proofs.Names.{find-there, name-other, name-same}
+use Rattle.text.proofs.Names.{name-other, name-same, row-name-place}
 use Rattle.text.proofs.Readers.{then-parts}
 use Rattle.text.proofs.Places.{number-parts}
-use Rattle.saving.specs.Rows.{rows, rowWith, entryIn, tagWithName, changeWithName, tagsAt, changesAt, valueIn, isNothing, Stands, Finds, tagHolds, lookedFrom, lookedAt}
+use Rattle.saving.specs.Rows.{rows, rowWith, entryIn, tagWithName, changeWithName, changesAt, valueIn, isNothing, Stands, Finds, tagHolds, lookedFrom}
+use Rattle.saving.specs.Places.{pair, beside, tagEntry, differs, lookedBy}
 use Rattle.saving.specs.declared.Value.{Value}
 use Rattle.saving.specs.declared.Value.the-variants as value
 use Rattle.saving.specs.declared.Looked.{Looked}
 use Rattle.saving.specs.declared.Looked.the-variants as looked
-use Rattle.saving.proofs.Values.{string-stands, first-byte, row-rest, row-makes, row-makes-none, row-fits-1, row-fits-2, rows-more, rows-none, no-rows, foundIn, by-found}
+use Rattle.saving.proofs.Values.{string-stands, first-byte, row-rest, row-makes, row-makes-none, row-fits-2, rows-more, rows-none, no-rows}
 
--- ── What a table has under a name ──
+-- ── What a tag holds ──
 
-lookUp-found : (name s : List ℕ) (n i at : ℕ) → lookUp name (tagsAt s at n) ≡ foundIn tagHolds (rowWith row.Tag tagWithName) absent s (found name n (rowName row.Tag) s i at)
-unfolding lookUp tagWithName
-lookUp-found name s n i at = by-found row.Tag tagWithName name (lookUp name) (λ t. holds (t .value)) absent absent refl (λ v t xs. refl) n s i at
+pub look-none : (s : List ℕ) (tag : ℕ) → tag ≡ 0 → Finds s value.Nothing (tagEntry s tag)
+unfolding tagEntry valueIn Stands
+look-none s tag e = record { found = rw e; there = refl }
 
-pub look-nothing : (a s : List ℕ) (here len at n : ℕ) (r : Found) → here + len ≤ length a → r ≡ findName a here len s at n row.Tag → r ≡ found.Nothing → Finds s value.Nothing (lookUp (take len (drop here a)) (tagsAt s at n))
-unfolding foundIn valueIn Stands
-look-nothing a s here len at n r h e f =
-    let q : found (take len (drop here a)) n (rowName row.Tag) s 0 at ≡ found.Nothing = sym (find-there a s here len at n row.Tag h) ∙ sym e ∙ f in
-    record { found = sym (lookUp-found (take len (drop here a)) s n 0 at ∙ rw q); there = refl }
-
-pub look-at : (a s : List ℕ) (here len at n i p : ℕ) (r : Found) (v : Value) → here + len ≤ length a → r ≡ findName a here len s at n row.Tag → r ≡ found.At i p → Finds s v (tagHolds (rowWith row.Tag tagWithName (drop p s))) → Finds s v (lookUp (take len (drop here a)) (tagsAt s at n))
-unfolding foundIn
-look-at a s here len at n i p r v h e f g =
-    let q : found (take len (drop here a)) n (rowName row.Tag) s 0 at ≡ found.At i p = sym (find-there a s here len at n row.Tag h) ∙ sym e ∙ f in
-    rw (lookUp-found (take len (drop here a)) s n 0 at, q) g
+pub look-there : (s : List ℕ) (tag : ℕ) (v : Value) → (tag ≡ 0 → ⊥) → Finds s v (tagHolds (rowWith row.Tag tagWithName (drop tag s))) → Finds s v (tagEntry s tag)
+unfolding tagEntry
+look-there s tag v h g = rw (ne-eqb tag 0 h) g
 
 -- ── Equal values ──
 
@@ -92,19 +83,19 @@ same-bytes a b one other p n q m r h k e f w g =
 
 -- ── One change ──
 
-pub nobody-looked : (ts : List Tag) (name s : List ℕ) (at : ℕ) → at < length s → 1 < getD s at 0 → false ≡ conflicts ts (changeWithName name (drop at s))
-unfolding conflicts changeWithName agrees
-nobody-looked ts name s at h k = rw (first-byte s at h, lt-ltb 1 (getD s at 0) k)
+pub nobody-looked : (had : Entry) (name s : List ℕ) (at : ℕ) → at < length s → 1 < getD s at 0 → false ≡ differs had (changeWithName name (drop at s))
+unfolding differs changeWithName agrees
+nobody-looked had name s at h k = rw (first-byte s at h, lt-ltb 1 (getD s at 0) k)
 
-looked-at : (ts : List Tag) (name s table : List ℕ) (at : ℕ) (v o : Value) (r : Bool) → at < length s → getD s at 0 ≤ 1 → Finds s v (entryIn (drop at s)) → Finds table o (lookUp name ts) → r ≡ sameEntry (valueIn s v) (valueIn table o) → conflicts ts (changeWithName name (drop at s)) ≡ not r
-unfolding conflicts changeWithName agrees
-looked-at ts name s table at v o r h k f g e = rw (first-byte s at h, le-ltb 1 (getD s at 0) k, ← f .found, ← g .found, ← e)
+looked-at : (had : Entry) (name s table : List ℕ) (at : ℕ) (v o : Value) (r : Bool) → at < length s → getD s at 0 ≤ 1 → Finds s v (entryIn (drop at s)) → Finds table o had → r ≡ sameEntry (valueIn s v) (valueIn table o) → differs had (changeWithName name (drop at s)) ≡ not r
+unfolding differs changeWithName agrees
+looked-at had name s table at v o r h k f g e = rw (first-byte s at h, le-ltb 1 (getD s at 0) k, ← f .found, ← g .found, ← e)
 
-pub looked-same : (ts : List Tag) (name s table : List ℕ) (at : ℕ) (v o : Value) (r : Bool) → at < length s → getD s at 0 ≤ 1 → Finds s v (entryIn (drop at s)) → Finds table o (lookUp name ts) → r ≡ sameEntry (valueIn s v) (valueIn table o) → r ≡ true → false ≡ conflicts ts (changeWithName name (drop at s))
-looked-same ts name s table at v o r h k f g e q = sym (looked-at ts name s table at v o r h k f g e ∙ rw q)
+pub looked-same : (had : Entry) (name s table : List ℕ) (at : ℕ) (v o : Value) (r : Bool) → at < length s → getD s at 0 ≤ 1 → Finds s v (entryIn (drop at s)) → Finds table o had → r ≡ sameEntry (valueIn s v) (valueIn table o) → r ≡ true → false ≡ differs had (changeWithName name (drop at s))
+looked-same had name s table at v o r h k f g e q = sym (looked-at had name s table at v o r h k f g e ∙ rw q)
 
-pub looked-other : (ts : List Tag) (name s table : List ℕ) (at : ℕ) (v o : Value) (r : Bool) → at < length s → getD s at 0 ≤ 1 → Finds s v (entryIn (drop at s)) → Finds table o (lookUp name ts) → r ≡ sameEntry (valueIn s v) (valueIn table o) → r ≡ false → true ≡ conflicts ts (changeWithName name (drop at s))
-looked-other ts name s table at v o r h k f g e q = sym (looked-at ts name s table at v o r h k f g e ∙ rw q)
+pub looked-other : (had : Entry) (name s table : List ℕ) (at : ℕ) (v o : Value) (r : Bool) → at < length s → getD s at 0 ≤ 1 → Finds s v (entryIn (drop at s)) → Finds table o had → r ≡ sameEntry (valueIn s v) (valueIn table o) → r ≡ false → true ≡ differs had (changeWithName name (drop at s))
+looked-other had name s table at v o r h k f g e q = sym (looked-at had name s table at v o r h k f g e ∙ rw q)
 
 -- ── All changes ──
 
@@ -133,27 +124,41 @@ rows-step k make s at (suc left) len end r h e f =
     let j : suc left - 1 ≡ left = omega arith in
     rows-more left (rowWith k make) (drop at s) _ m p ∙ rw (j, q, drop-drop m at s))
 
-pub looked-start : (table sheet : List ℕ) (at n k : ℕ) → lookedFrom (tagsAt table at n) (changesAt sheet 1 k) 0 ≡ lookedAt table at n sheet k
-unfolding lookedAt
-looked-start table sheet at n k = refl
+-- the same with a place beside each
+pub beside-none : {A : Type 0} (ps : List ℕ) → beside {A = A} ps [] ≡ []
+unfolding beside
+beside-none [] = refl
+beside-none (p ∷ ps) = refl
 
-pub looked-done : (ts : List Tag) (s : List ℕ) (at left i : ℕ) (all : Looked) → left ≤ 0 → lookedFrom ts (changesAt s at left) i ≡ all → looked.Agrees ≡ all
-unfolding lookedFrom
-looked-done ts s at left i all h e = sym (rw (rows-done (rowWith row.Change changeWithName) s at left h)) ∙ e
+pub beside-done : {A : Type 0} (p : Reader A) (ps s : List ℕ) (i at left : ℕ) → left ≤ 0 → beside (drop i ps) (rows left p (drop at s)) ≡ []
+beside-done p ps s i at left h = rw (rows-done p s at left h) (beside-none (drop i ps))
 
-pub looked-stop : (ts : List Tag) (s : List ℕ) (at left i : ℕ) (r : RowPlace) (all : Looked) → r ≡ rowOf at (rowName row.Change (drop at s)) → r ≡ rowPlace.Broken → lookedFrom ts (changesAt s at left) i ≡ all → looked.Agrees ≡ all
-unfolding lookedFrom
-looked-stop ts s at left i r all f g e = sym (rw (rows-stop row.Change changeWithName s at left r f g)) ∙ e
+pub beside-stop : {A : Type 0} (k : Row) (make : List ℕ → List ℕ → A) (ps s : List ℕ) (i at left : ℕ) (r : RowPlace) → r ≡ rowOf at (rowName k (drop at s)) → r ≡ rowPlace.Broken → beside (drop i ps) (rows left (rowWith k make) (drop at s)) ≡ []
+beside-stop k make ps s i at left r e f = rw (rows-stop k make s at left r e f) (beside-none (drop i ps))
 
-looked-one : (ts : List Tag) (s : List ℕ) (at left len end i : ℕ) (r : RowPlace) → 0 < left → r ≡ rowOf at (rowName row.Change (drop at s)) → r ≡ rowPlace.Whole len end → lookedFrom ts (changesAt s at left) i ≡ cond (conflicts ts (changeWithName (take len (drop (at + 1) s)) (drop (at + 1 + len) s))) (looked.Conflict i) (lookedFrom ts (changesAt s end (left - 1)) (i + 1))
-unfolding lookedFrom
-looked-one ts s at left len end i r h f g = rw (rows-step row.Change changeWithName s at left len end r h f g)
+pub beside-step : {A : Type 0} (k : Row) (make : List ℕ → List ℕ → A) (ps s : List ℕ) (i at left len end : ℕ) (r : RowPlace) → 0 < left → i + left ≤ length ps → r ≡ rowOf at (rowName k (drop at s)) → r ≡ rowPlace.Whole len end → beside (drop i ps) (rows left (rowWith k make) (drop at s)) ≡ pair (getD ps i 0) (make (take len (drop (at + 1) s)) (drop (at + 1 + len) s)) ∷ beside (drop (i + 1) ps) (rows (left - 1) (rowWith k make) (drop end s))
+unfolding beside
+beside-step k make ps s i at left len end r h l e f =
+    let j : i + 1 ≡ suc i = omega arith in
+    rw (rows-step k make s at left len end r h e f, drop-cons ps i 0 (omega arith), j)
 
-pub looked-hit : (ts : List Tag) (s : List ℕ) (at left len end i : ℕ) (r : RowPlace) (d : Bool) (all : Looked) → 0 < left → r ≡ rowOf at (rowName row.Change (drop at s)) → r ≡ rowPlace.Whole len end → d ≡ conflicts ts (changeWithName (take len (drop (at + 1) s)) (drop (at + 1 + len) s)) → d ≡ true → lookedFrom ts (changesAt s at left) i ≡ all → looked.Conflict i ≡ all
-looked-hit ts s at left len end i r d all h f g j k e = sym (looked-one ts s at left len end i r h f g ∙ rw (← j, k)) ∙ e
+pub looked-done : (table ps s : List ℕ) (at left i : ℕ) (all : Looked) → left ≤ 0 → lookedBy table (beside (drop i ps) (changesAt s at left)) i ≡ all → looked.Agrees ≡ all
+unfolding lookedBy
+looked-done table ps s at left i all h e = sym (rw (beside-done (rowWith row.Change changeWithName) ps s i at left h)) ∙ e
 
-pub looked-step : (ts : List Tag) (s : List ℕ) (at left len end i : ℕ) (r : RowPlace) (d : Bool) (all : Looked) → 0 < left → r ≡ rowOf at (rowName row.Change (drop at s)) → r ≡ rowPlace.Whole len end → d ≡ conflicts ts (changeWithName (take len (drop (at + 1) s)) (drop (at + 1 + len) s)) → d ≡ false → lookedFrom ts (changesAt s at left) i ≡ all → lookedFrom ts (changesAt s end (left - 1)) (i + 1) ≡ all
-looked-step ts s at left len end i r d all h f g j k e = sym (looked-one ts s at left len end i r h f g ∙ rw (← j, k)) ∙ e
+pub looked-stop : (table ps s : List ℕ) (at left i : ℕ) (r : RowPlace) (all : Looked) → r ≡ rowOf at (rowName row.Change (drop at s)) → r ≡ rowPlace.Broken → lookedBy table (beside (drop i ps) (changesAt s at left)) i ≡ all → looked.Agrees ≡ all
+unfolding lookedBy
+looked-stop table ps s at left i r all f g e = sym (rw (beside-stop row.Change changeWithName ps s i at left r f g)) ∙ e
+
+looked-one : (table ps s : List ℕ) (at left len end i : ℕ) (r : RowPlace) → 0 < left → i + left ≤ length ps → r ≡ rowOf at (rowName row.Change (drop at s)) → r ≡ rowPlace.Whole len end → lookedBy table (beside (drop i ps) (changesAt s at left)) i ≡ cond (differs (tagEntry table (getD ps i 0)) (changeWithName (take len (drop (at + 1) s)) (drop (at + 1 + len) s))) (looked.Conflict i) (lookedBy table (beside (drop (i + 1) ps) (changesAt s end (left - 1))) (i + 1))
+unfolding lookedBy
+looked-one table ps s at left len end i r h l f g = rw (beside-step row.Change changeWithName ps s i at left len end r h l f g)
+
+pub looked-hit : (table ps s : List ℕ) (at left len end i : ℕ) (r : RowPlace) (d : Bool) (all : Looked) → 0 < left → i + left ≤ length ps → r ≡ rowOf at (rowName row.Change (drop at s)) → r ≡ rowPlace.Whole len end → d ≡ differs (tagEntry table (getD ps i 0)) (changeWithName (take len (drop (at + 1) s)) (drop (at + 1 + len) s)) → d ≡ true → lookedBy table (beside (drop i ps) (changesAt s at left)) i ≡ all → looked.Conflict i ≡ all
+looked-hit table ps s at left len end i r d all h l f g j k e = sym (looked-one table ps s at left len end i r h l f g ∙ rw (← j, k)) ∙ e
+
+pub looked-step : (table ps s : List ℕ) (at left len end i : ℕ) (r : RowPlace) (d : Bool) (all : Looked) → 0 < left → i + left ≤ length ps → r ≡ rowOf at (rowName row.Change (drop at s)) → r ≡ rowPlace.Whole len end → d ≡ differs (tagEntry table (getD ps i 0)) (changeWithName (take len (drop (at + 1) s)) (drop (at + 1 + len) s)) → d ≡ false → lookedBy table (beside (drop i ps) (changesAt s at left)) i ≡ all → lookedBy table (beside (drop (i + 1) ps) (changesAt s end (left - 1))) (i + 1) ≡ all
+looked-step table ps s at left len end i r d all h l f g j k e = sym (looked-one table ps s at left len end i r h l f g ∙ rw (← j, k)) ∙ e
 
 -- the look answers the layout's place of conflict
 pub looked-is : (ts : List Tag) (cs : List Change) (i : ℕ) → lookedFrom ts cs i ≡ cond (someConflict ts cs) (looked.Conflict (i + conflictPlace ts cs)) looked.Agrees
@@ -169,4 +174,4 @@ looked-is ts (c ∷ cs) i = go (conflicts ts c) (looked-is ts cs (i + 1))
     go true ih = ap looked.Conflict (omega arith)
     go false ih = ih ∙ later (someConflict ts cs)
 
-pub ruleset laws = (needs, row-fits-1, row-fits-2, look-nothing, look-at, at-is-something, nothing-is-nothing, same-nothing, same-missing, stands-fits, same-longer, same-bytes, nobody-looked, looked-same, looked-other, kind-there, looked-start, looked-done, looked-stop, looked-hit, looked-step)
+pub ruleset laws = (needs, row-name-place, row-fits-2, look-none, look-there, at-is-something, nothing-is-nothing, same-nothing, same-missing, stands-fits, same-longer, same-bytes, nobody-looked, looked-same, looked-other, kind-there, looked-done, looked-stop, looked-hit, looked-step)

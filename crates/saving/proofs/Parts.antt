@@ -3,36 +3,34 @@
 use Prim.Native.Nat.{ℕ, suc, _+_, _-_, _^_, _<_, _≤_}
 use native.Mathlib.Omega.{arith}
 use mathlib.Core.Path.{_≡_, refl, ap, sym, _∙_}
-use mathlib.Core.Bool.{Bool, true, false, _||_, cond}
 use mathlib.Core.List.{List, [], _++_, flatMap, append-nil}
 use lib.ListN.{length, take, drop, getD}
 use lib.Seq.{drop-drop, drop-cons, take-add}
 use borrow.Author.Needs.{needs}
+use borrow.Author.Tests.{lt-ltb, le-ltb, ne-eqb}
 use mir.Syntax.{w8, w64}
 use mir.Val.{Fits}
-use Rattle.layout.specs.Recording.{Tag, same, among, tagNames, shortString, tagBytes}
-use Rattle.layout.specs.Reading.{Parsed, bad, good, _then_, give, string, valueOr}
-use Rattle.layout.specs.Saving.{Entry, Change, absent, holds, newEntry, tagWith}
+use Rattle.layout.specs.Recording.{shortString, tagBytes}
+use Rattle.layout.specs.Reading.{_then_, give, string, valueOr}
+use Rattle.layout.specs.Saving.{Entry, tagWith}
 use Rattle.text.specs.Text.{textOf}
-use Rattle.text.specs.Rows.{rest, rowName, rowOf, found, findName}
+use Rattle.text.specs.Rows.{rest, rowName, rowOf}
 use Rattle.text.specs.declared.Text.the-variants as text
 use Rattle.text.specs.declared.Row.{Row}
 use Rattle.text.specs.declared.Row.the-variants as row
 use Rattle.text.specs.declared.RowPlace.{RowPlace}
 use Rattle.text.specs.declared.RowPlace.the-variants as rowPlace
-use Rattle.text.specs.declared.Found.{Found}
-use Rattle.text.specs.declared.Found.the-variants as found
 use Rattle.text.proofs.Laws.{string-parts, part-length}
 use Rattle.text.proofs.Rows.{row-parts, row-broken}
-use Rattle.text.proofs.Names.{find-there}
 use Rattle.text.proofs.Readers.{then-parts, give-parts}
-use Rattle.text.proofs.Finding.{same-sym}
-use Rattle.saving.specs.Rows.{rowWith, newIn, tagWithName, changeWithName, tagsAt, changesAt, valueIn, Stands, Finds, made, changeMakes}
-use Rattle.saving.specs.Parts.{keptPart, newPart, partWith, valueLength, Short, partBytes, Makes}
+use Rattle.text.proofs.Names.{row-name-place}
+use Rattle.saving.specs.Rows.{rowWith, newIn, tagWithName, changeWithName, valueIn, Stands, Finds, made, changeMakes}
+use Rattle.saving.specs.Places.{pair, changedEntry}
+use Rattle.saving.specs.Parts.{keptBy, newBy, partWith, valueLength, Short, partBytes, Makes}
 use Rattle.saving.specs.declared.Value.{Value}
 use Rattle.saving.specs.declared.Value.the-variants as value
 use Rattle.saving.specs.declared.Part.{Part}
-use Rattle.saving.proofs.Values.{string-stands, tag-row-parts, row-makes, row-makes-none, row-fits-1, row-fits-2, tag-row-value, foundIn, by-found}
+use Rattle.saving.proofs.Values.{string-stands, tag-row-parts, row-makes, row-makes-none, row-fits-2, tag-row-value}
 
 -- ── Short strings in their place ──
 
@@ -41,7 +39,7 @@ row-known k s at len end r e f = sym e ∙ f
 
 -- places in a row, and behind a short string, that are known to be there
 pub known-fits : (k : Row) (s : List ℕ) (at len end : ℕ) → length s < 2 ^ 64 → rowOf at (rowName k (drop at s)) ≡ rowPlace.Whole len end → Fits w64 (at + 1)
-known-fits k s at len end h e = row-fits-1 k s at len end (rowPlace.Whole len end) h (sym e) refl
+known-fits k s at len end h e = row-name-place k s at len end (rowPlace.Whole len end) h (sym e) refl
 
 pub known-end : (s : List ℕ) (at len end : ℕ) → rowOf at (rowName row.Tag (drop at s)) ≡ rowPlace.Whole len end → at ≤ end
 known-end s at len end e = let l = tag-row-parts s at len end e .0 in omega arith
@@ -136,27 +134,6 @@ with-makes s t at len value.Nothing e w x h f =
     let l = string-parts s at len h .0 in
     record { made = rw (← f .found); firstThere = omega arith; secondThere = omega arith; short = omega arith }
 
--- what a sheet says of the name of a tag
-newEntry-found : (s : List ℕ) (t : Tag) (k i at : ℕ) → newEntry (changesAt s at k) t ≡ foundIn changeMakes (rowWith row.Change changeWithName) (holds (t .value)) s (found (t .name) k (rowName row.Change) s i at)
-unfolding newEntry changeWithName
-newEntry-found s t k i at =
-    by-found row.Change changeWithName (t .name) (λ cs. newEntry cs t) (λ c. c .new) (holds (t .value)) absent refl (λ v u xs. rw (same-sym v (t .name))) k s i at
-
--- whether a table has a name
-among-found : (name s : List ℕ) (n i at : ℕ) → among name (tagNames (tagsAt s at n)) ≡ foundIn (made (λ t. true) true) (rowWith row.Tag tagWithName) false s (found name n (rowName row.Tag) s i at)
-unfolding among tagNames tagWithName
-among-found name s n i at =
-    by-found row.Tag tagWithName name (λ ts. among name (tagNames ts)) (λ t. true) false true refl (λ v t xs. or-cond (same name v) (among name (tagNames xs))) n s i at
-  where
-    or-cond : (a b : Bool) → (a || b) ≡ cond a true b
-    or-cond true b = refl
-    or-cond false b = refl
-
-made-true : (p : Parsed Tag) → made (λ t. true) true p ≡ true
-unfolding made
-made-true bad = refl
-made-true (good t n) = refl
-
 -- the value of a tag is a short string behind its name
 row-value : (s : List ℕ) (at len end : ℕ) → rowOf at (rowName row.Tag (drop at s)) ≡ rowPlace.Whole len end → textOf (string (drop (at + 1 + len) s)) ≡ text.Whole (end - (at + 1 + len + 1))
 row-value s at len end e = value-text s (at + 1 + len) (end - (at + 1 + len + 1)) (tag-row-value s at len end (rowPlace.Whole len end) (sym e) refl .there)
@@ -171,45 +148,32 @@ row-bytes s at len end e =
     let b : at + (1 + len) ≡ at + 1 + len = omega arith in
     rw (a, take-add (1 + len) (1 + (end - (at + 1 + len + 1))) (drop at s), drop-drop (1 + len) at s, b, string-bytes s at len (row-name row.Tag s at len end e), string-bytes s (at + 1 + len) (end - (at + 1 + len + 1)) v, c)
 
-pub kept-stays : (s t : List ℕ) (at len end k : ℕ) (r : Found) → ((i : ℕ) → Fits w8 (getD s i 0)) → rowOf at (rowName row.Tag (drop at s)) ≡ rowPlace.Whole len end → r ≡ findName s (at + 1) len t 1 k row.Change → r ≡ found.Nothing → Makes s at t (record { first = end - at; value = 0; second = 0 }) (keptPart (changesAt t 1 k) (tagWithName (take len (drop (at + 1) s)) (drop (at + 1 + len) s)))
-unfolding keptPart tagWithName foundIn partBytes tagWith flatMap
-kept-stays s t at len end k r w h e f =
-    let l = row-parts row.Tag s at len end h .0 in
+pub kept-stays : (s t : List ℕ) (at len end change : ℕ) → ((i : ℕ) → Fits w8 (getD s i 0)) → rowOf at (rowName row.Tag (drop at s)) ≡ rowPlace.Whole len end → change ≡ 0 → Makes s at t (record { first = end - at; value = 0; second = 0 }) (keptBy t (pair change (tagWithName (take len (drop (at + 1) s)) (drop (at + 1 + len) s))))
+unfolding keptBy changedEntry tagWithName partBytes tagWith flatMap
+kept-stays s t at len end change w h e =
     let (m, b, c) = tag-row-parts s at len end h in
     let d = string-short s at len w (row-name row.Tag s at len end h) in
     let g = string-short s (at + 1 + len) (end - (at + 1 + len + 1)) w (row-value s at len end h) in
-    let a : found (take len (drop (at + 1) s)) k (rowName row.Change) t 0 1 ≡ found.Nothing = sym (find-there s t (at + 1) len 1 k row.Change l) ∙ sym e ∙ f in
     record {
-      made = rw (newEntry-found t (tagWithName (take len (drop (at + 1) s)) (drop (at + 1 + len) s)) k 0 1, a) (ap (λ (x : List ℕ). x ++ []) (row-bytes s at len end h));
+      made = rw e (ap (λ (x : List ℕ). x ++ []) (row-bytes s at len end h));
       firstThere = omega arith;
       secondThere = omega arith;
       short = omega arith;
     }
 
-pub kept-takes : (s t : List ℕ) (at len end k i p : ℕ) (r : Found) (v : Value) (q : Part) → ((i : ℕ) → Fits w8 (getD s i 0)) → ((i : ℕ) → Fits w8 (getD t i 0)) → rowOf at (rowName row.Tag (drop at s)) ≡ rowPlace.Whole len end → r ≡ findName s (at + 1) len t 1 k row.Change → r ≡ found.At i p → Finds t v (changeMakes (rowWith row.Change changeWithName (drop p t))) → q ≡ partWith len v → Makes s at t q (keptPart (changesAt t 1 k) (tagWithName (take len (drop (at + 1) s)) (drop (at + 1 + len) s)))
-unfolding keptPart tagWithName foundIn
-kept-takes s t at len end k i p r v q w x h e f g o =
-    let l = row-parts row.Tag s at len end h .0 in
-    let a : found (take len (drop (at + 1) s)) k (rowName row.Change) t 0 1 ≡ found.At i p = sym (find-there s t (at + 1) len 1 k row.Change l) ∙ sym e ∙ f in
-    rw (o, newEntry-found t (tagWithName (take len (drop (at + 1) s)) (drop (at + 1 + len) s)) k 0 1, a) (with-makes s t at len v _ w x (row-name row.Tag s at len end h) g)
+pub kept-takes : (s t : List ℕ) (at len end change : ℕ) (v : Value) (q : Part) → ((i : ℕ) → Fits w8 (getD s i 0)) → ((i : ℕ) → Fits w8 (getD t i 0)) → rowOf at (rowName row.Tag (drop at s)) ≡ rowPlace.Whole len end → (change ≡ 0 → ⊥) → Finds t v (changeMakes (rowWith row.Change changeWithName (drop change t))) → q ≡ partWith len v → Makes s at t q (keptBy t (pair change (tagWithName (take len (drop (at + 1) s)) (drop (at + 1 + len) s))))
+unfolding keptBy changedEntry tagWithName
+kept-takes s t at len end change v q w x h e g o =
+    rw (o, ne-eqb change 0 e) (with-makes s t at len v _ w x (row-name row.Tag s at len end h) g)
 
-pub new-old : (s t : List ℕ) (place len at n i p : ℕ) (r : Found) → textOf (string (drop place s)) ≡ text.Whole len → r ≡ findName s (place + 1) len t at n row.Tag → r ≡ found.At i p → Makes s place s (record { first = 0; value = 0; second = 0 }) (newPart (tagsAt t at n) (changeWithName (take len (drop (place + 1) s)) (drop (place + 1 + len) s)))
-unfolding newPart changeWithName foundIn partBytes flatMap
-new-old s t place len at n i p r h e f =
+pub new-old : (s : List ℕ) (place len tag : ℕ) → textOf (string (drop place s)) ≡ text.Whole len → 0 < tag → Makes s place s (record { first = 0; value = 0; second = 0 }) (newBy (pair tag (changeWithName (take len (drop (place + 1) s)) (drop (place + 1 + len) s))))
+unfolding newBy partBytes flatMap
+new-old s place len tag h e =
     let l = string-parts s place len h .0 in
-    let a : found (take len (drop (place + 1) s)) n (rowName row.Tag) t 0 at ≡ found.At i p = sym (find-there s t (place + 1) len at n row.Tag l) ∙ sym e ∙ f in
-    record {
-      made = rw (among-found (take len (drop (place + 1) s)) t n 0 at, a, made-true (rowWith row.Tag tagWithName (drop p t)));
-      firstThere = omega arith;
-      secondThere = omega arith;
-      short = omega arith;
-    }
+    record { made = rw (lt-ltb 0 tag e); firstThere = omega arith; secondThere = omega arith; short = omega arith }
 
-pub new-takes : (s t : List ℕ) (place len at n : ℕ) (r : Found) (v : Value) (q : Part) → ((i : ℕ) → Fits w8 (getD s i 0)) → textOf (string (drop place s)) ≡ text.Whole len → r ≡ findName s (place + 1) len t at n row.Tag → r ≡ found.Nothing → Finds s v (newIn (drop (place + 1 + len) s)) → q ≡ partWith len v → Makes s place s q (newPart (tagsAt t at n) (changeWithName (take len (drop (place + 1) s)) (drop (place + 1 + len) s)))
-unfolding newPart changeWithName foundIn
-new-takes s t place len at n r v q w h e f g o =
-    let l = string-parts s place len h .0 in
-    let a : found (take len (drop (place + 1) s)) n (rowName row.Tag) t 0 at ≡ found.Nothing = sym (find-there s t (place + 1) len at n row.Tag l) ∙ sym e ∙ f in
-    rw (o, among-found (take len (drop (place + 1) s)) t n 0 at, a) (with-makes s s place len v _ w w h g)
+pub new-takes : (s : List ℕ) (place len tag : ℕ) (v : Value) (q : Part) → ((i : ℕ) → Fits w8 (getD s i 0)) → textOf (string (drop place s)) ≡ text.Whole len → tag ≤ 0 → Finds s v (newIn (drop (place + 1 + len) s)) → q ≡ partWith len v → Makes s place s q (newBy (pair tag (changeWithName (take len (drop (place + 1) s)) (drop (place + 1 + len) s))))
+unfolding newBy changeWithName
+new-takes s place len tag v q w h e g o = rw (o, le-ltb 0 tag e) (with-makes s s place len v _ w w h g)
 
-pub ruleset laws = (needs, row-fits-1, row-fits-2, known-fits, known-end, string-fits-1, string-fits-2, row-known, row-string, short-kept, short-new, short-fits, with-nothing, with-at, changed-broken, changed-there, kept-stays, kept-takes, new-old, new-takes)
+pub ruleset laws = (needs, row-name-place, row-fits-2, known-fits, known-end, string-fits-1, string-fits-2, row-known, row-string, short-kept, short-new, short-fits, with-nothing, with-at, changed-broken, changed-there, kept-stays, kept-takes, new-old, new-takes)

@@ -4,25 +4,27 @@ use Prim.Native.Nat.{ℕ, zero, suc, _+_, _^_, _<_, _≤_}
 use native.Mathlib.Omega.{arith}
 use mathlib.Core.Path.{_≡_, refl, ap, sym, _∙_}
 use mathlib.Core.Bool.{Bool, true, false, cond}
-use mathlib.Core.List.{List, [], _∷_, _++_, append-nil}
+use mathlib.Core.List.{List, [], _∷_, _++_, map, append-nil}
 use lib.ListN.{length, drop}
 use lib.Dec.{ltb, leb}
 use borrow.Author.Needs.{needs}
-use borrow.Author.Tests.{leb-true, ne-eqb, le-ltb}
+use borrow.Author.Tests.{leb-true, ne-eqb}
 use mir.Syntax.{w64}
 use mir.Val.{Fits}
 use Rattle.number.proofs.Bytes.{both-true}
 use Rattle.layout.specs.Recording.{Tag, mostTags, within, distinct, tagNames, tableBytes}
 use Rattle.layout.specs.Reading.{Parsed, bad, good, _then_, only, times, exactly, number, tag, table, isBad, valueOr}
-use Rattle.layout.specs.Opening.{Line, line, firstOf, frontLines, openingLines, refusal, shown, userOffset, readUser, badUser}
+use Rattle.layout.specs.Opening.{line, firstOf, frontLines, openingLines, refusal, shown, userOffset, readUser, badUser}
 use Rattle.layout.specs.Recorder.{filled, noRoom}
 use Rattle.layout.specs.Saving.{Change, change, changeNames, mostChanges, sheet, changesOf, someConflict, conflictPlace, userTags, newTable, saveLines, saveRefusal, saveAnswer, save}
 use Rattle.layout.proofs.Readers.{exactly-good, number-good}
-use Rattle.layout.proofs.Lines.{line-pass, line-holds, opening-pass, opens-passes}
+use Rattle.layout.proofs.Lines.{line-pass, line-holds, opening-pass, opens-passes, lines-first}
 use Rattle.layout.proofs.Orders.{without, lines-other}
-use Rattle.text.proofs.Readers.{then-parts, only-parts}
+use Rattle.text.specs.Rows.{rowName, distinctNames}
+use Rattle.text.specs.declared.Row.the-variants as row
+use Rattle.text.proofs.Readers.{then-parts, only-parts, change-row, names-times, distinct-changes}
 use Rattle.text.proofs.Places.{table-read}
-use Rattle.text.proofs.Times.{times-length}
+use Rattle.text.proofs.Times.{times-length, times-led}
 use Rattle.opening.specs.Opened.{openOf, openRefusal, heldOf}
 use Rattle.opening.specs.declared.Held.{Held}
 use Rattle.opening.specs.declared.Opening.{Opening}
@@ -30,7 +32,8 @@ use Rattle.opening.specs.declared.Opening.the-variants as openingAs
 use Rattle.opening.proofs.Lines.{open-opens, open-refuses}
 use Rattle.saving.specs.Sheet.{sheetOf}
 use Rattle.saving.specs.Rows.{tagsAt, changesAt, lookedAt}
-use Rattle.saving.specs.Save.{outcome, appliedTo, appliedIn, appliedAt, savedBy, savedAs, saveOf}
+use Rattle.saving.specs.Places.{changeNamesAt, beside, lookedBy, Placed}
+use Rattle.saving.specs.Save.{outcome, appliedTo, appliedIn, afterLook, savedIn, savedBy, savedAs, saveOf}
 use Rattle.saving.specs.declared.Sheet.{Sheet}
 use Rattle.saving.specs.declared.Sheet.the-variants as sheet
 use Rattle.saving.specs.declared.Looked.{Looked}
@@ -38,6 +41,8 @@ use Rattle.saving.specs.declared.Looked.the-variants as looked
 use Rattle.saving.specs.declared.Saved.{Saved}
 use Rattle.saving.specs.declared.Saved.the-variants as saved
 use Rattle.saving.proofs.Looks.{looked-is}
+use Rattle.saving.proofs.Places.{looks}
+use Rattle.saving.proofs.Walks.{tags-named, tags-placed}
 use Rattle.saving.proofs.Legal.{tags-are, changes-are}
 
 -- ── A save's answer ──
@@ -72,16 +77,6 @@ answer-applied place ts out = go (ltb mostTags (length ts)) (ltb (length out) (l
 
 -- ── A file that does not open ──
 
--- the first line that holds is the first of more
-first-stays : (ls ms : List Line) (n : ℕ) → firstOf ls ≡ suc n → firstOf (ls ++ ms) ≡ suc n
-unfolding firstOf
-first-stays [] ms n e = absurd (omega arith)
-first-stays (l ∷ ls) ms n e = go (l .holds) e (first-stays ls ms n)
-  where
-    go : (b : Bool) → elim b [ true ↦ l .number | false ↦ firstOf ls ] ≡ suc n → (firstOf ls ≡ suc n → firstOf (ls ++ ms) ≡ suc n) → elim b [ true ↦ l .number | false ↦ firstOf (ls ++ ms) ] ≡ suc n
-    go true h ih = h
-    go false h ih = ih h
-
 not-eleven : (f : List ℕ) → refusal f ≡ 11 → ⊥
 unfolding refusal openingLines frontLines without
 not-eleven f e =
@@ -94,32 +89,39 @@ unfolding saveRefusal saveLines refusal
 save-refused f bytes out o n m e g h =
     let (j, a, b) = open-refuses f n (sym e ∙ g) in
     let c : m ≡ suc j = h ∙ ap openRefusal g ∙ a in
-    sym (answer-by f bytes out (suc j) (first-stays (openingLines f) _ j b)
+    sym (answer-by f bytes out (suc j) (lines-first (openingLines f) _ j b)
     ∙ answer-refused (suc j) _ _ out (λ z. omega arith) (λ z. not-eleven f (b ∙ z))
     ∙ ap (λ (z : ℕ). outcome (saved.Refused z) out) (sym c))
 
 -- ── The sheet ──
 
-sheet-read : (bytes : List ℕ) (cs : List Change) (m : ℕ) → exactly sheet bytes ≡ good cs m → (length cs ≤ 64) × (changesAt bytes 1 (length cs) ≡ cs)
+-- changes that were read are whole rows
+changes-whole : (bytes : List ℕ) (n m : ℕ) (cs : List Change) → times n change (drop 1 bytes) ≡ good cs m → length (changeNamesAt bytes n) ≡ n
+changes-whole bytes n m cs e =
+    let l = times-led change (rowName row.Change) (λ c. c .name) change-row n (drop 1 bytes) cs m e in
+    ap length (names-times n (rowName row.Change) (drop 1 bytes) (map (λ c. c .name) cs) m l) ∙ times-length (rowName row.Change) n (drop 1 bytes) (map (λ c. c .name) cs) m l
+
+sheet-read : (bytes : List ℕ) (cs : List Change) (m : ℕ) → exactly sheet bytes ≡ good cs m → (length cs ≤ 64) × (changesAt bytes 1 (length cs) ≡ cs) × (distinctNames bytes 1 (length cs) row.Change ≡ true) × (length (changeNamesAt bytes (length cs)) ≡ length cs)
 unfolding sheet
 sheet-read bytes cs m e =
-    then-parts (only (within 0 mostChanges) (number 1)) (λ n. times n change) bytes cs m (only-parts (λ ds. distinct (changeNames ds)) (only (within 0 mostChanges) (number 1) then λ n. times n change) bytes cs m (exactly-good (only (λ ds. distinct (changeNames ds)) (only (within 0 mostChanges) (number 1) then λ n. times n change)) bytes cs m e .0) .0) (λ c a k f g h.
+    let (x, y) = only-parts (λ ds. distinct (changeNames ds)) (only (within 0 mostChanges) (number 1) then λ n. times n change) bytes cs m (exactly-good (only (λ ds. distinct (changeNames ds)) (only (within 0 mostChanges) (number 1) then λ n. times n change)) bytes cs m e .0) in
+    then-parts (only (within 0 mostChanges) (number 1)) (λ n. times n change) bytes cs m x (λ c a k f g h.
     let p = only-parts (within 0 mostChanges) (number 1) bytes c a f in
     let l = leb-true c mostChanges (both-true (leb 0 c) (leb c mostChanges) (p .1) .1) in
     let q : 1 ≡ a = number-good 1 bytes c a (p .0) .2 in
     let o : length cs ≡ c = times-length change c (drop a bytes) cs k g in
-    (omega arith, rw o (changes-are bytes 1 c k cs (rw q g))))
+    (omega arith, rw o (changes-are bytes 1 c k cs (rw q g)), rw o (distinct-changes bytes 1 c k cs (rw q g) ∙ y), rw o (changes-whole bytes c k cs (rw q g))))
 
-sheet-known : (bytes : List ℕ) (s : Sheet) (k : ℕ) → s ≡ sheetOf (exactly sheet bytes) → s ≡ sheet.Whole k → (isBad (exactly sheet bytes) ≡ false) × (k ≤ 64) × (changesAt bytes 1 k ≡ changesOf bytes)
+sheet-known : (bytes : List ℕ) (s : Sheet) (k : ℕ) → s ≡ sheetOf (exactly sheet bytes) → s ≡ sheet.Whole k → (isBad (exactly sheet bytes) ≡ false) × (k ≤ 64) × (changesAt bytes 1 k ≡ changesOf bytes) × (distinctNames bytes 1 k row.Change ≡ true) × (length (changeNamesAt bytes k) ≡ k)
 unfolding changesOf valueOr sheetOf
 sheet-known bytes s k e f = go (exactly sheet bytes) refl (sym e ∙ f)
   where
-    go : (p : Parsed (List Change)) → exactly sheet bytes ≡ p → sheetOf p ≡ sheet.Whole k → (isBad p ≡ false) × (k ≤ 64) × (changesAt bytes 1 k ≡ valueOr [] p)
+    go : (p : Parsed (List Change)) → exactly sheet bytes ≡ p → sheetOf p ≡ sheet.Whole k → (isBad p ≡ false) × (k ≤ 64) × (changesAt bytes 1 k ≡ valueOr [] p) × (distinctNames bytes 1 k row.Change ≡ true) × (length (changeNamesAt bytes k) ≡ k)
     go bad g h = let z : _≡_ {A = ℕ} 0 1 = cc in absurd (omega arith)
     go (good cs m) g h =
-        let (l, p) = sheet-read bytes cs m g in
+        let (l, p, d, w) = sheet-read bytes cs m g in
         let q : length cs ≡ k = cc in
-        (refl, omega arith, rw (← q) p)
+        (refl, omega arith, rw (← q) p, rw (← q) d, rw (← q) w)
 
 sheet-is-bad : (p : Parsed (List Change)) → sheetOf p ≡ sheet.Broken → isBad p ≡ true
 unfolding sheetOf
@@ -182,24 +184,57 @@ module _ (f : List ℕ) (o : Opening) (held : Held) (e : o ≡ openOf f) (g : o 
       ∙ answer-refused 10 _ _ out (λ z. omega arith) (λ z. omega arith))
 
   module _ (bytes : List ℕ) (s : Sheet) (k : ℕ) (h : s ≡ sheetOf (exactly sheet bytes)) (i : s ≡ sheet.Whole k) where
+    pub save-few : held .«user_tags» ≤ 1000
+    save-few = tags-found .1
+
+    pub save-behind : 0 < held .user + 4
+    save-behind = omega arith
+
+    pub save-changes : k ≤ 64
+    save-changes = sheet-known bytes s k h i .1
+
+    pub save-apart : distinctNames bytes 1 k row.Change ≡ true
+    save-apart = sheet-known bytes s k h i .3
+
+    pub save-whole : length (changeNamesAt bytes k) ≡ k
+    save-whole = sheet-known bytes s k h i .4
+
     look-is : lookedAt f (held .user + 4) (held .«user_tags») bytes k ≡ cond (someConflict (userTags f) (changesOf bytes)) (looked.Conflict (0 + conflictPlace (userTags f) (changesOf bytes))) looked.Agrees
     unfolding lookedAt
     look-is = rw (tags-found .2, sheet-known bytes s k h i .2) (looked-is (userTags f) (changesOf bytes) 0)
 
-    pub save-conflict : (out : List ℕ) (l : Looked) (p : ℕ) → l ≡ lookedAt f (held .user + 4) (held .«user_tags») bytes k → l ≡ looked.Conflict p → outcome (saved.Conflict p) out ≡ saveOf f bytes out
-    save-conflict out l p a b =
-        let (c, d) = conflict-some (someConflict (userTags f) (changesOf bytes)) _ p (sym look-is ∙ sym a ∙ b) in
+    conflict-is : (out : List ℕ) (p : ℕ) → lookedAt f (held .user + 4) (held .«user_tags») bytes k ≡ looked.Conflict p → outcome (saved.Conflict p) out ≡ saveOf f bytes out
+    conflict-is out p b =
+        let (c, d) = conflict-some (someConflict (userTags f) (changesOf bytes)) _ p (sym look-is ∙ b) in
         let j : conflictPlace (userTags f) (changesOf bytes) ≡ p = omega arith in
         sym (answer-by f bytes out 11 (opened-lines bytes (length out) ∙ line-pass 10 _ _ (sheet-known bytes s k h i .0) ∙ line-holds 11 _ _ c)
         ∙ answer-conflict _ _ out ∙ ap (λ (z : ℕ). outcome (saved.Conflict z) out) j)
 
-    pub save-applied : (out o′ : List ℕ) (l : Looked) (r : Saved) → l ≡ lookedAt f (held .user + 4) (held .«user_tags») bytes k → l ≡ looked.Agrees → outcome r o′ ≡ appliedAt f (held .user + 4) (held .«user_tags») bytes k out → outcome r o′ ≡ saveOf f bytes out
-    unfolding appliedAt appliedIn newTable
-    save-applied out o′ l r a b c =
-        let d = agree-none (someConflict (userTags f) (changesOf bytes)) _ (sym look-is ∙ sym a ∙ b) in
-        c
-        ∙ rw (le-ltb mostTags (held .«user_tags») (tags-found .1), le-ltb mostChanges k (sheet-known bytes s k h i .1), tags-found .2, sheet-known bytes s k h i .2)
+    applied-is : (out : List ℕ) → lookedAt f (held .user + 4) (held .«user_tags») bytes k ≡ looked.Agrees → appliedIn f (held .user + 4) (held .«user_tags») bytes k out ≡ saveOf f bytes out
+    unfolding appliedIn newTable
+    applied-is out b =
+        let d = agree-none (someConflict (userTags f) (changesOf bytes)) _ (sym look-is ∙ b) in
+        rw (tags-found .2, sheet-known bytes s k h i .2)
         (sym (answer-by f bytes out _ (opened-lines bytes (length out) ∙ line-pass 10 _ _ (sheet-known bytes s k h i .0) ∙ line-pass 11 _ _ d)
         ∙ answer-applied (conflictPlace (userTags f) (changesOf bytes)) (newTable f bytes) out))
 
-pub ruleset laws = (needs, save-refused, user-fits, save-bad-sheet, save-conflict, save-applied)
+    pub save-saved : (out o′ : List ℕ) (r : Saved) → outcome r o′ ≡ savedIn f (held .user + 4) (held .«user_tags») bytes k out → outcome r o′ ≡ saveOf f bytes out
+    unfolding savedIn afterLook
+    save-saved out o′ r c = c ∙ go (lookedAt f (held .user + 4) (held .«user_tags») bytes k) refl
+      where
+        go : (l : Looked) → lookedAt f (held .user + 4) (held .«user_tags») bytes k ≡ l → afterLook l (appliedIn f (held .user + 4) (held .«user_tags») bytes k out) out ≡ saveOf f bytes out
+        go looked.Agrees e = applied-is out e
+        go (looked.Conflict p) e = conflict-is out p e
+
+-- ── The look, and the new table ──
+
+module _ (table : List ℕ) (at n : ℕ) (sheet : List ℕ) (k : ℕ) (ps : List ℕ) (l : Looked) (w : Placed table at n sheet k ps) (e : l ≡ lookedBy table (beside ps (changesAt sheet 1 k)) 0) where
+  pub saved-conflict : (out : List ℕ) (p : ℕ) → l ≡ looked.Conflict p → outcome (saved.Conflict p) out ≡ savedIn table at n sheet k out
+  unfolding savedIn afterLook
+  saved-conflict out p f = sym (rw (← looks table at n sheet k ps w, ← e, f))
+
+  pub saved-applied : (out o : List ℕ) (r : Saved) → l ≡ looked.Agrees → outcome r o ≡ appliedIn table at n sheet k out → outcome r o ≡ savedIn table at n sheet k out
+  unfolding savedIn afterLook
+  saved-applied out o r f g = g ∙ sym (rw (← looks table at n sheet k ps w, ← e, f))
+
+pub ruleset laws = (needs, tags-named, tags-placed, saved-conflict, saved-applied, save-refused, user-fits, save-bad-sheet, save-few, save-behind, save-changes, save-apart, save-whole, save-saved)

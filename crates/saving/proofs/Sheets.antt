@@ -20,11 +20,11 @@ use Rattle.text.specs.declared.Text.the-variants as text
 use Rattle.text.specs.declared.Place.{Place}
 use Rattle.text.specs.declared.Place.the-variants as place
 use Rattle.text.specs.declared.Row.the-variants as row
-use Rattle.layout.proofs.Readers.{exactly-is}
+use Rattle.layout.proofs.Readers.{exactly-is, then-takes}
 use Rattle.text.proofs.Laws.{textOf-broken, only-bad, only-pass, only-fail, inside, above}
 use Rattle.text.proofs.Rows.{then-bad, then-good, then-end, entry-kind, number-there, number-cut, end-good, end-bad}
 use Rattle.text.proofs.Times.{times-end, times-stop, times-done, times-length}
-use Rattle.text.proofs.Readers.{then-both, distinct-changes}
+use Rattle.text.proofs.Readers.{distinct-changes}
 use Rattle.text.proofs.Tables.{legal-parts, legal-place, legal-after}
 use Rattle.saving.specs.Sheet.{sheetOf}
 use Rattle.saving.specs.declared.Sheet.the-variants as sheet
@@ -177,7 +177,7 @@ sheet-broken s n t l e h f g =
     sheet-bad s (then-good (only (within 0 mostChanges) (number 1)) (λ n. times n change) s n 1 (count-good s n l e h) ∙ rw (end-bad (times n change (drop 1 s)) 1 (sym f ∙ g)))
 
 changes-good : (s : List ℕ) (n m : ℕ) (cs : List Change) → 1 ≤ length s → n ≡ readAt s 0 1 → n ≤ 64 → times n change (drop 1 s) ≡ good cs m → Counted s ≡ good cs (1 + m)
-changes-good s n m cs l e h f = then-both (only (within 0 mostChanges) (number 1)) (λ n. times n change) s n cs 1 m (count-good s n l e h) f
+changes-good s n m cs l e h f = then-takes (only (within 0 mostChanges) (number 1)) (λ n. times n change) s n cs 1 m (count-good s n l e h) f
 
 pub sheet-longer : (s : List ℕ) (n end : ℕ) (t : Place) → 1 ≤ length s → n ≡ readAt s 0 1 → n ≤ 64 → t ≡ endOf 1 (times n change (drop 1 s)) → t ≡ place.End end → (end ≡ length s → ⊥) → sheet.Broken ≡ sheetOf (exactly sheet s)
 unfolding sheet sheetOf

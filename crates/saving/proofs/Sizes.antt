@@ -1,10 +1,10 @@
 -- How much the new table takes, and that it is stored part by part.
 -- Assumes nothing.
-use Prim.Native.Nat.{ℕ, suc, _+_, _-_, _^_, _<_, _≤_}
+use Prim.Native.Nat.{ℕ, _+_, _-_, _^_, _<_, _≤_}
 use native.Mathlib.Omega.{arith}
 use mathlib.Core.Path.{_≡_, refl, ap, sym, _∙_}
 use mathlib.Core.List.{List, [], _∷_, _++_, flatMap}
-use lib.ListN.{length, take, drop, length-append, length-drop, set}
+use lib.ListN.{length, take, drop, getD, length-append, length-drop}
 use lib.Seq.{length-take-le, sets, length-sets}
 use borrow.Author.Needs.{needs}
 use borrow.Author.Tests.{lt-ltb, le-ltb}
@@ -19,10 +19,11 @@ use Rattle.text.proofs.Laws.{copied-there}
 use Rattle.layout.specs.Reading.{Reader}
 use Rattle.layout.proofs.Outputs
 use Rattle.saving.specs.Rows.{rows, rowWith, tagsAt, changesAt}
-use Rattle.saving.specs.Parts.{keptPart, newPart, partBytes, Makes, tagsIn, adding, sizeOf, plus, keptBytes, newBytes, Written}
+use Rattle.saving.specs.Places.{Beside, pair, beside}
+use Rattle.saving.specs.Parts.{keptBy, newBy, partBytes, Makes, tagsIn, adding, sizeOf, plus, keptBytes, newBytes, Written}
 use Rattle.saving.specs.declared.Part.{Part}
 use Rattle.saving.specs.declared.Size.{Size}
-use Rattle.saving.proofs.Looks.{rows-done, rows-stop, rows-step}
+use Rattle.saving.proofs.Looks.{beside-done, beside-stop, beside-step}
 use Rattle.saving.proofs.Parts.{row-known, row-string}
 
 -- ── Sizes ──
@@ -68,15 +69,15 @@ pub tags-one : (n : ℕ) → 0 < n → 1 ≡ tagsIn n
 unfolding tagsIn
 tags-one n h = rw (lt-ltb 0 n h)
 
--- of rows, one by one
-pub size-done : {A : Type 0} (p : Reader A) (part : A → List ℕ) (s : List ℕ) (at left a b : ℕ) (all : Size) → left ≤ 0 → plus a b (sizeOf part (rows left p (drop at s))) ≡ all → record { tags = a; bytes = b } ≡ all
-size-done p part s at left a b all h e = size-end part a b _ all (rows-done p s at left h) e
+-- of rows with a place beside each, one by one
+pub size-done : {A : Type 0} (p : Reader A) (part : Beside A → List ℕ) (ps s : List ℕ) (i at left a b : ℕ) (all : Size) → left ≤ 0 → plus a b (sizeOf part (beside (drop i ps) (rows left p (drop at s)))) ≡ all → record { tags = a; bytes = b } ≡ all
+size-done p part ps s i at left a b all h e = size-end part a b _ all (beside-done p ps s i at left h) e
 
-pub size-stop : {A : Type 0} (k : Row) (make : List ℕ → List ℕ → A) (part : A → List ℕ) (s : List ℕ) (at left a b : ℕ) (r : RowPlace) (all : Size) → r ≡ rowOf at (rowName k (drop at s)) → r ≡ rowPlace.Broken → plus a b (sizeOf part (rows left (rowWith k make) (drop at s))) ≡ all → record { tags = a; bytes = b } ≡ all
-size-stop k make part s at left a b r all f g e = size-end part a b _ all (rows-stop k make s at left r f g) e
+pub size-stop : {A : Type 0} (k : Row) (make : List ℕ → List ℕ → A) (part : Beside A → List ℕ) (ps s : List ℕ) (i at left a b : ℕ) (r : RowPlace) (all : Size) → r ≡ rowOf at (rowName k (drop at s)) → r ≡ rowPlace.Broken → plus a b (sizeOf part (beside (drop i ps) (rows left (rowWith k make) (drop at s)))) ≡ all → record { tags = a; bytes = b } ≡ all
+size-stop k make part ps s i at left a b r all f g e = size-end part a b _ all (beside-stop k make ps s i at left r f g) e
 
-pub size-step : {A : Type 0} (k : Row) (make : List ℕ → List ℕ → A) (part : A → List ℕ) (s t : List ℕ) (at left len end a b d : ℕ) (r : RowPlace) (p : Part) (all : Size) → 0 < left → r ≡ rowOf at (rowName k (drop at s)) → r ≡ rowPlace.Whole len end → Makes s at t p (part (make (take len (drop (at + 1) s)) (drop (at + 1 + len) s))) → d ≡ tagsIn (p .first + p .second) → plus a b (sizeOf part (rows left (rowWith k make) (drop at s))) ≡ all → plus (a + d) (b + (p .first + p .second)) (sizeOf part (rows (left - 1) (rowWith k make) (drop end s))) ≡ all
-size-step k make part s t at left len end a b d r p all h f g m e i = size-more part a b d _ _ _ s t at p all (rows-step k make s at left len end r h f g) m e i
+pub size-step : {A : Type 0} (k : Row) (make : List ℕ → List ℕ → A) (part : Beside A → List ℕ) (ps s t : List ℕ) (i at left len end a b d : ℕ) (r : RowPlace) (p : Part) (all : Size) → 0 < left → i + left ≤ length ps → r ≡ rowOf at (rowName k (drop at s)) → r ≡ rowPlace.Whole len end → Makes s at t p (part (pair (getD ps i 0) (make (take len (drop (at + 1) s)) (drop (at + 1 + len) s)))) → d ≡ tagsIn (p .first + p .second) → plus a b (sizeOf part (beside (drop i ps) (rows left (rowWith k make) (drop at s)))) ≡ all → plus (a + d) (b + (p .first + p .second)) (sizeOf part (beside (drop (i + 1) ps) (rows (left - 1) (rowWith k make) (drop end s)))) ≡ all
+size-step k make part ps s t i at left len end a b d r p all h l f g m e j = size-more part a b d _ _ _ s t at p all (beside-step k make ps s i at left len end r h l f g) m e j
 
 -- ── Storing ──
 
@@ -141,33 +142,33 @@ storing-room part x xs ys s t at p to out before start bytes e m g =
     omega arith
 
 -- rows, one by one
-pub kept-write-start : (table sheet out : List ℕ) (at n k start : ℕ) → start + length (keptBytes table at n sheet k) ≤ length out → Storing start (flatMap (keptPart (changesAt sheet 1 k)) (tagsAt table at n)) out out start (keptBytes table at n sheet k)
+pub kept-write-start : (table sheet named out : List ℕ) (at n start : ℕ) → start + length (keptBytes table at n sheet named) ≤ length out → Storing start (flatMap (keptBy sheet) (beside named (tagsAt table at n))) out out start (keptBytes table at n sheet named)
 unfolding keptBytes
-kept-write-start table sheet out at n k start h = record { room = h; place = refl; long = refl; stored = refl }
+kept-write-start table sheet named out at n start h = record { room = h; place = refl; long = refl; stored = refl }
 
-pub new-write-start : (table sheet out : List ℕ) (at n k start : ℕ) → start + length (newBytes table at n sheet k) ≤ length out → Storing start (flatMap (newPart (tagsAt table at n)) (changesAt sheet 1 k)) out out start (newBytes table at n sheet k)
+pub new-write-start : (sheet places out : List ℕ) (k start : ℕ) → start + length (newBytes sheet k places) ≤ length out → Storing start (flatMap newBy (beside places (changesAt sheet 1 k))) out out start (newBytes sheet k places)
 unfolding newBytes
-new-write-start table sheet out at n k start h = record { room = h; place = refl; long = refl; stored = refl }
+new-write-start sheet places out k start h = record { room = h; place = refl; long = refl; stored = refl }
 
-pub write-done : {A : Type 0} (p : Reader A) (part : A → List ℕ) (s : List ℕ) (at left to : ℕ) (out before : List ℕ) (start : ℕ) (bytes : List ℕ) → left ≤ 0 → Storing to (flatMap part (rows left p (drop at s))) out before start bytes → Written to before out start bytes
+pub write-done : {A : Type 0} (p : Reader A) (part : Beside A → List ℕ) (ps s : List ℕ) (i at left to : ℕ) (out before : List ℕ) (start : ℕ) (bytes : List ℕ) → left ≤ 0 → Storing to (flatMap part (beside (drop i ps) (rows left p (drop at s)))) out before start bytes → Written to before out start bytes
 unfolding flatMap
-write-done p part s at left to out before start bytes h g = storing-end to _ out before start bytes (ap (flatMap part) (rows-done p s at left h)) g
+write-done p part ps s i at left to out before start bytes h g = storing-end to _ out before start bytes (ap (flatMap part) (beside-done p ps s i at left h)) g
 
-pub write-stop : {A : Type 0} (k : Row) (make : List ℕ → List ℕ → A) (part : A → List ℕ) (s : List ℕ) (at left to : ℕ) (out before : List ℕ) (start : ℕ) (bytes : List ℕ) (r : RowPlace) → r ≡ rowOf at (rowName k (drop at s)) → r ≡ rowPlace.Broken → Storing to (flatMap part (rows left (rowWith k make) (drop at s))) out before start bytes → Written to before out start bytes
+pub write-stop : {A : Type 0} (k : Row) (make : List ℕ → List ℕ → A) (part : Beside A → List ℕ) (ps s : List ℕ) (i at left to : ℕ) (out before : List ℕ) (start : ℕ) (bytes : List ℕ) (r : RowPlace) → r ≡ rowOf at (rowName k (drop at s)) → r ≡ rowPlace.Broken → Storing to (flatMap part (beside (drop i ps) (rows left (rowWith k make) (drop at s)))) out before start bytes → Written to before out start bytes
 unfolding flatMap
-write-stop k make part s at left to out before start bytes r e f g = storing-end to _ out before start bytes (ap (flatMap part) (rows-stop k make s at left r e f)) g
+write-stop k make part ps s i at left to out before start bytes r e f g = storing-end to _ out before start bytes (ap (flatMap part) (beside-stop k make ps s i at left r e f)) g
 
-pub write-step : {A : Type 0} (k : Row) (make : List ℕ → List ℕ → A) (part : A → List ℕ) (s t : List ℕ) (at left len end to : ℕ) (p : Part) (out out₁ before : List ℕ) (start : ℕ) (bytes : List ℕ) (r : RowPlace) → 0 < left → r ≡ rowOf at (rowName k (drop at s)) → r ≡ rowPlace.Whole len end → Makes s at t p (part (make (take len (drop (at + 1) s)) (drop (at + 1 + len) s))) → out₁ ≡ sets out to (partBytes s at t p) → Storing to (flatMap part (rows left (rowWith k make) (drop at s))) out before start bytes → Storing (to + (p .first + p .second)) (flatMap part (rows (left - 1) (rowWith k make) (drop end s))) out₁ before start bytes
-write-step k make part s t at left len end to p out out₁ before start bytes r h e f m o g =
-    storing-more part _ _ _ s t at p to out out₁ before start bytes (rows-step k make s at left len end r h e f) m o g
+pub write-step : {A : Type 0} (k : Row) (make : List ℕ → List ℕ → A) (part : Beside A → List ℕ) (ps s t : List ℕ) (i at left len end to : ℕ) (p : Part) (out out₁ before : List ℕ) (start : ℕ) (bytes : List ℕ) (r : RowPlace) → 0 < left → i + left ≤ length ps → r ≡ rowOf at (rowName k (drop at s)) → r ≡ rowPlace.Whole len end → Makes s at t p (part (pair (getD ps i 0) (make (take len (drop (at + 1) s)) (drop (at + 1 + len) s)))) → out₁ ≡ sets out to (partBytes s at t p) → Storing to (flatMap part (beside (drop i ps) (rows left (rowWith k make) (drop at s)))) out before start bytes → Storing (to + (p .first + p .second)) (flatMap part (beside (drop (i + 1) ps) (rows (left - 1) (rowWith k make) (drop end s)))) out₁ before start bytes
+write-step k make part ps s t i at left len end to p out out₁ before start bytes r h l e f m o g =
+    storing-more part _ _ _ s t at p to out out₁ before start bytes (beside-step k make ps s i at left len end r h l e f) m o g
 
-pub write-room : {A : Type 0} (k : Row) (make : List ℕ → List ℕ → A) (part : A → List ℕ) (s t : List ℕ) (at left len end to : ℕ) (p : Part) (out before : List ℕ) (start : ℕ) (bytes : List ℕ) (r : RowPlace) → 0 < left → r ≡ rowOf at (rowName k (drop at s)) → r ≡ rowPlace.Whole len end → Makes s at t p (part (make (take len (drop (at + 1) s)) (drop (at + 1 + len) s))) → Storing to (flatMap part (rows left (rowWith k make) (drop at s))) out before start bytes → to + (p .first + p .second) ≤ length out
-write-room k make part s t at left len end to p out before start bytes r h e f m g =
-    storing-room part _ _ _ s t at p to out before start bytes (rows-step k make s at left len end r h e f) m g
+pub write-room : {A : Type 0} (k : Row) (make : List ℕ → List ℕ → A) (part : Beside A → List ℕ) (ps s t : List ℕ) (i at left len end to : ℕ) (p : Part) (out before : List ℕ) (start : ℕ) (bytes : List ℕ) (r : RowPlace) → 0 < left → i + left ≤ length ps → r ≡ rowOf at (rowName k (drop at s)) → r ≡ rowPlace.Whole len end → Makes s at t p (part (pair (getD ps i 0) (make (take len (drop (at + 1) s)) (drop (at + 1 + len) s)))) → Storing to (flatMap part (beside (drop i ps) (rows left (rowWith k make) (drop at s)))) out before start bytes → to + (p .first + p .second) ≤ length out
+write-room k make part ps s t i at left len end to p out before start bytes r h l e f m g =
+    storing-room part _ _ _ s t at p to out before start bytes (beside-step k make ps s i at left len end r h l e f) m g
 
-pub write-fits : {A : Type 0} (k : Row) (make : List ℕ → List ℕ → A) (part : A → List ℕ) (s t : List ℕ) (at left len end to : ℕ) (p : Part) (out before : List ℕ) (start : ℕ) (bytes : List ℕ) (r : RowPlace) → length out < 2 ^ 64 → 0 < left → r ≡ rowOf at (rowName k (drop at s)) → r ≡ rowPlace.Whole len end → Makes s at t p (part (make (take len (drop (at + 1) s)) (drop (at + 1 + len) s))) → Storing to (flatMap part (rows left (rowWith k make) (drop at s))) out before start bytes → Fits w64 (to + (p .first + p .second))
-write-fits k make part s t at left len end to p out before start bytes r l h e f m g =
-    let room = write-room k make part s t at left len end to p out before start bytes r h e f m g in
+pub write-fits : {A : Type 0} (k : Row) (make : List ℕ → List ℕ → A) (part : Beside A → List ℕ) (ps s t : List ℕ) (i at left len end to : ℕ) (p : Part) (out before : List ℕ) (start : ℕ) (bytes : List ℕ) (r : RowPlace) → length out < 2 ^ 64 → 0 < left → i + left ≤ length ps → r ≡ rowOf at (rowName k (drop at s)) → r ≡ rowPlace.Whole len end → Makes s at t p (part (pair (getD ps i 0) (make (take len (drop (at + 1) s)) (drop (at + 1 + len) s)))) → Storing to (flatMap part (beside (drop i ps) (rows left (rowWith k make) (drop at s)))) out before start bytes → Fits w64 (to + (p .first + p .second))
+write-fits k make part ps s t i at left len end to p out before start bytes r w h l e f m g =
+    let room = write-room k make part ps s t i at left len end to p out before start bytes r h l e f m g in
     record { fits = omega arith }
 
 pub ruleset laws = (needs, row-known, row-string, size-start, tags-none, tags-one, size-done, size-stop, size-step, put-both, kept-write-start, new-write-start, write-done, write-stop, write-step, write-room, write-fits)

@@ -29,6 +29,7 @@ use Rattle.text.proofs.Laws.{string-parts, textOf-broken, part-length}
 use Rattle.text.proofs.Rows.{end-good, end-bad, row-parts, row-broken}
 use Rattle.text.proofs.Readers.{then-parts, give-parts}
 use Rattle.text.proofs.Places.{string-taken}
+use Rattle.text.proofs.Names.{row-name-place}
 use Rattle.saving.specs.Rows.{rows, rowWith, textEntry, textIn, entryIn, entryBehind, newIn, tagWithName, valueIn, Stands, Finds, made, tagHolds}
 use Rattle.saving.specs.declared.Value.{Value}
 use Rattle.saving.specs.declared.Value.the-variants as value
@@ -111,6 +112,10 @@ pub row-makes-none : {A : Type 0} (k : Row) (make : List ℕ → List ℕ → A)
 unfolding rowWith onward
 row-makes-none k make t e = rw e
 
+pub row-read : {A : Type 0} (k : Row) (make : List ℕ → List ℕ → A) (t v : List ℕ) (m : ℕ) → rowName k t ≡ good v m → rowWith k make t ≡ good (make v (drop (1 + length v) t)) m
+unfolding rowWith onward
+row-read k make t v m e = rw e
+
 -- ── The value of a tag ──
 
 pub tag-row-broken : (s : List ℕ) (at : ℕ) (r : RowPlace) → r ≡ rowOf at (rowName row.Tag (drop at s)) → r ≡ rowPlace.Broken → Finds s value.Nothing (tagHolds (rowWith row.Tag tagWithName (drop at s)))
@@ -135,9 +140,6 @@ tag-row-value s at len end r e f =
 pub tag-row-end : (s : List ℕ) (at len end : ℕ) (r : RowPlace) → r ≡ rowOf at (rowName row.Tag (drop at s)) → r ≡ rowPlace.Whole len end → at + 1 + len + 1 ≤ end
 tag-row-end s at len end r e f = tag-row-parts s at len end (sym e ∙ f) .0
 
-pub row-fits-1 : (k : Row) (s : List ℕ) (at len end : ℕ) (r : RowPlace) → length s < 2 ^ 64 → r ≡ rowOf at (rowName k (drop at s)) → r ≡ rowPlace.Whole len end → Fits w64 (at + 1)
-row-fits-1 k s at len end r h e f = let l = row-parts k s at len end (sym e ∙ f) .0 in record { fits = omega arith }
-
 pub row-fits-2 : (k : Row) (s : List ℕ) (at len end : ℕ) (r : RowPlace) → length s < 2 ^ 64 → r ≡ rowOf at (rowName k (drop at s)) → r ≡ rowPlace.Whole len end → Fits w64 (at + 1 + len)
 row-fits-2 k s at len end r h e f = let l = row-parts k s at len end (sym e ∙ f) .0 in record { fits = omega arith }
 
@@ -159,15 +161,15 @@ pub no-rows : {A : Type 0} (p : Reader A) (t : List ℕ) → rows 0 p t ≡ []
 unfolding rows
 no-rows p t = refl
 
-found-more : (name : List ℕ) (n : ℕ) (p : Reader (List ℕ)) (s : List ℕ) (i at : ℕ) (v : List ℕ) (m : ℕ) → p (drop at s) ≡ good v m → found name (suc n) p s i at ≡ cond (same name v) (found.At i at) (found name n p s (i + 1) (at + m))
+pub found-more : (name : List ℕ) (n : ℕ) (p : Reader (List ℕ)) (s : List ℕ) (i at : ℕ) (v : List ℕ) (m : ℕ) → p (drop at s) ≡ good v m → found name (suc n) p s i at ≡ cond (same name v) (found.At i at) (found name n p s (i + 1) (at + m))
 unfolding found
 found-more name n p s i at v m e = rw (e, found)
 
-found-none : (name : List ℕ) (n : ℕ) (p : Reader (List ℕ)) (s : List ℕ) (i at : ℕ) → p (drop at s) ≡ bad → found name (suc n) p s i at ≡ found.Nothing
+pub found-none : (name : List ℕ) (n : ℕ) (p : Reader (List ℕ)) (s : List ℕ) (i at : ℕ) → p (drop at s) ≡ bad → found name (suc n) p s i at ≡ found.Nothing
 unfolding found
 found-none name n p s i at e = rw (e, found)
 
-no-found : (name : List ℕ) (p : Reader (List ℕ)) (s : List ℕ) (i at : ℕ) → found name 0 p s i at ≡ found.Nothing
+pub no-found : (name : List ℕ) (p : Reader (List ℕ)) (s : List ℕ) (i at : ℕ) → found name 0 p s i at ≡ found.Nothing
 unfolding found
 no-found name p s i at = refl
 
@@ -195,4 +197,4 @@ module _ {A B : Type 0} (k : Row) (make : List ℕ → List ℕ → A) (name : L
   by-found zero s i at = rw (no-rows (rowWith k make) (drop at s), no-found name (rowName k) s i at) nil
   by-found (suc n) s i at = found-step n s i at (rowName k (drop at s)) refl (by-found n s)
 
-pub ruleset laws = (needs, entry-past, entry-text-broken, entry-text, entry-none, new-broken, new-there, tag-row-broken, tag-row-value, tag-row-end, row-fits-1, row-fits-2, tag-fits-3)
+pub ruleset laws = (needs, entry-past, entry-text-broken, entry-text, entry-none, new-broken, new-there, tag-row-broken, tag-row-value, tag-row-end, row-name-place, row-fits-2, tag-fits-3)

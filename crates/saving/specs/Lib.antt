@@ -1,4 +1,5 @@
 pub mod Sheet
 pub mod Rows
+pub mod Places
 pub mod Parts
 pub mod Save

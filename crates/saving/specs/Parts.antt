@@ -9,6 +9,7 @@ use lib.Dec.{ltb}
 use Rattle.layout.specs.Recording.{Tag, tagBytes, among, tagNames}
 use Rattle.layout.specs.Saving.{Change, newEntry, tagWith}
 use Rattle.saving.specs.Rows.{tagsAt, changesAt}
+use Rattle.saving.specs.Places.{Beside, beside, changedEntry}
 use Rattle.saving.specs.declared.Value.{Value}
 use Rattle.saving.specs.declared.Value.the-variants as value
 use Rattle.saving.specs.declared.Part.{Part}
@@ -21,6 +22,13 @@ keptPart cs t = flatMap tagBytes (tagWith (t .name) (newEntry cs t))
 -- the bytes of a change's new tag
 unfoldable pub newPart : List Tag → Change → List ℕ
 newPart ts c = flatMap tagBytes (cond (among (c .name) (tagNames ts)) [] (tagWith (c .name) (c .new)))
+
+-- the same by the place of a tag's change, and by that of a change's tag
+unfoldable pub keptBy : (sheet : List ℕ) → Beside Tag → List ℕ
+keptBy sheet t = flatMap tagBytes (tagWith (t .row .name) (changedEntry sheet t))
+
+unfoldable pub newBy : Beside Change → List ℕ
+newBy c = flatMap tagBytes (cond (ltb 0 (c .place)) [] (tagWith (c .row .name) (c .row .new)))
 
 -- ── As the code finds them ──
 
@@ -66,11 +74,11 @@ unfoldable pub plus : (tags bytes : ℕ) → Size → Size
 plus tags bytes s = record { tags = tags + s .tags; bytes = bytes + s .bytes }
 
 -- what is kept of the n tags from a place on, and what the changes add, in file form
-unfoldable pub keptBytes : (table : List ℕ) → (at n : ℕ) → (sheet : List ℕ) → (changes : ℕ) → List ℕ
-keptBytes table at n sheet k = flatMap (keptPart (changesAt sheet 1 k)) (tagsAt table at n)
+unfoldable pub keptBytes : (table : List ℕ) → (at n : ℕ) → (sheet : List ℕ) → (named : List ℕ) → List ℕ
+keptBytes table at n sheet named = flatMap (keptBy sheet) (beside named (tagsAt table at n))
 
-unfoldable pub newBytes : (table : List ℕ) → (at n : ℕ) → (sheet : List ℕ) → (changes : ℕ) → List ℕ
-newBytes table at n sheet k = flatMap (newPart (tagsAt table at n)) (changesAt sheet 1 k)
+unfoldable pub newBytes : (sheet : List ℕ) → (changes : ℕ) → (places : List ℕ) → List ℕ
+newBytes sheet k places = flatMap newBy (beside places (changesAt sheet 1 k))
 
 -- some bytes are stored from a place on, and an answer is where they end
 pub record Written (r : ℕ) (before after : List ℕ) (start : ℕ) (bytes : List ℕ) : Type 0 where

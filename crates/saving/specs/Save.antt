@@ -6,8 +6,10 @@ use lib.ListN.{length}
 use lib.Dec.{ltb, eqb}
 use Rattle.layout.specs.Recording.{Tag, mostTags, tableBytes}
 use Rattle.layout.specs.Recorder.{filled, noRoom}
-use Rattle.layout.specs.Saving.{Save, save, applied, mostChanges}
-use Rattle.saving.specs.Rows.{tagsAt, changesAt}
+use Rattle.layout.specs.Saving.{Save, save, applied}
+use Rattle.saving.specs.Rows.{tagsAt, changesAt, lookedAt}
+use Rattle.saving.specs.declared.Looked.{Looked}
+use Rattle.saving.specs.declared.Looked.the-variants as looked
 use Rattle.saving.specs.declared.Saved.{Saved}
 use Rattle.saving.specs.declared.Saved.the-variants as saved
 
@@ -29,10 +31,14 @@ appliedTo ts out =
 unfoldable pub appliedIn : (table : List ℕ) → (at n : ℕ) → (sheet : List ℕ) → (changes : ℕ) → (out : List ℕ) → Outcome
 appliedIn table at n sheet k out = appliedTo (applied (changesAt sheet 1 k) (tagsAt table at n)) out
 
--- so many tags stand in no table, 7, and so many changes in no sheet, 10; else their new table
-unfoldable pub appliedAt : (table : List ℕ) → (at n : ℕ) → (sheet : List ℕ) → (changes : ℕ) → (out : List ℕ) → Outcome
-appliedAt table at n sheet k out =
-    cond (ltb mostTags n) (outcome (saved.Refused 7) out) (cond (ltb mostChanges k) (outcome (saved.Refused 10) out) (appliedIn table at n sheet k out))
+-- what a save answers once its look is done
+unfoldable pub afterLook : Looked → (applied : Outcome) → (out : List ℕ) → Outcome
+afterLook looked.Agrees applied out = applied
+afterLook (looked.Conflict p) applied out = outcome (saved.Conflict p) out
+
+-- the look, and the new table where all seen entries agree
+unfoldable pub savedIn : (table : List ℕ) → (at n : ℕ) → (sheet : List ℕ) → (changes : ℕ) → (out : List ℕ) → Outcome
+savedIn table at n sheet k out = afterLook (lookedAt table at n sheet k) (appliedIn table at n sheet k out) out
 
 -- the length of the new table; 11 with its place; another number
 unfoldable pub savedBy : (refused : ℕ) → Save → Saved

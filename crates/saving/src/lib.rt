@@ -7,30 +7,32 @@ use text::Row;
 use text::RowPlace;
 use text::Text;
 ghost use mathlib.Core.Path.{_≡_};
-ghost use mathlib.Core.List.{_++_};
+ghost use mathlib.Core.Bool.{true};
+ghost use mathlib.Core.List.{[], _∷_, _++_, map};
 ghost use Prim.Native.Nat.{_+_, _*_, _<_, _≤_};
 ghost use lib.ListN.{length, take, drop};
 ghost use lib.Seq.{sets};
 ghost use Rattle.number.specs.Number.{bytesOf};
+ghost use Rattle.marks.specs.Marks.{markFor, markOf};
+ghost use Rattle.layout.specs.Recording.{among};
 ghost use Rattle.layout.specs.Reading.{_then_, number, times, exactly, string};
-ghost use Rattle.layout.specs.Saving.{entryOf, seenOf, change, sheet, lookUp, sameEntry, conflicts};
+ghost use Rattle.layout.specs.Saving.{entryOf, seenOf, change, sheet, sameEntry};
 ghost use Rattle.text.specs.Text.{textOf};
-ghost use Rattle.text.specs.Rows.{endOf, rowName, rowOf};
+ghost use Rattle.text.specs.Rows.{endOf, rowName, rowOf, names, findName, distinctNames, covers};
 ghost use Rattle.saving.specs.Sheet.{sheetOf};
-ghost use Rattle.saving.specs.Save.{outcome, appliedIn, appliedAt, saveOf};
-ghost use Rattle.saving.specs.Parts.{keptPart, newPart, partWith, Short, Makes, tagsIn, sizeOf, partBytes, keptBytes, newBytes, Written};
-ghost use Rattle.saving.specs.Rows.{rowWith, entryIn, newIn, tagWithName, changeWithName, tagsAt, changesAt, valueIn, Stands, Finds, tagHolds, changeMakes, lookedAt, isNothing};
-
-const MOST_CHANGES: usize = 64;
+ghost use Rattle.saving.specs.Save.{outcome, appliedIn, savedIn, saveOf};
+ghost use Rattle.saving.specs.Parts.{keptBy, newBy, partWith, Short, Makes, tagsIn, sizeOf, partBytes, keptBytes, newBytes, Written};
+ghost use Rattle.saving.specs.Rows.{rowWith, entryIn, newIn, tagWithName, changeWithName, tagsAt, changesAt, valueIn, Stands, Finds, tagHolds, changeMakes, isNothing};
+ghost use Rattle.saving.specs.Places.{pair, beside, tagEntry, differs, lookedBy, placeFound, noted, listed, walked, changePlace, changeFound, tagNamesAt, changeNamesAt, allMarked, changeMark, changeStart, stored, Known, Named, Placed};
 
 // A change sheet: its number of changes.
-pub enum Sheet {
+enum Sheet {
     Whole(usize),
     Broken,
 }
 
 // Whether the seen entries agree with the table, or the lowest place that does not, from 0.
-pub enum Looked {
+enum Looked {
     Agrees,
     Conflict(usize),
 }
@@ -134,7 +136,7 @@ fn changes_end(s: &[u8], at: usize, n: usize) -> Place
 }
 
 // "UInt8 number of changes, 0 to 64 ..; no name comes twice; nothing follows the last change."
-pub fn changes_of(s: &[u8]) -> Sheet
+fn changes_of(s: &[u8]) -> Sheet
     ensures { λ r. ⌜ r ≡ sheetOf (exactly sheet (now (s .entry))) ⌝ }
 {
     if s.len() < 1 {
@@ -142,7 +144,7 @@ pub fn changes_of(s: &[u8]) -> Sheet
     }
     let count = number::read(s, 0, 1);
     let n = count as usize;
-    if MOST_CHANGES < n {
+    if Header::MOST_CHANGES < n {
         return Sheet::Broken;
     }
     let changes = changes_end(s, 1, n);
@@ -157,6 +159,195 @@ pub fn changes_of(s: &[u8]) -> Sheet
     } else {
         Sheet::Broken
     }
+}
+
+// The place of a row that was found; 0, where none stands, for nothing.
+fn place_of(found: Found) -> usize
+    ensures { λ r. ⌜ r ≡ placeFound found ⌝ }
+{
+    match found {
+        Found::At(_, place) => place,
+        Found::Nothing => 0,
+    }
+}
+
+// Notes for the change that was found where its tag stands: the first one.
+fn note(places: &mut [usize], found: Found, tag: usize)
+    ensures { λ r. ⌜ now (places .exit) ≡ noted (now (places .entry)) found tag ⌝ }
+{
+    let Found::At(number, _) = found else {
+        return;
+    };
+    if places.len() <= number {
+        return;
+    }
+    if places[number] == 0 {
+        places[number] = tag;
+    }
+}
+
+// Marks the names of the sheet, so that a tag whose name is not marked needs no search; for each change, stores the mark of its name and where it starts.
+fn mark_names(
+    sheet: &[u8],
+    changes: usize,
+    marked: &mut [u64],
+    known: &mut [usize],
+    starts: &mut [usize],
+)
+    requires { ⌜ (changes ≤ length (now known)) × (changes ≤ length (now starts)) ⌝ }
+    ensures { λ r. ⌜ (now (marked .exit) ≡ allMarked (changeNamesAt (now (sheet .entry)) changes) (now (marked .entry))) × (now (known .exit) ≡ stored changeMark changes (now (sheet .entry)) 1 (now (known .entry)) 0) × (now (starts .exit) ≡ stored changeStart changes (now (sheet .entry)) 1 (now (starts .entry)) 0) ⌝ }
+{
+    let mut place = 1;
+    let mut passed = 0;
+    let mut left = changes;
+    while 0 < left {
+        let row = text::row_at(sheet, place, Row::Change);
+        let RowPlace::Whole(len, end) = row else {
+            return;
+        };
+        let mark = marks::mark_of(sheet, place + 1, len);
+        marks::mark(marked, mark);
+        known[passed] = mark;
+        starts[passed] = place;
+        place = end;
+        passed += 1;
+        left -= 1;
+    }
+}
+
+// Whether the change at a place has the name of `len` bytes that stands in the table. Names with other marks are not compared.
+fn is_named(
+    table: &[u8],
+    here: usize,
+    len: usize,
+    mark: usize,
+    sheet: &[u8],
+    place: usize,
+    known: usize,
+) -> bool
+    requires { ⌜ (here + len ≤ length (now table)) × (mark ≡ markOf (now table) here len) × (map markFor (names 1 (rowName Row.Change) (drop place (now sheet))) ≡ known ∷ []) ⌝ }
+    ensures { λ r. ⌜ r ≡ among (take len (drop here (now (table .entry)))) (names 1 (rowName Row.Change) (drop place (now (sheet .entry)))) ⌝ }
+{
+    if known == mark {} else {
+        return false;
+    }
+    let found = text::find_name(table, here, len, sheet, place, 1, Row::Change);
+    let Found::Nothing = found else {
+        return true;
+    };
+    false
+}
+
+// The change with the name of `len` bytes that stands in the table, by the marks and the places of all changes: no row is read but to compare its name.
+fn search_changes(
+    table: &[u8],
+    here: usize,
+    len: usize,
+    mark: usize,
+    sheet: &[u8],
+    changes: usize,
+    known: &[usize],
+    starts: &[usize],
+) -> Found
+    requires { ⌜ (here + len ≤ length (now table)) × (mark ≡ markOf (now table) here len) × Known (now sheet) 1 changes (now known) (now starts) 0 ⌝ }
+    ensures { λ r. ⌜ r ≡ findName (now (table .entry)) here len (now (sheet .entry)) 1 changes Row.Change ⌝ }
+{
+    let mut passed = 0;
+    let mut left = changes;
+    while 0 < left {
+        let place = starts[passed];
+        if is_named(table, here, len, mark, sheet, place, known[passed]) {
+            return Found::At(passed, place);
+        }
+        passed += 1;
+        left -= 1;
+    }
+    Found::Nothing
+}
+
+// The change with the name of `len` bytes that stands in the table.
+fn find_change(
+    table: &[u8],
+    here: usize,
+    len: usize,
+    sheet: &[u8],
+    changes: usize,
+    marked: &[u64],
+    known: &[usize],
+    starts: &[usize],
+) -> Found
+    requires { ⌜ (here + len ≤ length (now table)) × (covers (now marked) (changeNamesAt (now sheet) changes) ≡ true) × Known (now sheet) 1 changes (now known) (now starts) 0 ⌝ }
+    ensures { λ r. ⌜ r ≡ findName (now (table .entry)) here len (now (sheet .entry)) 1 changes Row.Change ⌝ }
+{
+    let mark = marks::mark_of(table, here, len);
+    if marks::marked(marked, mark) {} else {
+        return Found::Nothing;
+    }
+    search_changes(table, here, len, mark, sheet, changes, known, starts)
+}
+
+// Walks the table once for all changes: for each tag, where its change stands in the sheet; for each change, where its tag stands in the table.
+fn find_tags(
+    table: &[u8],
+    at: usize,
+    n: usize,
+    sheet: &[u8],
+    changes: usize,
+    marked: &[u64],
+    known: &[usize],
+    starts: &[usize],
+    named: &mut [usize],
+    places: &mut [usize],
+)
+    requires { ⌜ (n ≤ length (now named)) × (covers (now marked) (changeNamesAt (now sheet) changes) ≡ true) × Known (now sheet) 1 changes (now known) (now starts) 0 ⌝ }
+    ensures { λ r. ⌜ (now (named .exit) ≡ listed (changePlace (now (sheet .entry)) changes) (tagNamesAt (now (table .entry)) at n) (now (named .entry)) 0) × (now (places .exit) ≡ walked (changeFound (now (sheet .entry)) changes) n (now (table .entry)) at (now (places .entry))) ⌝ }
+{
+    let mut place = at;
+    let mut passed = 0;
+    let mut left = n;
+    while 0 < left {
+        let row = text::row_at(table, place, Row::Tag);
+        let RowPlace::Whole(len, end) = row else {
+            return;
+        };
+        let found = find_change(table, place + 1, len, sheet, changes, marked, known, starts);
+        named[passed] = place_of(found);
+        passed += 1;
+        note(places, found, place);
+        place = end;
+        left -= 1;
+    }
+}
+
+// The walk of the table, behind one of the sheet that tells its marks and places.
+fn place_tags(
+    table: &[u8],
+    at: usize,
+    n: usize,
+    sheet: &[u8],
+    changes: usize,
+    named: &mut [usize],
+    places: &mut [usize],
+)
+    requires { ⌜ (n ≤ length (now named)) × (changes ≤ 64) × (length (changeNamesAt (now sheet) changes) ≡ changes) ⌝ }
+    ensures { λ r. ⌜ (now (named .exit) ≡ listed (changePlace (now (sheet .entry)) changes) (tagNamesAt (now (table .entry)) at n) (now (named .entry)) 0) × (now (places .exit) ≡ walked (changeFound (now (sheet .entry)) changes) n (now (table .entry)) at (now (places .entry))) ⌝ }
+{
+    let mut marked = [0; marks::MARKS];
+    let mut known = [0; Header::MOST_CHANGES];
+    let mut starts = [0; Header::MOST_CHANGES];
+    mark_names(sheet, changes, &mut marked, &mut known, &mut starts);
+    find_tags(
+        table,
+        at,
+        n,
+        sheet,
+        changes,
+        &marked,
+        &known,
+        &starts,
+        named,
+        places,
+    );
 }
 
 // The value of an entry, by its kind byte.
@@ -198,16 +389,14 @@ fn tag_value(table: &[u8], place: usize) -> Value
     Value::At(place + 1 + len, end - (place + 1 + len + 1))
 }
 
-// What the n tags from a place on have under the name of `len` bytes that stands in `a`.
-fn look_up(a: &[u8], here: usize, len: usize, table: &[u8], at: usize, n: usize) -> Value
-    requires { ⌜ here + len ≤ length (now a) ⌝ }
-    ensures { λ r. ⌜ Finds (now (table .entry)) r (lookUp (take len (drop here (now (a .entry)))) (tagsAt (now (table .entry)) at n)) ⌝ }
+// What the tag at a place holds, or nothing for place 0.
+fn look_up(table: &[u8], tag: usize) -> Value
+    ensures { λ r. ⌜ Finds (now (table .entry)) r (tagEntry (now (table .entry)) tag) ⌝ }
 {
-    let found = text::find_name(a, here, len, table, at, n, Row::Tag);
-    let Found::At(number, place) = found else {
+    if tag == 0 {
         return Value::Nothing;
-    };
-    tag_value(table, place)
+    }
+    tag_value(table, tag)
 }
 
 // Whether two values are the same, or both are absent.
@@ -236,17 +425,17 @@ fn is_nothing(value: Value) -> bool
     }
 }
 
-// Whether what a change has seen is not what the table has under its name.
-fn disagrees(sheet: &[u8], place: usize, len: usize, table: &[u8], at: usize, n: usize) -> bool
+// Whether what a change has seen is not what the tag at a place holds.
+fn disagrees(sheet: &[u8], place: usize, len: usize, table: &[u8], tag: usize) -> bool
     requires { ⌜ place + 1 + len < length (now sheet) ⌝ }
-    ensures { λ r. ⌜ r ≡ conflicts (tagsAt (now (table .entry)) at n) (changeWithName (take len (drop (place + 1) (now (sheet .entry)))) (drop (place + 1 + len) (now (sheet .entry)))) ⌝ }
+    ensures { λ r. ⌜ r ≡ differs (tagEntry (now (table .entry)) tag) (changeWithName (take len (drop (place + 1) (now (sheet .entry)))) (drop (place + 1 + len) (now (sheet .entry)))) ⌝ }
 {
     let seen = place + 1 + len;
     if 1 < sheet[seen] {
         return false;
     }
     let value = entry_value(sheet, seen);
-    let old = look_up(sheet, place + 1, len, table, at, n);
+    let old = look_up(table, tag);
     if same_value(sheet, value, table, old) {
         false
     } else {
@@ -254,9 +443,10 @@ fn disagrees(sheet: &[u8], place: usize, len: usize, table: &[u8], at: usize, n:
     }
 }
 
-// "All seen entries are compared with the table before the save."
-pub fn compare(table: &[u8], at: usize, n: usize, sheet: &[u8], changes: usize) -> Looked
-    ensures { λ r. ⌜ r ≡ lookedAt (now (table .entry)) at n (now (sheet .entry)) changes ⌝ }
+// "All seen entries are compared with the table before the save." `places` has for each change where its tag stands.
+fn compare(table: &[u8], sheet: &[u8], changes: usize, places: &[usize]) -> Looked
+    requires { ⌜ changes ≤ length (now places) ⌝ }
+    ensures { λ r. ⌜ r ≡ lookedBy (now (table .entry)) (beside (now (places .entry)) (changesAt (now (sheet .entry)) 1 changes)) 0 ⌝ }
 {
     let mut place = 1;
     let mut passed = 0;
@@ -266,7 +456,7 @@ pub fn compare(table: &[u8], at: usize, n: usize, sheet: &[u8], changes: usize) 
         let RowPlace::Whole(len, end) = row else {
             return Looked::Agrees;
         };
-        if disagrees(sheet, place, len, table, at, n) {
+        if disagrees(sheet, place, len, table, places[passed]) {
             return Looked::Conflict(passed);
         }
         place = end;
@@ -306,43 +496,42 @@ fn changed_value(sheet: &[u8], at: usize) -> Value
     new_value(sheet, at + 1 + len)
 }
 
-// A tag of the table in the new one: "Kept tags keep their order and a changed tag its place; removed tags vanish".
+// A tag of the table in the new one, by the place of its change in the sheet, or 0: "Kept tags keep their order and a changed tag its place; removed tags
+// vanish".
 fn kept_part(
     table: &[u8],
     place: usize,
     len: usize,
     end: usize,
     sheet: &[u8],
-    changes: usize,
+    change: usize,
 ) -> Part
     requires { ⌜ rowOf place (rowName Row.Tag (drop place (now table))) ≡ RowPlace.Whole len end ⌝ }
-    ensures { λ r. ⌜ Makes (now (table .entry)) place (now (sheet .entry)) r (keptPart (changesAt (now (sheet .entry)) 1 changes) (tagWithName (take len (drop (place + 1) (now (table .entry)))) (drop (place + 1 + len) (now (table .entry))))) ⌝ }
+    ensures { λ r. ⌜ Makes (now (table .entry)) place (now (sheet .entry)) r (keptBy (now (sheet .entry)) (pair change (tagWithName (take len (drop (place + 1) (now (table .entry)))) (drop (place + 1 + len) (now (table .entry)))))) ⌝ }
 {
-    let found = text::find_name(table, place + 1, len, sheet, 1, changes, Row::Change);
-    let Found::At(number, at) = found else {
+    if change == 0 {
         return Part {
             first: end - place,
             value: 0,
             second: 0,
         };
-    };
-    let value = changed_value(sheet, at);
+    }
+    let value = changed_value(sheet, change);
     with_value(len, value)
 }
 
-// A change of the sheet in the new table: "new ones come last in sheet order".
-fn new_part(sheet: &[u8], place: usize, len: usize, table: &[u8], at: usize, n: usize) -> Part
+// A change of the sheet in the new table, by the place of its tag in the old one, or 0: "new ones come last in sheet order".
+fn new_part(sheet: &[u8], place: usize, len: usize, tag: usize) -> Part
     requires { ⌜ textOf (string (drop place (now sheet))) ≡ Text.Whole len ⌝ }
-    ensures { λ r. ⌜ Makes (now (sheet .entry)) place (now (sheet .entry)) r (newPart (tagsAt (now (table .entry)) at n) (changeWithName (take len (drop (place + 1) (now (sheet .entry)))) (drop (place + 1 + len) (now (sheet .entry))))) ⌝ }
+    ensures { λ r. ⌜ Makes (now (sheet .entry)) place (now (sheet .entry)) r (newBy (pair tag (changeWithName (take len (drop (place + 1) (now (sheet .entry)))) (drop (place + 1 + len) (now (sheet .entry)))))) ⌝ }
 {
-    let found = text::find_name(sheet, place + 1, len, table, at, n, Row::Tag);
-    let Found::Nothing = found else {
+    if 0 < tag {
         return Part {
             first: 0,
             value: 0,
             second: 0,
         };
-    };
+    }
     let value = new_value(sheet, place + 1 + len);
     with_value(len, value)
 }
@@ -354,12 +543,13 @@ fn tags_in(bytes: usize) -> usize
     if 0 < bytes { 1 } else { 0 }
 }
 
-// How much of the table is kept.
-fn kept_size(table: &[u8], at: usize, n: usize, sheet: &[u8], changes: usize) -> Size
-    requires { ⌜ n ≤ 1000 ⌝ }
-    ensures { λ r. ⌜ (r ≡ sizeOf (keptPart (changesAt (now (sheet .entry)) 1 changes)) (tagsAt (now (table .entry)) at n)) × (r .tags ≤ n) × (r .bytes ≤ 512 * n) ⌝ }
+// How much of the table is kept. `named` has for each tag where its change stands.
+fn kept_size(table: &[u8], at: usize, n: usize, sheet: &[u8], named: &[usize]) -> Size
+    requires { ⌜ (n ≤ 1000) × (n ≤ length (now named)) ⌝ }
+    ensures { λ r. ⌜ (r ≡ sizeOf (keptBy (now (sheet .entry))) (beside (now (named .entry)) (tagsAt (now (table .entry)) at n))) × (r .tags ≤ n) × (r .bytes ≤ 512 * n) ⌝ }
 {
     let mut place = at;
+    let mut passed = 0;
     let mut tags = 0;
     let mut bytes = 0;
     let mut left = n;
@@ -368,22 +558,24 @@ fn kept_size(table: &[u8], at: usize, n: usize, sheet: &[u8], changes: usize) ->
         let RowPlace::Whole(len, end) = row else {
             return Size { tags, bytes };
         };
-        let part = kept_part(table, place, len, end, sheet, changes);
+        let part = kept_part(table, place, len, end, sheet, named[passed]);
         let more = part.first + part.second;
         tags += tags_in(more);
         bytes += more;
         place = end;
+        passed += 1;
         left -= 1;
     }
     Size { tags, bytes }
 }
 
 // How much of the sheet is new.
-fn new_size(table: &[u8], at: usize, n: usize, sheet: &[u8], changes: usize) -> Size
-    requires { ⌜ changes ≤ 64 ⌝ }
-    ensures { λ r. ⌜ (r ≡ sizeOf (newPart (tagsAt (now (table .entry)) at n)) (changesAt (now (sheet .entry)) 1 changes)) × (r .tags ≤ changes) × (r .bytes ≤ 512 * changes) ⌝ }
+fn new_size(sheet: &[u8], changes: usize, places: &[usize]) -> Size
+    requires { ⌜ (changes ≤ 64) × (changes ≤ length (now places)) ⌝ }
+    ensures { λ r. ⌜ (r ≡ sizeOf newBy (beside (now (places .entry)) (changesAt (now (sheet .entry)) 1 changes))) × (r .tags ≤ changes) × (r .bytes ≤ 512 * changes) ⌝ }
 {
     let mut place = 1;
+    let mut passed = 0;
     let mut tags = 0;
     let mut bytes = 0;
     let mut left = changes;
@@ -392,11 +584,12 @@ fn new_size(table: &[u8], at: usize, n: usize, sheet: &[u8], changes: usize) -> 
         let RowPlace::Whole(len, end) = row else {
             return Size { tags, bytes };
         };
-        let part = new_part(sheet, place, len, table, at, n);
+        let part = new_part(sheet, place, len, places[passed]);
         let more = part.first + part.second;
         tags += tags_in(more);
         bytes += more;
         place = end;
+        passed += 1;
         left -= 1;
     }
     Size { tags, bytes }
@@ -417,14 +610,15 @@ fn write_kept(
     at: usize,
     n: usize,
     sheet: &[u8],
-    changes: usize,
+    named: &[usize],
     out: &mut [u8],
     start: usize,
 ) -> usize
-    requires { ⌜ start + length (keptBytes (now table) at n (now sheet) changes) ≤ length (now out) ⌝ }
-    ensures { λ r. ⌜ Written r (now (out .entry)) (now (out .exit)) start (keptBytes (now (table .entry)) at n (now (sheet .entry)) changes) ⌝ }
+    requires { ⌜ (n ≤ length (now named)) × (start + length (keptBytes (now table) at n (now sheet) (now named)) ≤ length (now out)) ⌝ }
+    ensures { λ r. ⌜ Written r (now (out .entry)) (now (out .exit)) start (keptBytes (now (table .entry)) at n (now (sheet .entry)) (now (named .entry))) ⌝ }
 {
     let mut place = at;
+    let mut passed = 0;
     let mut to = start;
     let mut left = n;
     while 0 < left {
@@ -432,9 +626,11 @@ fn write_kept(
         let RowPlace::Whole(len, end) = row else {
             return to;
         };
-        let part = kept_part(table, place, len, end, sheet, changes);
+        let part = kept_part(table, place, len, end, sheet, named[passed]);
+        passed += 1;
+        let next = to + (part.first + part.second);
         put_part(table, place, sheet, part, out, to);
-        to += part.first + part.second;
+        to = next;
         place = end;
         left -= 1;
     }
@@ -442,19 +638,12 @@ fn write_kept(
 }
 
 // Writes what the sheet adds; where that ends.
-fn write_new(
-    table: &[u8],
-    at: usize,
-    n: usize,
-    sheet: &[u8],
-    changes: usize,
-    out: &mut [u8],
-    start: usize,
-) -> usize
-    requires { ⌜ start + length (newBytes (now table) at n (now sheet) changes) ≤ length (now out) ⌝ }
-    ensures { λ r. ⌜ Written r (now (out .entry)) (now (out .exit)) start (newBytes (now (table .entry)) at n (now (sheet .entry)) changes) ⌝ }
+fn write_new(sheet: &[u8], changes: usize, places: &[usize], out: &mut [u8], start: usize) -> usize
+    requires { ⌜ (changes ≤ length (now places)) × (start + length (newBytes (now sheet) changes (now places)) ≤ length (now out)) ⌝ }
+    ensures { λ r. ⌜ Written r (now (out .entry)) (now (out .exit)) start (newBytes (now (sheet .entry)) changes (now (places .entry))) ⌝ }
 {
     let mut place = 1;
+    let mut passed = 0;
     let mut to = start;
     let mut left = changes;
     while 0 < left {
@@ -462,9 +651,11 @@ fn write_new(
         let RowPlace::Whole(len, end) = row else {
             return to;
         };
-        let part = new_part(sheet, place, len, table, at, n);
+        let part = new_part(sheet, place, len, places[passed]);
+        passed += 1;
+        let next = to + (part.first + part.second);
         put_part(sheet, place, sheet, part, out, to);
-        to += part.first + part.second;
+        to = next;
         place = end;
         left -= 1;
     }
@@ -478,31 +669,35 @@ fn write_table(
     n: usize,
     sheet: &[u8],
     changes: usize,
+    named: &[usize],
+    places: &[usize],
     out: &mut [u8],
     tags: u64,
 )
-    requires { ⌜ 4 + length (keptBytes (now table) at n (now sheet) changes) + length (newBytes (now table) at n (now sheet) changes) ≤ length (now out) ⌝ }
-    ensures { λ r. ⌜ now (out .exit) ≡ sets (now (out .entry)) 0 (bytesOf 4 tags ++ (keptBytes (now (table .entry)) at n (now (sheet .entry)) changes ++ newBytes (now (table .entry)) at n (now (sheet .entry)) changes)) ⌝ }
+    requires { ⌜ (n ≤ length (now named)) × (changes ≤ length (now places)) × (4 + length (keptBytes (now table) at n (now sheet) (now named)) + length (newBytes (now sheet) changes (now places)) ≤ length (now out)) ⌝ }
+    ensures { λ r. ⌜ now (out .exit) ≡ sets (now (out .entry)) 0 (bytesOf 4 tags ++ (keptBytes (now (table .entry)) at n (now (sheet .entry)) (now (named .entry)) ++ newBytes (now (sheet .entry)) changes (now (places .entry)))) ⌝ }
 {
     number::write(out, 0, 4, tags);
-    let end = write_kept(table, at, n, sheet, changes, out, 4);
-    write_new(table, at, n, sheet, changes, out, end);
+    let end = write_kept(table, at, n, sheet, named, out, 4);
+    write_new(sheet, changes, places, out, end);
 }
 
 // The new user table, where its tags are not too many and it has room. Nothing is written before that is known.
-fn new_table(
+fn apply(
     table: &[u8],
     at: usize,
     n: usize,
     sheet: &[u8],
     changes: usize,
+    named: &[usize],
+    places: &[usize],
     out: &mut [u8],
 ) -> Saved
-    requires { ⌜ (n ≤ 1000) × (changes ≤ 64) ⌝ }
+    requires { ⌜ (n ≤ 1000) × (changes ≤ 64) × (n ≤ length (now named)) × (changes ≤ length (now places)) × Named (now table) at n (now sheet) changes (now named) × Placed (now table) at n (now sheet) changes (now places) ⌝ }
     ensures { λ r. ⌜ outcome r (now (out .exit)) ≡ appliedIn (now (table .entry)) at n (now (sheet .entry)) changes (now (out .entry)) ⌝ }
 {
-    let kept = kept_size(table, at, n, sheet, changes);
-    let new = new_size(table, at, n, sheet, changes);
+    let kept = kept_size(table, at, n, sheet, named);
+    let new = new_size(sheet, changes, places);
     let tags = kept.tags + new.tags;
     if Header::MOST_TAGS < tags {
         return Saved::Refused(17);
@@ -511,12 +706,22 @@ fn new_table(
     if out.len() < bytes {
         return Saved::Refused(9);
     }
-    write_table(table, at, n, sheet, changes, out, tags as u64);
+    write_table(
+        table,
+        at,
+        n,
+        sheet,
+        changes,
+        named,
+        places,
+        out,
+        tags as u64,
+    );
     Saved::Table(bytes)
 }
 
-// The new table of the n tags from a place on and so many changes; 7 and 10 where so many stand in no table or sheet.
-pub fn apply(
+// The look, and the new table where all seen entries agree.
+fn save_changes(
     table: &[u8],
     at: usize,
     n: usize,
@@ -524,15 +729,17 @@ pub fn apply(
     changes: usize,
     out: &mut [u8],
 ) -> Saved
-    ensures { λ r. ⌜ outcome r (now (out .exit)) ≡ appliedAt (now (table .entry)) at n (now (sheet .entry)) changes (now (out .entry)) ⌝ }
+    requires { ⌜ (n ≤ 1000) × (changes ≤ 64) × (0 < at) × (distinctNames (now sheet) 1 changes Row.Change ≡ true) × (length (changeNamesAt (now sheet) changes) ≡ changes) ⌝ }
+    ensures { λ r. ⌜ outcome r (now (out .exit)) ≡ savedIn (now (table .entry)) at n (now (sheet .entry)) changes (now (out .entry)) ⌝ }
 {
-    if Header::MOST_TAGS < n {
-        return Saved::Refused(7);
+    let mut named = [0; Header::MOST_TAGS];
+    let mut places = [0; Header::MOST_CHANGES];
+    place_tags(table, at, n, sheet, changes, &mut named, &mut places);
+    let looked = compare(table, sheet, changes, &places);
+    if let Looked::Conflict(place) = looked {
+        return Saved::Conflict(place);
     }
-    if MOST_CHANGES < changes {
-        return Saved::Refused(10);
-    }
-    new_table(table, at, n, sheet, changes, out)
+    apply(table, at, n, sheet, changes, &named, &places, out)
 }
 
 // "A save: 1 to 7, 10, 11, 17, 9." The answer is the new user table.
@@ -547,10 +754,5 @@ pub fn save(file: &[u8], sheet: &[u8], out: &mut [u8]) -> Saved
     let Sheet::Whole(changes) = listed else {
         return Saved::Refused(10);
     };
-    let at = held.user + 4;
-    let looked = compare(file, at, held.user_tags, sheet, changes);
-    if let Looked::Conflict(place) = looked {
-        return Saved::Conflict(place);
-    }
-    apply(file, at, held.user_tags, sheet, changes, out)
+    save_changes(file, held.user + 4, held.user_tags, sheet, changes, out)
 }

@@ -10,15 +10,15 @@ use lib.Seq.{drop-drop}
 use Rattle.layout.specs.Recording.{Tag, same, among, tagNames}
 use Rattle.layout.specs.Reading.{Reader, good, times}
 use Rattle.layout.specs.Items.{noTag}
-use Rattle.layout.specs.Saving.{Change, absent, holds, lookUp, newEntry, changeNames}
 use Rattle.layout.specs.Browser.{numberOfTag}
 use Rattle.layout.proofs.Lists.{or-false, same-true}
+use Rattle.layout.proofs.Readers.{times-suc-takes}
 use Rattle.text.specs.Rows.{rowName, found}
 use Rattle.text.specs.declared.Row.{Row}
 use Rattle.text.specs.declared.Found.the-variants.{At, Nothing}
 use Rattle.text.proofs.Names.{among-found}
 use Rattle.text.proofs.Readers.{names-times}
-use Rattle.text.proofs.Times.{times-parts, times-both, times-led}
+use Rattle.text.proofs.Times.{times-parts, times-led}
 
 cond-cases : {A G : Type 0} (b : Bool) (x y z : A) → cond b x y ≡ z → (b ≡ true → x ≡ z → G) → (b ≡ false → y ≡ z → G) → G
 cond-cases true x y z e t f = t refl e
@@ -43,7 +43,7 @@ module _ {A : Type 0} (k : Row) (p : Reader A) (name : A → List ℕ) (leads : 
       w 0 0 c (omega arith) (omega arith) refl (rw o t) refl (omega arith) (rw (o, a) g))
       (λ t l.
       find-at d n (i + 1) (at + c) y j q ys (rw (← drop-drop c at s) h) l (λ b u z a l′ among′ same′ times′ q′ p′.
-      w (suc b) (c + u) z (omega arith) (omega arith) (rw (o, t) among′) (rw o same′) (rw o (times-both p b (drop at s) x (take b ys) c u g (rw (drop-drop c at s) times′))) (omega arith) (rw o p′))))
+      w (suc b) (c + u) z (omega arith) (omega arith) (rw (o, t) among′) (rw o same′) (rw o (times-suc-takes p b (drop at s) x (take b ys) c u g (rw (drop-drop c at s) times′))) (omega arith) (rw o p′))))
 
 -- ── Tables and sheets ──
 
@@ -55,20 +55,6 @@ same-sym a b = go (same a b) (same b a) refl refl
     go false false p q = p ∙ sym q
     go true false p q = sym (ap (λ (c : List ℕ). same a c) (same-true a b p)) ∙ ap (λ (c : List ℕ). same c a) (same-true a b p)
     go false true p q = sym (ap (λ (c : List ℕ). same c b) (same-true b a q)) ∙ ap (λ (c : List ℕ). same b c) (same-true b a q)
-
--- a table without a name, and one whose tag number b is the first with it
-pub look-up-none : (v : List ℕ) (ts : List Tag) → among v (tagNames ts) ≡ false → lookUp v ts ≡ absent
-unfolding among tagNames lookUp
-look-up-none v [] e = refl
-look-up-none v (t ∷ ts) e = let (p, q) = or-false (same v (t .name)) (among v (tagNames ts)) e in rw p (look-up-none v ts q)
-
-pub look-up-at : (v : List ℕ) (ts : List Tag) (b : ℕ) → b < length ts → among v (tagNames (take b ts)) ≡ false → same v (getD ts b noTag .name) ≡ true → lookUp v ts ≡ holds (getD ts b noTag .value)
-unfolding among tagNames lookUp
-look-up-at v [] b l e f = absurd (omega arith)
-look-up-at v (t ∷ ts) zero l e f = rw f
-look-up-at v (t ∷ ts) (suc b) l e f =
-    let (p, q) = or-false (same v (t .name)) (among v (tagNames (take b ts))) e in
-    rw p (look-up-at v ts b (omega arith) q f)
 
 pub number-none : (v : List ℕ) (ts : List Tag) → among v (tagNames ts) ≡ false → numberOfTag v ts ≡ length ts
 unfolding among tagNames numberOfTag
@@ -82,19 +68,3 @@ number-at v (t ∷ ts) zero l e f = rw f
 number-at v (t ∷ ts) (suc b) l e f =
     let (p, q) = or-false (same v (t .name)) (among v (tagNames (take b ts))) e in
     rw p (ap suc (number-at v ts b (omega arith) q f))
-
--- a sheet that says nothing of a tag, and one whose change number b is the first that does
-pub new-entry-none : (cs : List Change) (t : Tag) → among (t .name) (changeNames cs) ≡ false → newEntry cs t ≡ holds (t .value)
-unfolding among changeNames newEntry
-new-entry-none [] t e = refl
-new-entry-none (c ∷ cs) t e =
-    let (p, q) = or-false (same (t .name) (c .name)) (among (t .name) (changeNames cs)) e in
-    rw (same-sym (c .name) (t .name), p) (new-entry-none cs t q)
-
-pub new-entry-at : (d : Change) (cs : List Change) (t : Tag) (b : ℕ) → b < length cs → among (t .name) (changeNames (take b cs)) ≡ false → same (t .name) (getD cs b d .name) ≡ true → newEntry cs t ≡ getD cs b d .new
-unfolding among changeNames newEntry
-new-entry-at d [] t b l e f = absurd (omega arith)
-new-entry-at d (c ∷ cs) t zero l e f = rw (same-sym (c .name) (t .name), f)
-new-entry-at d (c ∷ cs) t (suc b) l e f =
-    let (p, q) = or-false (same (t .name) (c .name)) (among (t .name) (changeNames (take b cs))) e in
-    rw (same-sym (c .name) (t .name), p) (new-entry-at d cs t b (omega arith) q f)

@@ -1,12 +1,12 @@
 -- What the functions of this crate leave to be shown, as laws about the definitions.
 -- Assumes nothing.
-use Prim.Native.Nat.{ℕ, zero, suc, _+_, _*_, _-_, _^_, _<_, _≤_}
+use Prim.Native.Nat.{ℕ, zero, suc, _+_, _*_, _-_, _/_, _^_, _<_, _≤_}
 use native.Mathlib.Omega.{arith}
 use mathlib.Core.Path.{_≡_, refl, sym, _∙_}
 use mathlib.Core.Bool.{Bool, true, false, _&&_, cond}
 use mathlib.Core.List.{List, [], _∷_}
 use lib.ListN.{length, take, drop, getD, set, length-drop, drop-of-length-le}
-use lib.Seq.{drop-cons, length-take-le, sets, length-sets}
+use lib.Seq.{drop-cons, length-take-le, sets}
 use lib.Dec.{leb, eqb}
 use borrow.Author.Needs.{needs}
 use mir.Syntax.{w8, w64}
@@ -314,18 +314,10 @@ copied-no-room f t i j n h = copied-out f t i j n (rw (not-there t j n (omega ar
 pub copied-past : (f t : List ℕ) (i j n : ℕ) → n ≤ length t → length t - n < j → t ≡ copied f i t j n
 copied-past f t i j n l h = copied-out f t i j n (rw (not-there t j n (omega arith), and-false (has f i n)))
 
--- where both parts are there, the bytes are stored; the length stays in any case
+-- where both parts are there, the bytes are stored
 pub copied-there : (f t : List ℕ) (i j n : ℕ) → i + n ≤ length f → j + n ≤ length t → copied f i t j n ≡ sets t j (take n (drop i f))
 unfolding copied
 copied-there f t i j n h k = rw (there f i n h, there t j n k)
-
-pub copied-length : (f t : List ℕ) (i j n : ℕ) → length (copied f i t j n) ≡ length t
-unfolding copied
-copied-length f t i j n = go (has f i n && has t j n)
-  where
-    go : (b : Bool) → length (cond b (sets t j (take n (drop i f))) t) ≡ length t
-    go true = length-sets t j (take n (drop i f))
-    go false = refl
 
 pub copy-start : (f t : List ℕ) (i j n : ℕ) → sets t (j + 0) (take (n - 0) (drop (i + 0) f)) ≡ sets t j (take n (drop i f))
 copy-start f t i j n =

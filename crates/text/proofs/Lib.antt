@@ -2,6 +2,7 @@ pub mod Laws
 pub mod Rows
 pub mod Times
 pub mod Names
+pub mod Marked
 pub mod Readers
 pub mod Finding
 pub mod Tables

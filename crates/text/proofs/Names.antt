@@ -5,8 +5,8 @@ use native.Mathlib.Omega.{arith}
 use mathlib.Core.Path.{_≡_, refl, ap, sym, _∙_}
 use mathlib.Core.Bool.{Bool, true, false, not, _&&_, _||_, cond}
 use mathlib.Core.List.{List, [], _∷_}
-use lib.ListN.{length, take, drop, length-drop}
-use lib.Seq.{drop-drop, length-take-le}
+use lib.ListN.{length, take, drop}
+use lib.Seq.{drop-drop}
 use mir.Syntax.{w64}
 use mir.Val.{Fits}
 use borrow.Author.Needs.{needs}
@@ -25,6 +25,7 @@ use Rattle.text.specs.declared.Found.the-variants.{At, Nothing}
 use Rattle.text.proofs.Laws.{not-there, there, equal-there}
 use Rattle.text.proofs.Rows.{row-parts, row-broken}
 use Rattle.text.proofs.Times.{times-done, times-stop, times-end}
+use Rattle.number.proofs.Bytes.{part-long}
 
 -- ── Rows behind each other ──
 
@@ -41,9 +42,6 @@ module _ (k : Row) (s : List ℕ) (at left : ℕ) (all : Place) where
       rw w (sym (times-end (rowName k) left s at (take len (drop (at + 1) s)) m h p) ∙ g)
 
 -- ── Equal names ──
-
-part-long : (s : List ℕ) (at n : ℕ) → at + n ≤ length s → length (take n (drop at s)) ≡ n
-part-long s at n h = length-take-le n (drop at s) (simp length-drop (omega arith))
 
 pub name-other : (a b : List ℕ) (here len there other : ℕ) → here + len ≤ length a → there + other ≤ length b → (len ≡ other → ⊥) → false ≡ same (take len (drop here a)) (take other (drop there b))
 name-other a b here len there other h k d = go (same (take len (drop here a)) (take other (drop there b))) refl
@@ -132,12 +130,12 @@ among-found name (suc n) p s i at = go (p (drop at s)) (among-found name n p s (
         pick (same name v) (among name (names n p (drop m (drop at s)))) (found name n p s (i + 1) (at + m)) (rw (drop-drop m at s) (ih (at + m)))
 
 module _ (k : Row) (s : List ℕ) (at : ℕ) where
-  names-bad : (left : ℕ) → 0 < left → rowName k (drop at s) ≡ bad → names left (rowName k) (drop at s) ≡ []
+  pub names-bad : (left : ℕ) → 0 < left → rowName k (drop at s) ≡ bad → names left (rowName k) (drop at s) ≡ []
   unfolding names
   names-bad zero h e = absurd (omega arith)
   names-bad (suc left) h e = rw (e, names)
 
-  names-good : (left m : ℕ) (name : List ℕ) → 0 < left → rowName k (drop at s) ≡ good name m → names left (rowName k) (drop at s) ≡ name ∷ names (left - 1) (rowName k) (drop (at + m) s)
+  pub names-good : (left m : ℕ) (name : List ℕ) → 0 < left → rowName k (drop at s) ≡ good name m → names left (rowName k) (drop at s) ≡ name ∷ names (left - 1) (rowName k) (drop (at + m) s)
   unfolding names
   names-good zero m name h e = absurd (omega arith)
   names-good (suc left) m name h e =

@@ -13,6 +13,7 @@ use Rattle.layout.specs.Recording.{Section, Tag, distinct, tagNames, sectionNam
 use Rattle.layout.specs.Reading.{Parsed, Reader, bad, good, onward, _then_, only, times, give, number, block, string, Definition, definition, definedNames, tag}
 use Rattle.layout.specs.Recorder.{setUpSection}
 use Rattle.layout.specs.Saving.{Change, Seen, Entry, nobodyLooked, absent, saw, holds, change, changeNames, entryOf, seenOf, tagValue, malformed}
+use Rattle.layout.proofs.Readers.{then-takes}
 use Rattle.text.specs.Rows.{entry, rest, rowName, names, distinctNames}
 use Rattle.text.specs.declared.Row.{Row}
 use Rattle.text.specs.declared.Row.the-variants as row
@@ -59,15 +60,11 @@ pub then-give : {A B : Type 0} (p : Reader A) (f : A → B) (t : List ℕ) (x : 
 unfolding onward give
 then-give p f t x n e = then-good p (λ a. give (f a)) t x n e ∙ ap (good (f x)) (omega arith)
 
-pub then-both : {A B : Type 0} (p : Reader A) (q : A → Reader B) (t : List ℕ) (x : A) (y : B) (n m : ℕ) → p t ≡ good x n → q x (drop n t) ≡ good y m → (p then q) t ≡ good y (n + m)
-unfolding onward
-then-both p q t x y n m e f = then-good p q t x n e ∙ rw f
-
 -- ── A row of each kind is led over by its length bytes ──
 
 row-of : (k : Row) (t v r : List ℕ) (n m : ℕ) → string t ≡ good v n → rest k (drop n t) ≡ good r m → rowName k t ≡ good v (n + m)
 unfolding rowName
-row-of k t v r n m e f = then-both string (λ w. rest k then λ z. give w) t v v n m e (then-give (rest k) (λ z. v) (drop n t) r m f)
+row-of k t v r n m e f = then-takes string (λ w. rest k then λ z. give w) t v v n m e (then-give (rest k) (λ z. v) (drop n t) r m f)
 
 -- what reader q reads, what follows the name in a row of kind k leads over
 abbrev Leads : {A : Type 0} → Row → Reader A → Type 0
@@ -143,7 +140,7 @@ unfolding entry entryValue
 kind-leads q leads t x m e =
     then-parts (number 1) q t x m e (λ kind n k f g h.
     let (r, l) = leads kind k (drop n t) x g in
-    (r, then-both (number 1) (λ kind. cond (eqb kind 1) string (give [])) t kind r n k f l ∙ ap (good r) (sym h)))
+    (r, then-takes (number 1) (λ kind. cond (eqb kind 1) string (give [])) t kind r n k f l ∙ ap (good r) (sym h)))
 
 pub change-row : (t : List ℕ) (x : Change) (n : ℕ) → change t ≡ good x n → rowName row.Change t ≡ good (x .name) n
 unfolding change rest
@@ -153,7 +150,7 @@ change-row t x n e =
     give-parts (number 1 then entryOf) (λ e. record { name = v; seen = s; new = e }) (drop c (drop a t)) x d j (λ en l o.
     let (y, p) = kind-leads seenOf seen-leads (drop a t) s c i in
     let (z, q) = kind-leads entryOf entry-leads (drop c (drop a t)) en d l in
-    row-of row.Change t v z a (c + d) (legal-string legalTagName t v a f) (then-both entry (λ seen. entry) (drop a t) y z c d p q)
+    row-of row.Change t v z a (c + d) (legal-string legalTagName t v a f) (then-takes entry (λ seen. entry) (drop a t) y z c d p q)
     ∙ ap (λ (w : List ℕ). good w (a + (c + d))) (sym (ap (λ (u : Change). u .name) o)) ∙ ap (good (x .name)) (omega arith))))
 
 -- ── Rows that were read ──

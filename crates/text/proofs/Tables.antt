@@ -15,6 +15,7 @@ use borrow.Author.Tests.{lt-ltb, le-ltb, leb-true}
 use Rattle.number.specs.Number.{numberOf, readAt}
 use Rattle.layout.specs.Recording.{Tag, mostTags, within, distinct, tagNames, legalTagName, legalTagValue}
 use Rattle.layout.specs.Reading.{Parsed, bad, good, onward, _then_, only, times, give, number, string, tag, table}
+use Rattle.layout.proofs.Readers.{then-takes}
 use Rattle.text.specs.Text.{textOf}
 use Rattle.text.specs.Rows.{endOf, rowName, distinctNames}
 use Rattle.text.specs.Table.{tagPlaceOf, tablePlaceOf, partsOf, tagFrom, tagFound}
@@ -30,7 +31,7 @@ use Rattle.text.specs.declared.TagFound.the-variants.{At, Nothing}
 use Rattle.text.proofs.Laws.{string-parts, part-length, textOf-broken, only-bad, only-pass, only-fail, text-broken, inside, above}
 use Rattle.text.proofs.Rows.{then-bad, then-good, end-good, end-bad, number-there, number-cut}
 use Rattle.text.proofs.Times.{times-end, times-stop, times-done, times-length}
-use Rattle.text.proofs.Readers.{then-give, then-both, distinct-tags}
+use Rattle.text.proofs.Readers.{then-give, distinct-tags}
 
 -- ── Short strings by a rule, at a place ──
 
@@ -172,7 +173,7 @@ table-no-tags s at n t l h e k f g =
 
 -- the tags of a table, before their names are compared
 tags-good : (s : List ℕ) (at n m : ℕ) (ts : List Tag) → 4 ≤ length s → at ≤ length s - 4 → n ≡ readAt s at 4 → n ≤ 1000 → times n tag (drop (at + 4) s) ≡ good ts m → (only (within 0 mostTags) (number 4) then λ n. times n tag) (drop at s) ≡ good ts (4 + m)
-tags-good s at n m ts l h e k f = then-both (only (within 0 mostTags) (number 4)) (λ n. times n tag) (drop at s) n ts 4 m (count-good s at n l h e k) (rw (drop-drop 4 at s) f)
+tags-good s at n m ts l h e k f = then-takes (only (within 0 mostTags) (number 4)) (λ n. times n tag) (drop at s) n ts 4 m (count-good s at n l h e k) (rw (drop-drop 4 at s) f)
 
 pub table-twice : (s : List ℕ) (at n end : ℕ) (t : Place) (d : Bool) → 4 ≤ length s → at ≤ length s - 4 → n ≡ readAt s at 4 → n ≤ 1000 → t ≡ endOf (at + 4) (times n tag (drop (at + 4) s)) → t ≡ place.End end → d ≡ distinctNames s (at + 4) n row.Tag → d ≡ false → tablePlace.Broken ≡ tablePlaceOf at (table (drop at s))
 unfolding table tablePlaceOf

@@ -7,6 +7,7 @@ use mathlib.Core.List.{List, [], _∷_, map, flatMap}
 use lib.ListN.{length, take, drop, getD, length-append}
 use lib.Seq.{drop-drop}
 use Rattle.layout.specs.Reading.{Parsed, Reader, bad, good, onward, times}
+use Rattle.layout.proofs.Readers.{times-suc-takes}
 use Rattle.text.specs.Rows.{endOf}
 use Rattle.text.specs.declared.Place.the-variants as place
 use Rattle.text.proofs.Rows.{end-later}
@@ -47,10 +48,6 @@ none-read : {A : Type 0} (p : Reader A) (t : List ℕ) (xs : List A) (m : ℕ) �
 unfolding times
 none-read p t xs m e = (cc, cc)
 
-pub times-both : {A : Type 0} (p : Reader A) (k : ℕ) (t : List ℕ) (x : A) (ys : List A) (n j : ℕ) → p t ≡ good x n → times k p (drop n t) ≡ good ys j → times (suc k) p t ≡ good (x ∷ ys) (n + j)
-unfolding times onward
-times-both p k t x ys n j e f = rw (e, f)
-
 pub times-length : {A : Type 0} (p : Reader A) (k : ℕ) (t : List ℕ) (xs : List A) (m : ℕ) → times k p t ≡ good xs m → length xs ≡ k
 times-length p zero t xs m e = rw (none-read p t xs m e .0)
 times-length p (suc k) t xs m e = times-parts p k t xs m e (λ x n ys j f g h i. rw h (ap suc (times-length p k (drop n t) ys j g)))
@@ -60,7 +57,7 @@ pub times-led : {A B : Type 0} (p : Reader A) (q : Reader B) (part : A → B) �
 unfolding times
 times-led p q part leads zero t xs m e = let (a, b) = none-read p t xs m e in rw (a, b)
 times-led p q part leads (suc k) t xs m e =
-    times-parts p k t xs m e (λ x n ys j f g h i. rw (h, i) (times-both q k t (part x) (map part ys) n j (leads t x n f) (times-led p q part leads k (drop n t) ys j g)))
+    times-parts p k t xs m e (λ x n ys j f g h i. rw (h, i) (times-suc-takes q k t (part x) (map part ys) n j (leads t x n f) (times-led p q part leads k (drop n t) ys j g)))
 
 -- the bytes that were taken are as many as the encodings have, if that is so for one
 pub times-taken : {A : Type 0} (p : Reader A) (bytes : A → List ℕ) → ((t : List ℕ) (x : A) (n : ℕ) → p t ≡ good x n → n ≡ length (bytes x)) → (k : ℕ) (t : List ℕ) (xs : List A) (m : ℕ) → times k p t ≡ good xs m → m ≡ length (flatMap bytes xs)
@@ -80,4 +77,4 @@ times-at p d (suc k) t xs m zero e l w = times-parts p k t xs m e (λ x n ys j f
 times-at p d (suc k) t xs m (suc i) e l w =
     times-parts p k t xs m e (λ x n ys j f g h o.
     times-at p d k (drop n t) ys j i g (omega arith) (λ a b q r.
-    w (n + a) b (rw h (times-both p i t x (take i ys) n a f q)) (rw (h, ← drop-drop a n t) r)))
+    w (n + a) b (rw h (times-suc-takes p i t x (take i ys) n a f q)) (rw (h, ← drop-drop a n t) r)))

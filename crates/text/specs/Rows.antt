@@ -1,10 +1,11 @@
 -- Rows that begin with a name, read by their length bytes alone: where they end, which has a name, and whether the names differ.
 use Prim.Native.Nat.{ℕ, zero, suc, _+_}
-use mathlib.Core.Bool.{Bool, cond}
+use mathlib.Core.Bool.{Bool, true, _&&_, cond}
 use mathlib.Core.List.{List, [], _∷_}
 use lib.ListN.{length, take, drop}
 use lib.Dec.{eqb}
 use Rattle.number.specs.Number.{has}
+use Rattle.marks.specs.Marks.{markFor, isMarked}
 use Rattle.layout.specs.Recording.{same, distinct}
 use Rattle.layout.specs.Reading.{Parsed, bad, good, Reader, _then_, give, number, block, string}
 use Rattle.text.specs.declared.Place.{Place}
@@ -54,6 +55,11 @@ found name (suc n) p s i at =
 -- the first of n rows of s with the name that stands in `a`; nothing where the name is not all there
 unfoldable pub findName : (a : List ℕ) → (here len : ℕ) → (s : List ℕ) → (at n : ℕ) → Row → Found
 findName a here len s at n k = cond (has a here len) (found (take len (drop here a)) n (rowName k) s 0 at) Nothing
+
+-- every one of these names is marked
+unfoldable pub covers : (marks : List ℕ) → List (List ℕ) → Bool
+covers ms [] = true
+covers ms (n ∷ ns) = isMarked ms (markFor n) && covers ms ns
 
 -- "no two are equal"
 unfoldable pub distinctNames : List ℕ → (at n : ℕ) → Row → Bool

@@ -1,12 +1,15 @@
 // Short strings, classes of bytes, equal parts, copying, and tag tables, over lent bytes.
 use header::Header;
 ghost use mathlib.Core.Path.{_≡_};
+ghost use mathlib.Core.Bool.{true};
 ghost use Prim.Native.Nat.{_+_, _<_, _≤_};
 ghost use lib.ListN.{length, take, drop};
-ghost use Rattle.layout.specs.Recording.{isNameByte, isTagByte, every, same, legalSectionName, legalTagName, legalTagValue};
+ghost use lib.Dec.{ltb};
+ghost use Rattle.marks.specs.Marks.{markOf};
+ghost use Rattle.layout.specs.Recording.{isNameByte, isTagByte, every, same, among, legalSectionName, legalTagName, legalTagValue};
 ghost use Rattle.layout.specs.Reading.{only, string, number, block, _then_, times, tag, table};
 ghost use Rattle.text.specs.Text.{inClass, legalText, textOf, samePart, copied};
-ghost use Rattle.text.specs.Rows.{endOf, entry, rest, rowName, rowOf, findName, distinctNames};
+ghost use Rattle.text.specs.Rows.{endOf, entry, rest, rowName, rowOf, names, findName, distinctNames, covers};
 ghost use Rattle.text.specs.Table.{tagPlaceOf, tablePlaceOf, tagFound};
 
 // A short string at a place: its number of bytes, which start behind the length byte.
@@ -354,7 +357,7 @@ pub fn find_name(
 }
 
 // "no two are equal": each name is looked for among the later ones.
-pub fn distinct_names(s: &[u8], at: usize, n: usize, row: Row) -> bool
+fn differ_by_search(s: &[u8], at: usize, n: usize, row: Row) -> bool
     ensures { λ r. ⌜ r ≡ distinctNames (now (s .entry)) at n row ⌝ }
 {
     let mut place = at;
@@ -372,6 +375,72 @@ pub fn distinct_names(s: &[u8], at: usize, n: usize, row: Row) -> bool
         place = end;
     }
     true
+}
+
+// Whether the name of `len` bytes stands in the n rows from a place on, all of whose names are marked: where its own mark is not set, no search is needed.
+fn stands_in(
+    s: &[u8],
+    here: usize,
+    len: usize,
+    at: usize,
+    n: usize,
+    row: Row,
+    marked: &[u64],
+    mark: usize,
+) -> bool
+    requires { ⌜ (here + len ≤ length (now s)) × (covers (now marked) (names n (rowName row) (drop at (now s))) ≡ true) × (mark ≡ markOf (now s) here len) ⌝ }
+    ensures { λ r. ⌜ r ≡ among (take len (drop here (now (s .entry)))) (names n (rowName row) (drop at (now (s .entry)))) ⌝ }
+{
+    if marks::marked(marked, mark) {} else {
+        return false;
+    }
+    let found = find_name(s, here, len, s, at, n, row);
+    let Found::Nothing = found else {
+        return true;
+    };
+    false
+}
+
+// The same answer as by search, in time that grows with the rows alone: each name is marked, and looked for only where its mark was set before.
+fn differ_by_marks(s: &[u8], at: usize, n: usize, row: Row) -> bool
+    ensures { λ r. ⌜ r ≡ distinctNames (now (s .entry)) at n row ⌝ }
+{
+    let mut marked = [0; marks::MARKS];
+    let mut place = at;
+    let mut passed = 0;
+    let mut left = n;
+    while 0 < left {
+        let found = row_at(s, place, row);
+        let RowPlace::Whole(len, end) = found else {
+            return true;
+        };
+        let mark = marks::mark_of(s, place + 1, len);
+        if stands_in(s, place + 1, len, at, passed, row, &marked, mark) {
+            return false;
+        }
+        marks::mark(&mut marked, mark);
+        place = end;
+        passed += 1;
+        left -= 1;
+    }
+    true
+}
+
+// Whether a search costs less than clearing the marks.
+fn few(rows: usize) -> bool
+    ensures { λ r. ⌜ r ≡ ltb rows 12 ⌝ }
+{
+    rows < 12
+}
+
+// "no two are equal"
+pub fn distinct_names(s: &[u8], at: usize, n: usize, row: Row) -> bool
+    ensures { λ r. ⌜ r ≡ distinctNames (now (s .entry)) at n row ⌝ }
+{
+    if few(n) {
+        return differ_by_search(s, at, n, row);
+    }
+    differ_by_marks(s, at, n, row)
 }
 
 // A tag at a place: the numbers of bytes of its name and of its value.

@@ -4,6 +4,7 @@ use Rattle.fstf.proofs.frame_flat.Statement.{statement}
 use Rattle.fstf.proofs.frame_flat.Tie as tie
 use Rattle.fstf.proofs.frame_flat.Reads as reads
 use Rattle.fstf.proofs.frame_flat.Lts as lts
+use Rattle.fstf.proofs.frame_not.Reads as frame-not-reads
 
 enum-known-answer : tie.Need-enum-known-answer
 enum-known-answer c = search needs
@@ -14,8 +15,11 @@ cast-t10 c = search needs
 enum-known-answer-2 : tie.Need-enum-known-answer-2
 enum-known-answer-2 c = search needs
 
-cast-t11 : tie.Need-cast-t11
-cast-t11 c = search needs
+cast-frame-not : tie.Need-cast-frame-not
+cast-frame-not c = search needs
+
+frame-not-requires : tie.Need-frame-not-requires
+frame-not-requires c κs = search needs
 
 returns : tie.Need-returns
 returns c = search laws
@@ -25,4 +29,12 @@ returns-2 c = search laws
 
 pub frame-flat-spec : {M : Type 1} → statement M
 frame-flat-spec =
-    tie.close (tie.spec enum-known-answer cast-t10 enum-known-answer-2 cast-t11 returns returns-2)
+    tie.close
+    (tie.spec
+    enum-known-answer
+    cast-t10
+    enum-known-answer-2
+    cast-frame-not
+    frame-not-requires
+    returns
+    returns-2)

@@ -11,8 +11,8 @@ enum-known-answer c = search needs
 enum-known-answer-2 : tie.Need-enum-known-answer-2
 enum-known-answer-2 c = search needs
 
-cast-t12 : tie.Need-cast-t12
-cast-t12 c = search needs
+cast-t13 : tie.Need-cast-t13
+cast-t13 c = search needs
 
 returns : tie.Need-returns
 returns c = search laws
@@ -22,4 +22,4 @@ returns-2 c = search laws
 
 pub opened-flat-spec : {M : Type 1} → statement M
 opened-flat-spec =
-    tie.close (tie.spec enum-known-answer enum-known-answer-2 cast-t12 returns returns-2)
+    tie.close (tie.spec enum-known-answer enum-known-answer-2 cast-t13 returns returns-2)

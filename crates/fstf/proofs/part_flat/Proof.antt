@@ -4,6 +4,7 @@ use Rattle.fstf.proofs.part_flat.Statement.{statement}
 use Rattle.fstf.proofs.part_flat.Tie as tie
 use Rattle.fstf.proofs.part_flat.Reads as reads
 use Rattle.fstf.proofs.part_flat.Lts as lts
+use Rattle.fstf.proofs.part_not.Reads as part-not-reads
 
 enum-known-answer : tie.Need-enum-known-answer
 enum-known-answer c = search needs
@@ -11,8 +12,11 @@ enum-known-answer c = search needs
 enum-known-answer-2 : tie.Need-enum-known-answer-2
 enum-known-answer-2 c = search needs
 
-cast-t8 : tie.Need-cast-t8
-cast-t8 c = search needs
+cast-part-not : tie.Need-cast-part-not
+cast-part-not c = search needs
+
+part-not-requires : tie.Need-part-not-requires
+part-not-requires c κs = search needs
 
 returns : tie.Need-returns
 returns c = search laws
@@ -22,4 +26,11 @@ returns-2 c = search laws
 
 pub part-flat-spec : {M : Type 1} → statement M
 part-flat-spec =
-    tie.close (tie.spec enum-known-answer enum-known-answer-2 cast-t8 returns returns-2)
+    tie.close
+    (tie.spec
+    enum-known-answer
+    enum-known-answer-2
+    cast-part-not
+    part-not-requires
+    returns
+    returns-2)

@@ -1,79 +1,59 @@
-use Prim.Native.Nat.{_≤_, _<_, _+_, _-_, _^_}
-use mathlib.Core.Path.{_≡_}
-use lib.ListN.{length, take, drop}
-use Rattle.number.specs.Number.{numberOf}
 use Rattle.number.proofs.Laws.{laws}
 use Rattle.number.proofs.read.Statement.{statement}
 use Rattle.number.proofs.read.Tie as tie
 use Rattle.number.proofs.read.Reads as reads
 use Rattle.number.proofs.read.Lts as lts
-use Rattle.number.proofs.wide.Reads as wide-reads
+use Rattle.number.proofs.read_there.Reads as read-there-reads
 
-abbrev Inv-loop : tie.InvT-loop
-Inv-loop s at w n₀ left₀ n left = (w ≤ 8) × (at + w ≤ length s) × (left ≤ w) × (n < 256 ^ (w - left)) × (n ≡ numberOf (take (w - left) (drop (at + left) s)))
-
-abbrev μ-loop : tie.MeasureT-loop
-μ-loop s at w n₀ left₀ n left = left
-
-returns : tie.Need-returns Inv-loop μ-loop
+returns : tie.Need-returns
 returns c = search laws
 
-returns-2 : tie.Need-returns-2 Inv-loop μ-loop
+returns-2 : tie.Need-returns-2
 returns-2 c = search laws
 
-sub-if3 : tie.Need-sub-if3 Inv-loop μ-loop
+sub-if3 : tie.Need-sub-if3
 sub-if3 c = search laws
 
-returns-3 : tie.Need-returns-3 Inv-loop μ-loop
+returns-3 : tie.Need-returns-3
 returns-3 c = search laws
 
-loop-holds : tie.Need-loop-holds Inv-loop μ-loop
-loop-holds c = search laws
+read-there-requires : tie.Need-read-there-requires
+read-there-requires c κs = search laws
 
-sub-left : tie.Need-sub-left Inv-loop μ-loop
-sub-left c = search laws
+add-read-there : tie.Need-add-read-there
+add-read-there c = search laws
 
-mul-n : tie.Need-mul-n Inv-loop μ-loop
-mul-n c = search laws
+read-there-requires-2 : tie.Need-read-there-requires-2
+read-there-requires-2 c κs = search laws
 
-add-wide : tie.Need-add-wide Inv-loop μ-loop
-add-wide c = search laws
+mul-result : tie.Need-mul-result
+mul-result c = search laws
 
-shared-slice-read-wide : tie.Need-shared-slice-read-wide Inv-loop μ-loop
-shared-slice-read-wide c = search laws
+add-result : tie.Need-add-result
+add-result c = search laws
 
-wide-requires : tie.Need-wide-requires Inv-loop μ-loop
-wide-requires c κs = search laws
-
-add-n : tie.Need-add-n Inv-loop μ-loop
-add-n c = search laws
-
-loop-less : tie.Need-loop-less Inv-loop μ-loop
-loop-less c = search laws
-
-loop-again : tie.Need-loop-again Inv-loop μ-loop
-loop-again c = search laws
-
-returns-4 : tie.Need-returns-4 Inv-loop μ-loop
+returns-4 : tie.Need-returns-4
 returns-4 c = search laws
+
+read-there-requires-3 : tie.Need-read-there-requires-3
+read-there-requires-3 c κs = search laws
+
+returns-5 : tie.Need-returns-5
+returns-5 c = search laws
 
 pub read-spec : {M : Type 1} → statement M
 read-spec =
     tie.close
     (tie.spec
-    Inv-loop
-    μ-loop
     returns
     returns-2
     sub-if3
     returns-3
-    loop-holds
-    sub-left
-    mul-n
-    add-wide
-    shared-slice-read-wide
-    wide-requires
-    add-n
-    loop-less
-    loop-again
-    returns-4)
+    read-there-requires
+    add-read-there
+    read-there-requires-2
+    mul-result
+    add-result
+    returns-4
+    read-there-requires-3
+    returns-5)

@@ -1,28 +1,33 @@
 use Rattle.opening.proofs.Index.{entry-laws}
-use borrow.Author.Needs.{needs}
 use Rattle.opening.proofs.other_entry.Statement.{statement}
 use Rattle.opening.proofs.other_entry.Tie as tie
 
+add-behind : tie.Need-add-behind
+add-behind c = search entry-laws
+
+sub-held : tie.Need-sub-held
+sub-held c = search entry-laws
+
+part-held-start : tie.Need-part-held-start
+part-held-start c = search entry-laws
+
+part-held-end : tie.Need-part-held-end
+part-held-end c = search entry-laws
+
 read-requires : tie.Need-read-requires
-read-requires c κs = search needs
+read-requires c κs = search entry-laws
 
 returns : tie.Need-returns
 returns c = search entry-laws
 
-add-read : tie.Need-add-read
-add-read c = search needs
-
 read-requires-2 : tie.Need-read-requires-2
-read-requires-2 c κs = search needs
+read-requires-2 c κs = search entry-laws
 
 returns-2 : tie.Need-returns-2
 returns-2 c = search entry-laws
 
-add-read-2 : tie.Need-add-read-2
-add-read-2 c = search needs
-
 read-requires-3 : tie.Need-read-requires-3
-read-requires-3 c κs = search needs
+read-requires-3 c κs = search entry-laws
 
 returns-3 : tie.Need-returns-3
 returns-3 c = search entry-laws
@@ -34,12 +39,14 @@ pub other-entry-spec : {M : Type 1} → statement M
 other-entry-spec =
     tie.close
     (tie.spec
+    add-behind
+    sub-held
+    part-held-start
+    part-held-end
     read-requires
     returns
-    add-read
     read-requires-2
     returns-2
-    add-read-2
     read-requires-3
     returns-3
     returns-4)

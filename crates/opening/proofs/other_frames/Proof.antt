@@ -18,17 +18,23 @@ add-entry c = search frames-laws
 loop-holds : tie.Need-loop-holds Inv-loop μ-loop
 loop-holds c = search frames-laws
 
-frame-at-requires : tie.Need-frame-at-requires Inv-loop μ-loop
-frame-at-requires c κs = search frames-laws
+frame-end-requires : tie.Need-frame-end-requires Inv-loop μ-loop
+frame-end-requires c κs = search frames-laws
 
-enum-known-frame : tie.Need-enum-known-frame Inv-loop μ-loop
-enum-known-frame c = search frames-laws
+enum-known-end : tie.Need-enum-known-end Inv-loop μ-loop
+enum-known-end c = search frames-laws
 
 enum-told : tie.Need-enum-told Inv-loop μ-loop
 enum-told c = search frames-laws
 
 returns : tie.Need-returns Inv-loop μ-loop
 returns c = search frames-laws
+
+add-read : tie.Need-add-read Inv-loop μ-loop
+add-read c = search frames-laws
+
+read-requires : tie.Need-read-requires Inv-loop μ-loop
+read-requires c κs = search frames-laws
 
 follows-last-requires : tie.Need-follows-last-requires Inv-loop μ-loop
 follows-last-requires c κs = search frames-laws
@@ -74,10 +80,12 @@ other-frames-spec =
     μ-loop
     add-entry
     loop-holds
-    frame-at-requires
-    enum-known-frame
+    frame-end-requires
+    enum-known-end
     enum-told
     returns
+    add-read
+    read-requires
     follows-last-requires
     returns-2
     since-requires

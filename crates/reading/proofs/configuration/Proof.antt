@@ -53,6 +53,9 @@ returns-4 c = search laws
 returns-5 : tie.Need-returns-5
 returns-5 c = search laws
 
+returns-6 : tie.Need-returns-6
+returns-6 c = search laws
+
 pub configuration-spec : {M : Type 1} → statement M
 configuration-spec =
     tie.close
@@ -71,4 +74,5 @@ configuration-spec =
     sub-next-offset-2
     next-offset-requires
     returns-4
-    returns-5)
+    returns-5
+    returns-6)

@@ -5,8 +5,8 @@ use Rattle.reading.proofs.find.Tie as tie
 use Rattle.reading.proofs.find.Reads as reads
 use Rattle.reading.proofs.find.Lts as lts
 use Rattle.opening.proofs.open.Reads as open-reads
-use Rattle.reading.proofs.held_item.Reads as held-item-reads
 use Rattle.opening.proofs.open_refusal.Reads as open-refusal-reads
+use Rattle.reading.proofs.find_of.Reads as find-of-reads
 
 open-requires : tie.Need-open-requires
 open-requires c κs = search needs
@@ -23,8 +23,8 @@ open-refusal-requires c κs = search needs
 returns : tie.Need-returns
 returns c = search laws
 
-held-item-requires : tie.Need-held-item-requires
-held-item-requires c κs = search laws
+find-of-requires : tie.Need-find-of-requires
+find-of-requires c κs = search needs
 
 returns-2 : tie.Need-returns-2
 returns-2 c = search laws
@@ -38,5 +38,5 @@ find-spec =
     enum-told
     open-refusal-requires
     returns
-    held-item-requires
+    find-of-requires
     returns-2)

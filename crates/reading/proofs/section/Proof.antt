@@ -11,14 +11,23 @@ use Rattle.reading.proofs.frame_place.Reads as frame-place-reads
 returns : tie.Need-returns
 returns c = search laws
 
+frame-place-requires : tie.Need-frame-place-requires
+frame-place-requires c κs = search needs
+
+enum-known-frame : tie.Need-enum-known-frame
+enum-known-frame c = search needs
+
+enum-told : tie.Need-enum-told
+enum-told c = search needs
+
 returns-2 : tie.Need-returns-2
 returns-2 c = search laws
 
-frame-place-requires : tie.Need-frame-place-requires
-frame-place-requires c κs = search laws
+returns-3 : tie.Need-returns-3
+returns-3 c = search laws
 
 add-sized-sections : tie.Need-add-sized-sections
-add-sized-sections c = search laws
+add-sized-sections c = search needs
 
 sized-sections-requires : tie.Need-sized-sections-requires
 sized-sections-requires c κs = search needs
@@ -26,11 +35,11 @@ sized-sections-requires c κs = search needs
 enum-known-ahead : tie.Need-enum-known-ahead
 enum-known-ahead c = search needs
 
-enum-told : tie.Need-enum-told
-enum-told c = search needs
+enum-told-2 : tie.Need-enum-told-2
+enum-told-2 c = search needs
 
-returns-3 : tie.Need-returns-3
-returns-3 c = search laws
+returns-4 : tie.Need-returns-4
+returns-4 c = search laws
 
 sized-requires : tie.Need-sized-requires
 sized-requires c κs = search needs
@@ -38,41 +47,44 @@ sized-requires c κs = search needs
 enum-known-found : tie.Need-enum-known-found
 enum-known-found c = search needs
 
-enum-told-2 : tie.Need-enum-told-2
-enum-told-2 c = search needs
+enum-told-3 : tie.Need-enum-told-3
+enum-told-3 c = search needs
 
-returns-4 : tie.Need-returns-4
-returns-4 c = search laws
+returns-5 : tie.Need-returns-5
+returns-5 c = search laws
 
-add-t14 : tie.Need-add-t14
-add-t14 c = search laws
-
-sub-t15 : tie.Need-sub-t15
-sub-t15 c = search laws
+add-t15 : tie.Need-add-t15
+add-t15 c = search laws
 
 sub-t16 : tie.Need-sub-t16
 sub-t16 c = search laws
 
-returns-5 : tie.Need-returns-5
-returns-5 c = search laws
+sub-t17 : tie.Need-sub-t17
+sub-t17 c = search laws
+
+returns-6 : tie.Need-returns-6
+returns-6 c = search laws
 
 pub section-spec : {M : Type 1} → statement M
 section-spec =
     tie.close
     (tie.spec
     returns
-    returns-2
     frame-place-requires
+    enum-known-frame
+    enum-told
+    returns-2
+    returns-3
     add-sized-sections
     sized-sections-requires
     enum-known-ahead
-    enum-told
-    returns-3
-    sized-requires
-    enum-known-found
     enum-told-2
     returns-4
-    add-t14
-    sub-t15
+    sized-requires
+    enum-known-found
+    enum-told-3
+    returns-5
+    add-t15
     sub-t16
-    returns-5)
+    sub-t17
+    returns-6)

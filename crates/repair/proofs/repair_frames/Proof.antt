@@ -41,7 +41,7 @@ returns-4 : tie.Need-returns-4
 returns-4 c = search laws
 
 write-tail-requires : tie.Need-write-tail-requires
-write-tail-requires c κs = search needs
+write-tail-requires c κs = search laws
 
 same-length : tie.Need-same-length
 same-length c = search needs

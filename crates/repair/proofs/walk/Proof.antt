@@ -8,7 +8,7 @@ use Rattle.repair.proofs.walk.Reads as reads
 use Rattle.repair.proofs.walk.Lts as lts
 use Rattle.number.proofs.read.Reads as read-reads
 use Rattle.opening.proofs.follows_last.Reads as follows-last-reads
-use Rattle.opening.proofs.frame_at.Reads as frame-at-reads
+use Rattle.opening.proofs.frame_end.Reads as frame-end-reads
 
 abbrev Inv-loop : tie.InvT-loop
 Inv-loop file sections start first count₀ place₀ last₀ left₀ count place last left = (count + left ≤ 1000000) × (walkedFrom file sections first left last count place ≡ walkedIn file sections start)
@@ -25,17 +25,23 @@ read-requires c κs = search laws
 loop-holds : tie.Need-loop-holds Inv-loop μ-loop
 loop-holds c = search laws
 
-frame-at-requires : tie.Need-frame-at-requires Inv-loop μ-loop
-frame-at-requires c κs = search laws
+frame-end-requires : tie.Need-frame-end-requires Inv-loop μ-loop
+frame-end-requires c κs = search laws
 
-enum-known-frame : tie.Need-enum-known-frame Inv-loop μ-loop
-enum-known-frame c = search laws
+enum-known-end : tie.Need-enum-known-end Inv-loop μ-loop
+enum-known-end c = search laws
 
 enum-told : tie.Need-enum-told Inv-loop μ-loop
 enum-told c = search laws
 
 returns : tie.Need-returns Inv-loop μ-loop
 returns c = search laws
+
+add-read-2 : tie.Need-add-read-2 Inv-loop μ-loop
+add-read-2 c = search laws
+
+read-requires-2 : tie.Need-read-requires-2 Inv-loop μ-loop
+read-requires-2 c κs = search laws
 
 follows-last-requires : tie.Need-follows-last-requires Inv-loop μ-loop
 follows-last-requires c κs = search laws
@@ -67,10 +73,12 @@ walk-spec =
     add-read
     read-requires
     loop-holds
-    frame-at-requires
-    enum-known-frame
+    frame-end-requires
+    enum-known-end
     enum-told
     returns
+    add-read-2
+    read-requires-2
     follows-last-requires
     returns-2
     add-count

@@ -2,17 +2,18 @@ use Prim.Native.Nat.{_+_, _*_, _≤_}
 use mathlib.Core.Path.{_≡_}
 use lib.ListN.{length}
 use lib.Seq.{sets}
-use Rattle.repair.specs.Repaired.{entriesIn}
+use Rattle.repair.specs.Repaired.{framesIn, entriesIn}
 use Rattle.repair.proofs.Laws.{laws}
 use Rattle.repair.proofs.write_entries.Statement.{statement}
 use Rattle.repair.proofs.write_entries.Tie as tie
 use Rattle.repair.proofs.write_entries.Reads as reads
 use Rattle.repair.proofs.write_entries.Lts as lts
-use Rattle.opening.proofs.frame_at.Reads as frame-at-reads
+use Rattle.repair.proofs.known_end.Reads as known-end-reads
+use Rattle.repair.proofs.read_known.Reads as read-known-reads
 use Rattle.repair.proofs.write_entry.Reads as write-entry-reads
 
 abbrev Inv-loop : tie.InvT-loop
-Inv-loop file sections start first count out₀ place₀ entry₀ left₀ out place entry left = (length out ≡ length out₀) × (entry + 16 * left ≤ length out) × (sets out entry (entriesIn file sections first left place) ≡ sets out₀ 4 (entriesIn file sections first count start))
+Inv-loop file sections start first count out₀ place₀ entry₀ left₀ out place entry left = (length out ≡ length out₀) × (entry + 16 * left ≤ length out) × (framesIn file sections left place ≡ left) × (sets out entry (entriesIn file sections first left place) ≡ sets out₀ 4 (entriesIn file sections first count start))
 
 abbrev μ-loop : tie.MeasureT-loop
 μ-loop file sections start first count out₀ place₀ entry₀ left₀ out place entry left = left
@@ -20,20 +21,17 @@ abbrev μ-loop : tie.MeasureT-loop
 loop-holds : tie.Need-loop-holds Inv-loop μ-loop
 loop-holds c = search laws
 
-frame-at-requires : tie.Need-frame-at-requires Inv-loop μ-loop
-frame-at-requires c κs = search laws
+add-known-end : tie.Need-add-known-end Inv-loop μ-loop
+add-known-end c = search laws
 
-enum-known-frame : tie.Need-enum-known-frame Inv-loop μ-loop
-enum-known-frame c = search laws
+known-end-requires : tie.Need-known-end-requires Inv-loop μ-loop
+known-end-requires c κs = search laws
 
-enum-told : tie.Need-enum-told Inv-loop μ-loop
-enum-told c = search laws
+add-read-known : tie.Need-add-read-known Inv-loop μ-loop
+add-read-known c = search laws
 
-same-length : tie.Need-same-length Inv-loop μ-loop
-same-length c = search laws
-
-returns : tie.Need-returns Inv-loop μ-loop
-returns c = search laws
+read-known-requires : tie.Need-read-known-requires Inv-loop μ-loop
+read-known-requires c κs = search laws
 
 sub-write-entry : tie.Need-sub-write-entry Inv-loop μ-loop
 sub-write-entry c = search laws
@@ -51,13 +49,13 @@ loop-less : tie.Need-loop-less Inv-loop μ-loop
 loop-less c = search laws
 
 loop-again : tie.Need-loop-again Inv-loop μ-loop
-loop-again c = search laws
+loop-again c = (search laws, search laws, search laws, search laws)
 
-same-length-2 : tie.Need-same-length-2 Inv-loop μ-loop
-same-length-2 c = search laws
+same-length : tie.Need-same-length Inv-loop μ-loop
+same-length c = search laws
 
-returns-2 : tie.Need-returns-2 Inv-loop μ-loop
-returns-2 c = search laws
+returns : tie.Need-returns Inv-loop μ-loop
+returns c = search laws
 
 pub write-entries-spec : {M : Type 1} → statement M
 write-entries-spec =
@@ -66,16 +64,15 @@ write-entries-spec =
     Inv-loop
     μ-loop
     loop-holds
-    frame-at-requires
-    enum-known-frame
-    enum-told
-    same-length
-    returns
+    add-known-end
+    known-end-requires
+    add-read-known
+    read-known-requires
     sub-write-entry
     write-entry-requires
     add-entry
     sub-left
     loop-less
     loop-again
-    same-length-2
-    returns-2)
+    same-length
+    returns)

@@ -1,32 +1,27 @@
 use Rattle.repair.proofs.Laws.{laws}
-use borrow.Author.Needs.{needs}
 use Rattle.repair.proofs.write_entry.Statement.{statement}
 use Rattle.repair.proofs.write_entry.Tie as tie
 use Rattle.repair.proofs.write_entry.Reads as reads
 use Rattle.repair.proofs.write_entry.Lts as lts
-use Rattle.number.proofs.write.Reads as write-reads
-use Rattle.opening.proofs.since.Reads as since-reads
+use Rattle.repair.proofs.fill_entry.Reads as fill-entry-reads
 
-since-requires : tie.Need-since-requires
-since-requires c κs = search needs
+add-end : tie.Need-add-end
+add-end c = search laws
 
-write-requires : tie.Need-write-requires
-write-requires c κs = search needs
+sub-fill-entry : tie.Need-sub-fill-entry
+sub-fill-entry c = search laws
 
-add-write : tie.Need-add-write
-add-write c = search needs
+part-fill-entry-start : tie.Need-part-fill-entry-start
+part-fill-entry-start c = search laws
 
-write-requires-2 : tie.Need-write-requires-2
-write-requires-2 c κs = search needs
+part-fill-entry-end : tie.Need-part-fill-entry-end
+part-fill-entry-end c = search laws
 
-add-write-2 : tie.Need-add-write-2
-add-write-2 c = search needs
-
-write-requires-3 : tie.Need-write-requires-3
-write-requires-3 c κs = search needs
+fill-entry-requires : tie.Need-fill-entry-requires
+fill-entry-requires c κs = search laws
 
 same-length : tie.Need-same-length
-same-length c = search needs
+same-length c = search laws
 
 returns : tie.Need-returns
 returns c = search laws
@@ -35,11 +30,10 @@ pub write-entry-spec : {M : Type 1} → statement M
 write-entry-spec =
     tie.close
     (tie.spec
-    since-requires
-    write-requires
-    add-write
-    write-requires-2
-    add-write-2
-    write-requires-3
+    add-end
+    sub-fill-entry
+    part-fill-entry-start
+    part-fill-entry-end
+    fill-entry-requires
     same-length
     returns)

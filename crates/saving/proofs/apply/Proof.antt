@@ -4,16 +4,33 @@ use Rattle.saving.proofs.apply.Statement.{statement}
 use Rattle.saving.proofs.apply.Tie as tie
 use Rattle.saving.proofs.apply.Reads as reads
 use Rattle.saving.proofs.apply.Lts as lts
-use Rattle.saving.proofs.new_table.Reads as new-table-reads
+use Rattle.saving.proofs.kept_size.Reads as kept-size-reads
+use Rattle.saving.proofs.new_size.Reads as new-size-reads
+use Rattle.saving.proofs.write_table.Reads as write-table-reads
+
+kept-size-requires : tie.Need-kept-size-requires
+kept-size-requires c κs = search needs
+
+new-size-requires : tie.Need-new-size-requires
+new-size-requires c κs = search needs
+
+add-tags : tie.Need-add-tags
+add-tags c = search needs
 
 returns : tie.Need-returns
 returns c = search laws
 
+add-bytes : tie.Need-add-bytes
+add-bytes c = search needs
+
+add-bytes-2 : tie.Need-add-bytes-2
+add-bytes-2 c = search needs
+
 returns-2 : tie.Need-returns-2
 returns-2 c = search laws
 
-new-table-requires : tie.Need-new-table-requires
-new-table-requires c κs = search needs
+write-table-requires : tie.Need-write-table-requires
+write-table-requires c κs = search laws
 
 same-length : tie.Need-same-length
 same-length c = search needs
@@ -22,4 +39,16 @@ returns-3 : tie.Need-returns-3
 returns-3 c = search laws
 
 pub apply-spec : {M : Type 1} → statement M
-apply-spec = tie.close (tie.spec returns returns-2 new-table-requires same-length returns-3)
+apply-spec =
+    tie.close
+    (tie.spec
+    kept-size-requires
+    new-size-requires
+    add-tags
+    returns
+    add-bytes
+    add-bytes-2
+    returns-2
+    write-table-requires
+    same-length
+    returns-3)

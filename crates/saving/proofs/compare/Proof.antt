@@ -1,6 +1,8 @@
-use Prim.Native.Nat.{_+_}
+use Prim.Native.Nat.{_+_, _≤_}
 use mathlib.Core.Path.{_≡_}
-use Rattle.saving.specs.Rows.{tagsAt, changesAt, lookedFrom, lookedAt}
+use lib.ListN.{length, drop}
+use Rattle.saving.specs.Rows.{changesAt}
+use Rattle.saving.specs.Places.{beside, lookedBy}
 use Rattle.saving.proofs.Looks.{laws}
 use Rattle.saving.proofs.compare.Statement.{statement}
 use Rattle.saving.proofs.compare.Tie as tie
@@ -10,10 +12,10 @@ use Rattle.saving.proofs.disagrees.Reads as disagrees-reads
 use Rattle.text.proofs.row_at.Reads as row-at-reads
 
 abbrev Inv-loop : tie.InvT-loop
-Inv-loop table at n sheet changes place₀ passed₀ left₀ place passed left = (passed + left ≡ changes) × (lookedFrom (tagsAt table at n) (changesAt sheet place left) passed ≡ lookedAt table at n sheet changes)
+Inv-loop table sheet changes places place₀ passed₀ left₀ place passed left = (passed + left ≤ length places) × (lookedBy table (beside (drop passed places) (changesAt sheet place left)) passed ≡ lookedBy table (beside places (changesAt sheet 1 changes)) 0)
 
 abbrev μ-loop : tie.MeasureT-loop
-μ-loop table at n sheet changes place₀ passed₀ left₀ place passed left = left
+μ-loop table sheet changes places place₀ passed₀ left₀ place passed left = left
 
 loop-holds : tie.Need-loop-holds Inv-loop μ-loop
 loop-holds c = search laws
@@ -29,6 +31,12 @@ enum-told c = search laws
 
 returns : tie.Need-returns Inv-loop μ-loop
 returns c = search laws
+
+mul-disagrees : tie.Need-mul-disagrees Inv-loop μ-loop
+mul-disagrees c = search laws
+
+shared-slice-read-disagrees : tie.Need-shared-slice-read-disagrees Inv-loop μ-loop
+shared-slice-read-disagrees c = search laws
 
 disagrees-requires : tie.Need-disagrees-requires Inv-loop μ-loop
 disagrees-requires c κs = search laws
@@ -62,6 +70,8 @@ compare-spec =
     enum-known-row
     enum-told
     returns
+    mul-disagrees
+    shared-slice-read-disagrees
     disagrees-requires
     returns-2
     add-passed

@@ -23,9 +23,6 @@ returns c = search laws
 entry-value-requires : tie.Need-entry-value-requires
 entry-value-requires c κs = search needs
 
-add-look-up : tie.Need-add-look-up
-add-look-up c = search needs
-
 look-up-requires : tie.Need-look-up-requires
 look-up-requires c κs = search needs
 
@@ -47,7 +44,6 @@ disagrees-spec =
     shared-slice-read-if1
     returns
     entry-value-requires
-    add-look-up
     look-up-requires
     same-value-requires
     returns-2

@@ -5,16 +5,6 @@ use Rattle.saving.proofs.look_up.Tie as tie
 use Rattle.saving.proofs.look_up.Reads as reads
 use Rattle.saving.proofs.look_up.Lts as lts
 use Rattle.saving.proofs.tag_value.Reads as tag-value-reads
-use Rattle.text.proofs.find_name.Reads as find-name-reads
-
-find-name-requires : tie.Need-find-name-requires
-find-name-requires c κs = search needs
-
-enum-known-found : tie.Need-enum-known-found
-enum-known-found c = search needs
-
-enum-told : tie.Need-enum-told
-enum-told c = search needs
 
 returns : tie.Need-returns
 returns c = search laws
@@ -26,6 +16,4 @@ returns-2 : tie.Need-returns-2
 returns-2 c = search laws
 
 pub look-up-spec : {M : Type 1} → statement M
-look-up-spec =
-    tie.close
-    (tie.spec find-name-requires enum-known-found enum-told returns tag-value-requires returns-2)
+look-up-spec = tie.close (tie.spec returns tag-value-requires returns-2)

@@ -6,19 +6,6 @@ use Rattle.saving.proofs.new_part.Reads as reads
 use Rattle.saving.proofs.new_part.Lts as lts
 use Rattle.saving.proofs.new_value.Reads as new-value-reads
 use Rattle.saving.proofs.with_value.Reads as with-value-reads
-use Rattle.text.proofs.find_name.Reads as find-name-reads
-
-add-find-name : tie.Need-add-find-name
-add-find-name c = search laws
-
-find-name-requires : tie.Need-find-name-requires
-find-name-requires c κs = search needs
-
-enum-told : tie.Need-enum-told
-enum-told c = search needs
-
-enum-told-2 : tie.Need-enum-told-2
-enum-told-2 c = search needs
 
 returns : tie.Need-returns
 returns c = search laws
@@ -42,10 +29,6 @@ pub new-part-spec : {M : Type 1} → statement M
 new-part-spec =
     tie.close
     (tie.spec
-    add-find-name
-    find-name-requires
-    enum-told
-    enum-told-2
     returns
     add-new-value
     add-new-value-2

@@ -1,7 +1,9 @@
 use Prim.Native.Nat.{_+_, _*_, _≤_}
 use mathlib.Core.Path.{_≡_}
-use Rattle.saving.specs.Rows.{tagsAt, changesAt}
-use Rattle.saving.specs.Parts.{newPart, sizeOf, plus}
+use lib.ListN.{length, drop}
+use Rattle.saving.specs.Rows.{changesAt}
+use Rattle.saving.specs.Places.{beside}
+use Rattle.saving.specs.Parts.{newBy, sizeOf, plus}
 use Rattle.saving.proofs.Sizes.{laws}
 use Rattle.saving.proofs.new_size.Statement.{statement}
 use Rattle.saving.proofs.new_size.Tie as tie
@@ -12,10 +14,10 @@ use Rattle.saving.proofs.tags_in.Reads as tags-in-reads
 use Rattle.text.proofs.row_at.Reads as row-at-reads
 
 abbrev Inv-loop : tie.InvT-loop
-Inv-loop table at n sheet changes place₀ tags₀ bytes₀ left₀ place tags bytes left = (changes ≤ 64) × (tags + left ≤ changes) × (bytes + 512 * left ≤ 512 * changes) × (plus tags bytes (sizeOf (newPart (tagsAt table at n)) (changesAt sheet place left)) ≡ sizeOf (newPart (tagsAt table at n)) (changesAt sheet 1 changes))
+Inv-loop sheet changes places place₀ passed₀ tags₀ bytes₀ left₀ place passed tags bytes left = (changes ≤ 64) × (passed + left ≤ length places) × (tags + left ≤ changes) × (bytes + 512 * left ≤ 512 * changes) × (plus tags bytes (sizeOf newBy (beside (drop passed places) (changesAt sheet place left))) ≡ sizeOf newBy (beside places (changesAt sheet 1 changes)))
 
 abbrev μ-loop : tie.MeasureT-loop
-μ-loop table at n sheet changes place₀ tags₀ bytes₀ left₀ place tags bytes left = left
+μ-loop sheet changes places place₀ passed₀ tags₀ bytes₀ left₀ place passed tags bytes left = left
 
 loop-holds : tie.Need-loop-holds Inv-loop μ-loop
 loop-holds c = search laws
@@ -32,6 +34,12 @@ enum-told c = search laws
 returns : tie.Need-returns Inv-loop μ-loop
 returns c = search laws
 
+mul-new-part : tie.Need-mul-new-part Inv-loop μ-loop
+mul-new-part c = search laws
+
+shared-slice-read-new-part : tie.Need-shared-slice-read-new-part Inv-loop μ-loop
+shared-slice-read-new-part c = search laws
+
 new-part-requires : tie.Need-new-part-requires Inv-loop μ-loop
 new-part-requires c κs = search laws
 
@@ -46,6 +54,9 @@ add-tags c = search laws
 
 add-bytes : tie.Need-add-bytes Inv-loop μ-loop
 add-bytes c = search laws
+
+add-passed : tie.Need-add-passed Inv-loop μ-loop
+add-passed c = search laws
 
 sub-left : tie.Need-sub-left Inv-loop μ-loop
 sub-left c = search laws
@@ -70,11 +81,14 @@ new-size-spec =
     enum-known-row
     enum-told
     returns
+    mul-new-part
+    shared-slice-read-new-part
     new-part-requires
     add-more
     tags-in-requires
     add-tags
     add-bytes
+    add-passed
     sub-left
     loop-less
     loop-again

@@ -6,9 +6,8 @@ use Rattle.saving.proofs.save.Reads as reads
 use Rattle.saving.proofs.save.Lts as lts
 use Rattle.opening.proofs.open.Reads as open-reads
 use Rattle.opening.proofs.open_refusal.Reads as open-refusal-reads
-use Rattle.saving.proofs.apply.Reads as apply-reads
 use Rattle.saving.proofs.changes_of.Reads as changes-of-reads
-use Rattle.saving.proofs.compare.Reads as compare-reads
+use Rattle.saving.proofs.save_changes.Reads as save-changes-reads
 
 open-requires : tie.Need-open-requires
 open-requires c κs = search needs
@@ -37,29 +36,17 @@ enum-told-2 c = search needs
 returns-2 : tie.Need-returns-2
 returns-2 c = search laws
 
-add-at : tie.Need-add-at
-add-at c = search laws
+add-save-changes : tie.Need-add-save-changes
+add-save-changes c = search laws
 
-compare-requires : tie.Need-compare-requires
-compare-requires c κs = search needs
-
-enum-known-looked : tie.Need-enum-known-looked
-enum-known-looked c = search needs
-
-returns-3 : tie.Need-returns-3
-returns-3 c = search laws
-
-enum-told-3 : tie.Need-enum-told-3
-enum-told-3 c = search needs
-
-apply-requires : tie.Need-apply-requires
-apply-requires c κs = search needs
+save-changes-requires : tie.Need-save-changes-requires
+save-changes-requires c κs = search laws
 
 same-length : tie.Need-same-length
 same-length c = search needs
 
-returns-4 : tie.Need-returns-4
-returns-4 c = search laws
+returns-3 : tie.Need-returns-3
+returns-3 c = search laws
 
 pub save-spec : {M : Type 1} → statement M
 save-spec =
@@ -74,11 +61,7 @@ save-spec =
     enum-known-listed
     enum-told-2
     returns-2
-    add-at
-    compare-requires
-    enum-known-looked
-    returns-3
-    enum-told-3
-    apply-requires
+    add-save-changes
+    save-changes-requires
     same-length
-    returns-4)
+    returns-3)

@@ -1,6 +1,9 @@
+use Prim.Native.Nat.{_+_, _≤_}
 use mathlib.Core.List.{flatMap}
-use Rattle.saving.specs.Rows.{tagsAt, changesAt}
-use Rattle.saving.specs.Parts.{newPart, newBytes}
+use lib.ListN.{length, drop}
+use Rattle.saving.specs.Rows.{changesAt}
+use Rattle.saving.specs.Places.{beside}
+use Rattle.saving.specs.Parts.{newBy, newBytes}
 use Rattle.saving.proofs.Sizes.{Storing}
 use Rattle.saving.proofs.Sizes.{laws}
 use Rattle.saving.proofs.write_new.Statement.{statement}
@@ -12,10 +15,10 @@ use Rattle.saving.proofs.put_part.Reads as put-part-reads
 use Rattle.text.proofs.row_at.Reads as row-at-reads
 
 abbrev Inv-loop : tie.InvT-loop
-Inv-loop table at n sheet changes out₀ start place₀ to₀ left₀ out place to left = Storing to (flatMap (newPart (tagsAt table at n)) (changesAt sheet place left)) out out₀ start (newBytes table at n sheet changes)
+Inv-loop sheet changes places out₀ start place₀ passed₀ to₀ left₀ out place passed to left = (passed + left ≤ length places) × Storing to (flatMap newBy (beside (drop passed places) (changesAt sheet place left))) out out₀ start (newBytes sheet changes places)
 
 abbrev μ-loop : tie.MeasureT-loop
-μ-loop table at n sheet changes out₀ start place₀ to₀ left₀ out place to left = left
+μ-loop sheet changes places out₀ start place₀ passed₀ to₀ left₀ out place passed to left = left
 
 loop-holds : tie.Need-loop-holds Inv-loop μ-loop
 loop-holds c = search laws
@@ -35,17 +38,26 @@ same-length c = search laws
 returns : tie.Need-returns Inv-loop μ-loop
 returns c = search laws
 
+mul-new-part : tie.Need-mul-new-part Inv-loop μ-loop
+mul-new-part c = search laws
+
+shared-slice-read-new-part : tie.Need-shared-slice-read-new-part Inv-loop μ-loop
+shared-slice-read-new-part c = search laws
+
 new-part-requires : tie.Need-new-part-requires Inv-loop μ-loop
 new-part-requires c κs = search laws
 
+add-passed : tie.Need-add-passed Inv-loop μ-loop
+add-passed c = search laws
+
+add-next : tie.Need-add-next Inv-loop μ-loop
+add-next c = search laws
+
+add-next-2 : tie.Need-add-next-2 Inv-loop μ-loop
+add-next-2 c = search laws
+
 put-part-requires : tie.Need-put-part-requires Inv-loop μ-loop
 put-part-requires c κs = search laws
-
-add-to : tie.Need-add-to Inv-loop μ-loop
-add-to c = search laws
-
-add-to-2 : tie.Need-add-to-2 Inv-loop μ-loop
-add-to-2 c = search laws
 
 sub-left : tie.Need-sub-left Inv-loop μ-loop
 sub-left c = search laws
@@ -74,10 +86,13 @@ write-new-spec =
     enum-told
     same-length
     returns
+    mul-new-part
+    shared-slice-read-new-part
     new-part-requires
+    add-passed
+    add-next
+    add-next-2
     put-part-requires
-    add-to
-    add-to-2
     sub-left
     loop-less
     loop-again

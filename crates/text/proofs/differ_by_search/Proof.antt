@@ -3,10 +3,10 @@ use lib.ListN.{drop}
 use Rattle.layout.specs.Recording.{distinct}
 use Rattle.text.specs.Rows.{rowName, names, distinctNames}
 use Rattle.text.proofs.Names.{laws}
-use Rattle.text.proofs.distinct_names.Statement.{statement}
-use Rattle.text.proofs.distinct_names.Tie as tie
-use Rattle.text.proofs.distinct_names.Reads as reads
-use Rattle.text.proofs.distinct_names.Lts as lts
+use Rattle.text.proofs.differ_by_search.Statement.{statement}
+use Rattle.text.proofs.differ_by_search.Tie as tie
+use Rattle.text.proofs.differ_by_search.Reads as reads
+use Rattle.text.proofs.differ_by_search.Lts as lts
 use Rattle.text.proofs.find_name.Reads as find-name-reads
 use Rattle.text.proofs.row_at.Reads as row-at-reads
 
@@ -58,8 +58,8 @@ loop-again c = search laws
 returns-3 : tie.Need-returns-3 Inv-loop μ-loop
 returns-3 c = search laws
 
-pub distinct-names-spec : {M : Type 1} → statement M
-distinct-names-spec =
+pub differ-by-search-spec : {M : Type 1} → statement M
+differ-by-search-spec =
     tie.close
     (tie.spec
     Inv-loop

@@ -1,13 +1,13 @@
-use Rattle.reading.proofs.Held.{laws}
+use Rattle.reading.proofs.Laws.{laws}
 use borrow.Author.Needs.{needs}
-use Rattle.reading.proofs.held_item.Statement.{statement}
-use Rattle.reading.proofs.held_item.Tie as tie
-use Rattle.reading.proofs.held_item.Reads as reads
-use Rattle.reading.proofs.held_item.Lts as lts
+use Rattle.reading.proofs.find_of.Statement.{statement}
+use Rattle.reading.proofs.find_of.Tie as tie
+use Rattle.reading.proofs.find_of.Reads as reads
+use Rattle.reading.proofs.find_of.Lts as lts
 use Rattle.reading.proofs.configuration.Reads as configuration-reads
+use Rattle.reading.proofs.name_of.Reads as name-of-reads
 use Rattle.reading.proofs.section.Reads as section-reads
 use Rattle.reading.proofs.section_name.Reads as section-name-reads
-use Rattle.reading.proofs.name_of.Reads as name-of-reads
 use Rattle.reading.proofs.value_of.Reads as value-of-reads
 use Rattle.text.proofs.tag_found.Reads as tag-found-reads
 
@@ -15,19 +15,19 @@ enum-known-item : tie.Need-enum-known-item
 enum-known-item c = search needs
 
 section-requires : tie.Need-section-requires
-section-requires c κs = search laws
+section-requires c κs = search needs
 
 enum-known-item-2 : tie.Need-enum-known-item-2
 enum-known-item-2 c = search needs
 
 section-name-requires : tie.Need-section-name-requires
-section-name-requires c κs = search laws
+section-name-requires c κs = search needs
 
 enum-known-item-3 : tie.Need-enum-known-item-3
 enum-known-item-3 c = search needs
 
 configuration-requires : tie.Need-configuration-requires
-configuration-requires c κs = search laws
+configuration-requires c κs = search needs
 
 enum-known-item-4 : tie.Need-enum-known-item-4
 enum-known-item-4 c = search needs
@@ -86,8 +86,8 @@ returns-6 c = search laws
 returns-7 : tie.Need-returns-7
 returns-7 c = search laws
 
-pub held-item-spec : {M : Type 1} → statement M
-held-item-spec =
+pub find-of-spec : {M : Type 1} → statement M
+find-of-spec =
     tie.close
     (tie.spec
     enum-known-item
