@@ -1,0 +1,167 @@
+//! An evening at the club: record, list, lose the end of a recording and repair it, and save tags as two members at once.
+//!
+//! club [DIRECTORY]: the files stay in the directory; without one they are made under the system's temporary directory, and removed at the end.
+//! Every step is checked, and the program ends with 1 where one is not as it should be.
+
+use std::error::Error;
+use std::fs;
+use std::io::Cursor;
+use std::path::{Path, PathBuf};
+use std::process::ExitCode;
+
+use suljanko::{files, repair, FileRecorder, Recording, Refusal, Sheet};
+
+type Step = Result<(), Box<dyn Error>>;
+
+const SECTIONS: &[(&str, &[u8])] = &[("IMAGE", b"16x16, 16 bits"), ("STATUS", b"text")];
+const SYSTEM: &[(&str, &str)] = &[("CAMERA", "QHY 174 GPS"), ("TELESCOPE", "C14")];
+const FRAMES: i64 = 5;
+
+fn main() -> ExitCode {
+    let given = std::env::args_os().nth(1).map(PathBuf::from);
+    let made = std::env::temp_dir().join(format!("suljanko-club-{}", std::process::id()));
+    let evening = run(given.as_deref().unwrap_or(&made));
+    if given.is_none() {
+        let _ = fs::remove_dir_all(&made);
+    }
+    match evening {
+        Ok(()) => {
+            println!("All is as it should be.");
+            ExitCode::SUCCESS
+        }
+        Err(error) => {
+            println!("NOT as it should be: {error}");
+            ExitCode::FAILURE
+        }
+    }
+}
+
+fn run(directory: &Path) -> Step {
+    fs::create_dir_all(directory)?;
+    let night = directory.join("night.fstf");
+    record(&night)?;
+    list(&night)?;
+    lose_and_repair(&night, &directory.join("cut.fstf"))?;
+    save_as_two_members(&night)?;
+    list(&night)
+}
+
+fn check(holds: bool, what: &str) -> Step {
+    if holds {
+        return Ok(());
+    }
+    Err(what.into())
+}
+
+/// A star that drifts over a dark sky.
+fn image(number: i64) -> Vec<u8> {
+    let star = (5 + number, 7);
+    let pixel = |x, y| if (x, y) == star { 40_000_u16 } else { 90 };
+    (0..16).flat_map(|y| (0..16).flat_map(move |x| pixel(x, y).to_le_bytes())).collect()
+}
+
+/// The same frames into a file, or into memory: every 40 ms from a time in 2026 on.
+fn add_frame<S: std::io::Write + std::io::Seek>(recorder: &mut FileRecorder<S>, number: i64) -> Step {
+    let status = format!("frame {number}, satellites 9");
+    recorder.add(528_000_000_000 + 40 * number, 40, &[&image(number), status.as_bytes()])?;
+    Ok(())
+}
+
+fn record(night: &Path) -> Step {
+    println!("1. Recording {FRAMES} frames with the sections IMAGE and STATUS.");
+    let mut recorder = files::record(night, SECTIONS, SYSTEM)?;
+    for number in 0..FRAMES {
+        add_frame(&mut recorder, number)?;
+    }
+    let late = recorder.add(0, 40, &[&image(0), b"a clock that was set back"]);
+    let refusal = late.err().and_then(|error| error.refusal());
+    check(refusal == Some(Refusal::Clock), "a clock that was set back is refused 13")?;
+    println!("   The clock was set back for one frame: it was refused 13, and the recording goes on.");
+    recorder.close_on_disk()?;
+    println!("   Closed: {} bytes.", fs::metadata(night)?.len());
+    Ok(())
+}
+
+fn list(night: &Path) -> Step {
+    println!("   ┌ night.fstf");
+    let file = fs::read(night)?;
+    let recording = Recording::open(&file)?;
+    check(recording.frame_count() as i64 == FRAMES, "all frames are there")?;
+    check(recording.sections().map(|s| (s.name, s.configuration)).eq(SECTIONS.iter().copied()), "the sections")?;
+    check(recording.system_tags().map(|t| (t.name, t.value)).eq(SYSTEM.iter().copied()), "the system tags")?;
+    for tag in recording.system_tags() {
+        println!("   │ system tag {} = {}", tag.name, tag.value);
+    }
+    for tag in recording.user_tags() {
+        println!("   │ user tag {} = {}", tag.name, tag.value);
+    }
+    for (number, frame) in recording.frames().enumerate() {
+        let status = std::str::from_utf8(frame.section(1)?)?;
+        println!("   │ frame {number} at {} ms, exposure {}: {status}", frame.time(), frame.exposure());
+        check(frame.section(0)? == image(number as i64), "a frame's image is the one that was recorded")?;
+    }
+    println!("   └ {} frames", recording.frame_count());
+    Ok(())
+}
+
+fn lose_and_repair(night: &Path, cut: &Path) -> Step {
+    println!("2. The battery died: of the same recording, the file ends inside its last frame.");
+    let file = fs::read(night)?;
+    let last = Recording::open(&file)?.frames().next_back().ok_or("no frame")?;
+    fs::write(cut, &file[..last.place() + 100])?;
+    let bytes = fs::read(cut)?;
+    let refusal = Recording::open(&bytes).err();
+    check(refusal == Some(Refusal::NotClosed), "a recording that was not closed is refused 5")?;
+    println!("   Opening it: {}", Refusal::NotClosed);
+    let frames = files::repair(cut)?;
+    check(frames as i64 == FRAMES - 1, "all frames but the last are kept")?;
+    let repaired = fs::read(cut)?;
+    check(repaired == closed_after(FRAMES - 1)?, "it is what closing after the last whole frame would have given")?;
+    println!("   Repaired: {frames} frames, byte for byte the file that closing after them would have given.");
+    check(repair(&repaired).err() == Some(Refusal::Whole), "a repaired file needs no repair")?;
+    Ok(())
+}
+
+/// What the recorder writes when it is closed after so many frames.
+fn closed_after(frames: i64) -> Result<Vec<u8>, Box<dyn Error>> {
+    let mut recorder = FileRecorder::begin(Cursor::new(Vec::new()), SECTIONS, SYSTEM)?;
+    for number in 0..frames {
+        add_frame(&mut recorder, number)?;
+    }
+    recorder.close()?;
+    Ok(recorder.into_storage().into_inner())
+}
+
+/// A form: who looks sees OBSERVER and SITE as they are now, and writes what they should be.
+fn form(night: &Path, observer: &str, site: &str) -> Result<Sheet, Box<dyn Error>> {
+    let file = fs::read(night)?;
+    let seen = Recording::open(&file)?;
+    let mut sheet = Sheet::new();
+    sheet.change("OBSERVER").seen(seen.user_tag("OBSERVER")).set(observer);
+    sheet.change("SITE").seen(seen.user_tag("SITE")).set(site);
+    Ok(sheet)
+}
+
+fn save_as_two_members(night: &Path) -> Step {
+    println!("3. Aino and Veli have the same form open: there is no tag OBSERVER yet, and no tag SITE.");
+    let aino = form(night, "Aino", "Kuusamo")?;
+    let veli = form(night, "Veli", "Inari")?;
+    files::save(night, &aino)?;
+    println!("   Aino saves first.");
+    let before = fs::read(night)?;
+    let error = files::save(night, &veli).err().ok_or("a save over another member's change is refused")?;
+    let place = match error.refusal() {
+        Some(Refusal::Conflict { place }) => place,
+        _ => return Err(error.into()),
+    };
+    check(veli.name(place) == Some("OBSERVER"), "the refusal names the first tag that is not as it was seen")?;
+    check(fs::read(night)? == before, "a refused save leaves the file as it was")?;
+    println!("   Veli's save: {error}");
+    println!("   The tag is {}; nothing was changed.", veli.name(place).unwrap_or_default());
+    let again = form(night, "Aino and Veli", "Kuusamo")?;
+    files::save(night, &again)?;
+    println!("   Veli looks again, sees what Aino wrote, adds himself and saves.");
+    let file = fs::read(night)?;
+    let tags: Vec<_> = Recording::open(&file)?.user_tags().map(|tag| (tag.name, tag.value)).collect();
+    check(tags == [("OBSERVER", "Aino and Veli"), ("SITE", "Kuusamo")], "both members' tags are there")
+}

@@ -1,0 +1,340 @@
+//! A recording that opened: its frames, sections and tags, as parts of the file's bytes.
+
+use std::iter::FusedIterator;
+use std::ops::Range;
+
+use crate::calls;
+use crate::form::between;
+use crate::raw::{self, FstfOpened, FstfPart};
+use crate::refusal::{accepted, Refusal};
+
+/// A recording that opened.
+///
+/// It lends the file's bytes, and holds the numbers of the opening: the file is opened once, and everything below is read by these numbers.
+/// Nothing is copied; what is handed out are parts of the file.
+#[derive(Debug, Clone, Copy)]
+pub struct Recording<'a> {
+    file: &'a [u8],
+    opened: FstfOpened,
+}
+
+impl<'a> Recording<'a> {
+    /// Opens a file that is lent as bytes. Refused 1 to 7: a file opens exactly when it is one that the layout describes.
+    pub fn open(file: &'a [u8]) -> Result<Recording<'a>, Refusal> {
+        let opened = calls::open(file);
+        accepted(opened.refused)?;
+        Ok(Recording { file, opened })
+    }
+
+    /// The bytes of the whole file.
+    #[must_use]
+    pub fn file(&self) -> &'a [u8] {
+        self.file
+    }
+
+    /// The numbers of the opening, for the calls over plain slices.
+    #[must_use]
+    pub fn opened(&self) -> FstfOpened {
+        self.opened
+    }
+
+    /// How many frames the recording has, 0 to 1,000,000.
+    #[must_use]
+    pub fn frame_count(&self) -> usize {
+        self.opened.frames as usize
+    }
+
+    /// How many sections every frame has, 1 to 8.
+    #[must_use]
+    pub fn section_count(&self) -> usize {
+        self.opened.sections as usize
+    }
+
+    /// A frame by its number, from 0. Refused 8.
+    pub fn frame(&self, number: usize) -> Result<Frame<'a>, Refusal> {
+        let found = calls::frame_of(self.file, self.opened, number as u64);
+        accepted(found.refused)?;
+        Ok(Frame {
+            recording: *self,
+            number,
+            place: found.place as usize,
+            length: found.length as usize,
+            time: found.time,
+            exposure: found.exposure as u32,
+        })
+    }
+
+    /// The frames, in the order in which they were taken.
+    #[must_use]
+    pub fn frames(&self) -> Frames<'a> {
+        Frames { recording: *self, left: 0..self.frame_count() }
+    }
+
+    /// The name of a section, by its number from 0: digits, capitals and small letters. Refused 8.
+    pub fn section_name(&self, number: usize) -> Result<&'a str, Refusal> {
+        self.part(raw::FSTF_SECTION_NAME, number, 0).map(text)
+    }
+
+    /// The configuration of a section, opaque bytes. Refused 8.
+    pub fn configuration(&self, number: usize) -> Result<&'a [u8], Refusal> {
+        self.part(raw::FSTF_CONFIGURATION, number, 0)
+    }
+
+    /// The sections that every frame has, by name and configuration.
+    #[must_use]
+    pub fn sections(&self) -> Sections<'a> {
+        Sections { recording: *self, left: 0..self.section_count() }
+    }
+
+    /// The tags that the camera's program wrote.
+    #[must_use]
+    pub fn system_tags(&self) -> Tags<'a> {
+        Tags::new(self.system_table(), self.opened.system_tags as usize)
+    }
+
+    /// The tags that members wrote.
+    #[must_use]
+    pub fn user_tags(&self) -> Tags<'a> {
+        Tags::new(self.user_table(), self.opened.user_tags as usize)
+    }
+
+    /// The value of the system tag of this name, if there is one. Names are equal by their bytes.
+    #[must_use]
+    pub fn system_tag(&self, name: &str) -> Option<&'a str> {
+        value_of(self.system_tags(), name)
+    }
+
+    /// The value of the user tag of this name, if there is one: what a member who changes it has seen, see [`crate::Sheet`].
+    #[must_use]
+    pub fn user_tag(&self, name: &str) -> Option<&'a str> {
+        value_of(self.user_tags(), name)
+    }
+
+    /// The system table as it stands in the file.
+    #[must_use]
+    pub fn system_table(&self) -> &'a [u8] {
+        between(self.file, self.opened.system, self.opened.start)
+    }
+
+    /// The user table as it stands in the file, up to the file's end.
+    #[must_use]
+    pub fn user_table(&self) -> &'a [u8] {
+        between(self.file, self.opened.user, self.file.len() as u64)
+    }
+
+    /// Where the user table starts: a save leaves everything ahead of it.
+    #[must_use]
+    pub fn user_place(&self) -> usize {
+        self.opened.user as usize
+    }
+
+    fn part(&self, kind: u64, i: usize, j: usize) -> Result<&'a [u8], Refusal> {
+        let FstfPart { refused, start, length } = calls::part_of(self.file, self.opened, kind, i as u64, j as u64);
+        accepted(refused)?;
+        Ok(between(self.file, start, start.saturating_add(length)))
+    }
+}
+
+/// Names and values of a file that opened are bytes 32 to 126 only, so that this takes all of them.
+fn text(bytes: &[u8]) -> &str {
+    std::str::from_utf8(bytes).unwrap_or_default()
+}
+
+fn value_of<'a>(mut tags: Tags<'a>, name: &str) -> Option<&'a str> {
+    tags.find(|tag| tag.name == name).map(|tag| tag.value)
+}
+
+/// One frame: when it was taken, how long it was exposed, and the bytes of its sections.
+#[derive(Debug, Clone, Copy)]
+pub struct Frame<'a> {
+    recording: Recording<'a>,
+    number: usize,
+    place: usize,
+    length: usize,
+    time: i64,
+    exposure: u32,
+}
+
+impl<'a> Frame<'a> {
+    /// Its number in the recording, from 0.
+    #[must_use]
+    pub fn number(&self) -> usize {
+        self.number
+    }
+
+    /// Where it starts in the file.
+    #[must_use]
+    pub fn place(&self) -> usize {
+        self.place
+    }
+
+    /// How many bytes it has in the file, from its mark to its last byte.
+    #[must_use]
+    pub fn length(&self) -> usize {
+        self.length
+    }
+
+    /// Its time in milliseconds since 1 January 2010.
+    #[must_use]
+    pub fn time(&self) -> i64 {
+        self.time
+    }
+
+    /// Its exposure, the plain number that the camera's program gave.
+    #[must_use]
+    pub fn exposure(&self) -> u32 {
+        self.exposure
+    }
+
+    /// The bytes of a section, by its number from 0. Refused 8.
+    pub fn section(&self, number: usize) -> Result<&'a [u8], Refusal> {
+        self.recording.part(raw::FSTF_SECTION, self.number, number)
+    }
+
+    /// The bytes of the sections, in the order of [`Recording::sections`].
+    #[must_use]
+    pub fn sections(&self) -> FrameSections<'a> {
+        FrameSections { frame: *self, left: 0..self.recording.section_count() }
+    }
+}
+
+/// A section that every frame has.
+#[derive(Debug, Clone, Copy, PartialEq, Eq)]
+pub struct Section<'a> {
+    /// Its name: digits, capitals and small letters.
+    pub name: &'a str,
+    /// Its configuration, opaque bytes.
+    pub configuration: &'a [u8],
+}
+
+/// A tag of a table.
+#[derive(Debug, Clone, Copy, PartialEq, Eq)]
+pub struct Tag<'a> {
+    /// Its name, at least one character.
+    pub name: &'a str,
+    /// Its value, which may be empty.
+    pub value: &'a str,
+}
+
+/// The frames of a recording, see [`Recording::frames`].
+#[derive(Debug, Clone)]
+pub struct Frames<'a> {
+    recording: Recording<'a>,
+    left: Range<usize>,
+}
+
+impl<'a> Iterator for Frames<'a> {
+    type Item = Frame<'a>;
+
+    fn next(&mut self) -> Option<Frame<'a>> {
+        self.recording.frame(self.left.next()?).ok()
+    }
+
+    // By its number, without reading the ones ahead.
+    fn nth(&mut self, n: usize) -> Option<Frame<'a>> {
+        self.recording.frame(self.left.nth(n)?).ok()
+    }
+
+    fn size_hint(&self) -> (usize, Option<usize>) {
+        self.left.size_hint()
+    }
+}
+
+impl DoubleEndedIterator for Frames<'_> {
+    fn next_back(&mut self) -> Option<Self::Item> {
+        self.recording.frame(self.left.next_back()?).ok()
+    }
+}
+
+impl ExactSizeIterator for Frames<'_> {}
+impl FusedIterator for Frames<'_> {}
+
+/// The bytes of a frame's sections, see [`Frame::sections`].
+#[derive(Debug, Clone)]
+pub struct FrameSections<'a> {
+    frame: Frame<'a>,
+    left: Range<usize>,
+}
+
+impl<'a> Iterator for FrameSections<'a> {
+    type Item = &'a [u8];
+
+    fn next(&mut self) -> Option<&'a [u8]> {
+        self.frame.section(self.left.next()?).ok()
+    }
+
+    fn size_hint(&self) -> (usize, Option<usize>) {
+        self.left.size_hint()
+    }
+}
+
+impl ExactSizeIterator for FrameSections<'_> {}
+impl FusedIterator for FrameSections<'_> {}
+
+/// The sections that every frame of a recording has, see [`Recording::sections`].
+#[derive(Debug, Clone)]
+pub struct Sections<'a> {
+    recording: Recording<'a>,
+    left: Range<usize>,
+}
+
+impl<'a> Iterator for Sections<'a> {
+    type Item = Section<'a>;
+
+    fn next(&mut self) -> Option<Section<'a>> {
+        let number = self.left.next()?;
+        let name = self.recording.section_name(number).ok()?;
+        let configuration = self.recording.configuration(number).ok()?;
+        Some(Section { name, configuration })
+    }
+
+    fn size_hint(&self) -> (usize, Option<usize>) {
+        self.left.size_hint()
+    }
+}
+
+impl ExactSizeIterator for Sections<'_> {}
+impl FusedIterator for Sections<'_> {}
+
+/// The tags of a table, in its order, see [`Recording::user_tags`].
+///
+/// The library finds a tag by its number, which walks the table from its start. So that listing a table stays linear, this walks on from the
+/// tag before: the table is legal, since its file opened.
+#[derive(Debug, Clone)]
+pub struct Tags<'a> {
+    rest: &'a [u8],
+    left: usize,
+}
+
+impl<'a> Tags<'a> {
+    // The tags stand behind their count.
+    fn new(table: &'a [u8], left: usize) -> Tags<'a> {
+        Tags { rest: table.get(4..).unwrap_or_default(), left }
+    }
+
+    // "A short string is one length byte and that many bytes."
+    fn short_string(&mut self) -> Option<&'a str> {
+        let (&length, behind) = self.rest.split_first()?;
+        let string = behind.get(..usize::from(length))?;
+        self.rest = behind.get(string.len()..)?;
+        Some(text(string))
+    }
+}
+
+impl<'a> Iterator for Tags<'a> {
+    type Item = Tag<'a>;
+
+    fn next(&mut self) -> Option<Tag<'a>> {
+        self.left = self.left.checked_sub(1)?;
+        let name = self.short_string()?;
+        let value = self.short_string()?;
+        Some(Tag { name, value })
+    }
+
+    fn size_hint(&self) -> (usize, Option<usize>) {
+        (self.left, Some(self.left))
+    }
+}
+
+impl ExactSizeIterator for Tags<'_> {}
+impl FusedIterator for Tags<'_> {}

@@ -1,0 +1,213 @@
+//! The calls over plain slices: empty slices, made-up states and numbers, outputs that are too short.
+
+mod common;
+
+use common::{before_closing, WHOLE};
+use suljanko::raw::{self, FstfOpened, FstfRecorder};
+use suljanko::{calls, save, Recording, Sheet};
+
+const NONE: &[u8] = &[];
+
+/// Numbers at the edges of everything.
+const EDGES: [u64; 9] = [0, 1, 8, 34, 98, 1_000_000, 1 << 40, 1 << 63, u64::MAX];
+
+#[test]
+fn empty_slices() {
+    assert_eq!(calls::open(NONE).refused, 1);
+    assert_eq!(calls::frame(NONE, 0).refused, 1);
+    assert_eq!(calls::part(NONE, raw::FSTF_SECTION, 0, 0).refused, 1);
+    assert_eq!(calls::repair(NONE, &mut []).refused, 1);
+    assert_eq!(calls::save(NONE, NONE, &mut []).refused, 1);
+    assert_eq!(calls::save(&WHOLE, NONE, &mut []).refused, 10);
+    assert_eq!(calls::begin(calls::new(), NONE, NONE, &mut [], &mut []).refused, 10);
+    assert_eq!(calls::tag_at(NONE, 0).refused, 7);
+    assert_eq!(calls::tag_named(NONE, NONE).refused, 7);
+    // no tag has an empty name
+    assert_eq!(calls::tag_named(&[0; 4], NONE).found, 0);
+}
+
+#[test]
+fn refused_answers_hold_nothing_else() {
+    let nothing = FstfOpened {
+        refused: 7,
+        frames: 0,
+        sections: 0,
+        system_tags: 0,
+        user_tags: 0,
+        system: 0,
+        start: 0,
+        index: 0,
+        user: 0,
+    };
+    assert_eq!(calls::open(&WHOLE[..97]), nothing);
+    let part = calls::part(&WHOLE, raw::FSTF_SECTION, 1, 0);
+    assert_eq!((part.refused, part.start, part.length), (8, 0, 0));
+}
+
+#[test]
+fn the_numbers_of_the_opening() {
+    let opened = calls::open(&WHOLE);
+    assert_eq!((opened.refused, opened.frames, opened.sections), (0, 1, 1));
+    assert_eq!((opened.system_tags, opened.user_tags), (0, 0));
+    assert_eq!((opened.system, opened.start, opened.index, opened.user), (48, 52, 74, 94));
+}
+
+#[test]
+fn an_opening_answers_as_the_file_does() {
+    let opened = calls::open(&WHOLE);
+    for i in EDGES {
+        assert_eq!(calls::frame_of(&WHOLE, opened, i), calls::frame(&WHOLE, i));
+        for kind in [0, 1, 2, 3, 4, 5, 6, 7, u64::MAX] {
+            for j in EDGES {
+                assert_eq!(calls::part_of(&WHOLE, opened, kind, i, j), calls::part(&WHOLE, kind, i, j));
+            }
+        }
+    }
+}
+
+#[test]
+fn made_up_openings_stay_in_the_file() {
+    let files = [NONE, &WHOLE, &WHOLE[..50], &[0xFF; 200]];
+    for a in EDGES {
+        for b in EDGES {
+            for c in EDGES {
+                let opened = FstfOpened {
+                    refused: a,
+                    frames: b,
+                    sections: c,
+                    system_tags: b,
+                    user_tags: b,
+                    system: c,
+                    start: a,
+                    index: c,
+                    user: a,
+                };
+                for file in files {
+                    items_stay_in(file, opened, a);
+                }
+            }
+        }
+    }
+}
+
+fn items_stay_in(file: &[u8], opened: FstfOpened, i: u64) {
+    let frame = calls::frame_of(file, opened, i);
+    stays_in(file, opened, frame.refused, frame.place, frame.length);
+    for kind in 0..8 {
+        let part = calls::part_of(file, opened, kind, i, 0);
+        stays_in(file, opened, part.refused, part.start, part.length);
+    }
+}
+
+// A refusal of the opening is passed through; else the item is inside the file, or it is not there.
+fn stays_in(file: &[u8], opened: FstfOpened, refused: u64, start: u64, length: u64) {
+    if opened.refused != 0 {
+        assert_eq!(refused, opened.refused, "{opened:?}");
+    }
+    if refused != 0 {
+        assert!(refused == 8 || refused == opened.refused, "{opened:?}");
+        return;
+    }
+    let end = start.checked_add(length).unwrap();
+    assert!(end <= file.len() as u64, "{start} to {end}, {opened:?}");
+}
+
+#[test]
+fn made_up_states_are_refused_12_and_handed_back() {
+    let running = FstfRecorder { stage: 1, piece: 0, sections: 1, frames: 1, first: 1000, last: 1000, end: 74 };
+    let closing = FstfRecorder { stage: 2, ..running };
+    let broken = [
+        FstfRecorder { stage: 3, ..running },
+        FstfRecorder { stage: 4, ..running },
+        FstfRecorder { stage: u64::MAX, ..running },
+        FstfRecorder { sections: 0, ..running },
+        FstfRecorder { sections: 9, ..running },
+        FstfRecorder { frames: 1_000_001, ..running },
+        FstfRecorder { frames: u64::MAX, ..running },
+        FstfRecorder { last: 999, ..running },
+        FstfRecorder { first: i64::MIN, last: i64::MAX, ..running },
+        FstfRecorder { end: u64::MAX, ..running },
+        // end + index + 512,004 with the one frame's index of 20 bytes: one byte over 2^40
+        FstfRecorder { end: (1 << 40) - 512_004 - 20 + 1, ..running },
+        FstfRecorder { piece: 5, ..closing },
+        FstfRecorder { piece: u64::MAX, ..closing },
+        FstfRecorder { sections: 0, ..closing },
+    ];
+    for state in broken {
+        let mut notes = [0xA5; 64];
+        let mut out = [0x5A; 64];
+        let added = calls::add(state, 1000, 40, &WHOLE[68..74], &mut notes, &mut out);
+        let closed = calls::close(state, &notes, &mut out);
+        for taken in [added, closed] {
+            assert_eq!((taken.refused, taken.place, taken.length), (12, 0, 0), "{state:?}");
+            assert_eq!(taken.recorder, state);
+        }
+        assert_eq!((notes, out), ([0xA5; 64], [0x5A; 64]));
+    }
+}
+
+#[test]
+fn states_at_their_limits_are_taken() {
+    let running = FstfRecorder { stage: 1, piece: 0, sections: 1, frames: 1, first: 1000, last: 1000, end: 74 };
+    let mut notes = [0; 64];
+    let mut out = [0; 64];
+    let far = FstfRecorder { end: (1 << 40) - 512_004 - 20, ..running };
+    assert_eq!(calls::close(far, &notes, &mut out).refused, 0);
+    assert_eq!(calls::add(far, 1000, 40, &WHOLE[68..74], &mut notes, &mut out).refused, 15);
+    // a frame of 22 bytes and 16 more of index still go in
+    let near = FstfRecorder { end: (1 << 40) - 512_004 - 20 - 22 - 16, ..running };
+    assert_eq!(calls::add(near, 1000, 40, &WHOLE[68..74], &mut notes, &mut out).refused, 0);
+    let over = FstfRecorder { end: near.end + 1, ..near };
+    assert_eq!(calls::add(over, 1000, 40, &WHOLE[68..74], &mut notes, &mut out).refused, 15);
+    let full = FstfRecorder { frames: 1_000_000, ..running };
+    assert_eq!(calls::add(full, 1000, 40, &WHOLE[68..74], &mut notes, &mut out).refused, 15);
+}
+
+#[test]
+fn outputs_of_every_length() {
+    // the tail of P9's repair has 24 bytes
+    for length in 0..30 {
+        let mut out = vec![0x5A; length];
+        let repaired = calls::repair(&before_closing(), &mut out);
+        if length < 24 {
+            assert_eq!(repaired.refused, 9);
+            assert!(out.iter().all(|byte| *byte == 0x5A));
+        } else {
+            assert_eq!((repaired.refused, repaired.tail), (0, 24));
+            assert_eq!(out[..24], WHOLE[74..]);
+            assert!(out[24..].iter().all(|byte| *byte == 0x5A));
+        }
+    }
+}
+
+#[test]
+fn a_save_fills_its_output_and_no_more() {
+    let mut sheet = Sheet::new();
+    sheet.change("SITE").nobody_looked().set("A");
+    let table = save(&WHOLE, &sheet).unwrap().table().to_vec();
+    for length in 0..table.len() + 3 {
+        let mut out = vec![0x5A; length];
+        let saved = calls::save(&WHOLE, &sheet.to_vec(), &mut out);
+        if length < table.len() {
+            assert_eq!((saved.refused, saved.place, saved.length), (9, 0, 0));
+            assert!(out.iter().all(|byte| *byte == 0x5A));
+        } else {
+            assert_eq!((saved.refused, saved.length), (0, 11));
+            assert_eq!(out[..11], table);
+            assert!(out[11..].iter().all(|byte| *byte == 0x5A));
+        }
+    }
+}
+
+#[test]
+fn the_declarations_themselves() {
+    // SAFETY: pointer and length are of one slice; the answer is a plain struct.
+    let opened = unsafe { raw::fstf_open(WHOLE.as_ptr(), WHOLE.len()) };
+    assert_eq!(opened, Recording::open(&WHOLE).unwrap().opened());
+    // SAFETY: a pointer of length 0 may be null.
+    let nothing = unsafe { raw::fstf_open(std::ptr::null(), 0) };
+    assert_eq!(nothing.refused, 1);
+    // SAFETY: it takes nothing.
+    let fresh = unsafe { raw::fstf_new() };
+    assert_eq!((fresh.stage, fresh.piece, fresh.first, fresh.last), (0, 0, 0, 0));
+}
