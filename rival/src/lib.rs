@@ -1,0 +1,26 @@
+//! FSTF revision 1 over lent bytes, as document 01 defines it: open and read,
+//! record, repair, save tags.
+//!
+//! Every call works on bytes the caller lends. A refused call answers with
+//! document 01's refusal number and changes no lent byte.
+#![forbid(unsafe_code)]
+
+mod browser;
+mod layout;
+mod names;
+mod opening;
+mod reading;
+mod recorder;
+mod refusal;
+mod repair;
+mod saving;
+mod table;
+mod walk;
+
+pub use browser::{tag_at, tag_named};
+pub use opening::{open, Opened};
+pub use reading::{frame, part, Frame, Item};
+pub use recorder::{add, begin, close, Piece, Stage, State};
+pub use repair::{repair, Repaired};
+pub use saving::{save, NotSaved};
+pub use table::Tag;
