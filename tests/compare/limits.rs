@@ -1,0 +1,144 @@
+//! The largest of everything, and one more.
+
+use crate::build::*;
+use crate::files;
+use crate::random::Random;
+use crate::raw::FstfRecorder;
+use crate::sides::Sides;
+
+const SECTION_LIMIT: usize = 16_777_216;
+const FRAME_LIMIT: usize = 1_000_000;
+
+/// A section of 16,777,216 bytes and of one more: added, and in files that are opened, read and repaired.
+pub fn large_sections(sides: &mut Sides, random: &mut Random) {
+    for length in [SECTION_LIMIT, SECTION_LIMIT + 1] {
+        let mut recording = worked();
+        recording.frames.push(Frame { time: 1000, exposure: 1, sections: vec![random.bytes(length)] });
+        recording.frames.push(Frame { time: 1001, exposure: 2, sections: vec![vec![7]] });
+        let sections = sizes(&recording.frames[1].sections).bytes;
+        let state = FstfRecorder { stage: 1, piece: 0, sections: 1, frames: 1, first: 1000, last: 1000, end: 74 };
+        let notes = random.bytes(40);
+        for room in [length + 20, length + 19, length + 21, 0] {
+            let out = random.bytes(room);
+            sides.add(state, 1000, 1, &sections, &notes, &out);
+        }
+        let file = recording.file().bytes;
+        let opened = sides.open(&file);
+        for i in 0..4 {
+            sides.frame(&file, opened, i);
+            sides.part(&file, opened, 0, i, 0);
+            sides.part(&file, opened, 0, i, 1);
+        }
+        let unclosed = recording.unclosed().bytes;
+        for cut in [0, 1, 25, 26, 27] {
+            files::repair(sides, random, &unclosed[..unclosed.len() - cut]);
+        }
+    }
+}
+
+/// Tables of 1,000 tags and of one more, as system and as user table, in files and alone.
+pub fn full_tables(sides: &mut Sides, random: &mut Random) {
+    for count in [1000, 1001] {
+        let many = tags(random, count);
+        let bytes = table(&many).bytes;
+        for number in [0, 1, 500, 999, 1000, 1001, u64::MAX] {
+            sides.tag_at(&bytes, number);
+        }
+        for tag in [&many[0], &many[999], &many[count - 1]] {
+            sides.tag_named(&bytes, &tag.name);
+            sides.tag_named(&bytes, b"not in the table, I think");
+        }
+        let state = sides.fresh();
+        let list = setup(&smallest().sections).bytes;
+        let out = random.bytes(bytes.len() + 100);
+        sides.begin(state, &list, &bytes, &[1; 9], &out);
+        for (system, user) in [(many.clone(), Vec::new()), (Vec::new(), many.clone())] {
+            let recording = Recording { system, user, ..worked() };
+            let file = recording.file().bytes;
+            let opened = sides.open(&file);
+            for i in [0, 999, 1000] {
+                for kind in 3..7 {
+                    sides.part(&file, opened, kind, i, 0);
+                }
+            }
+            files::repair(sides, random, &file);
+            files::repair(sides, random, &recording.unclosed().bytes);
+        }
+    }
+}
+
+/// Configurations of 65,535 bytes and of one more, at each of three sections, and eight of the largest.
+pub fn large_configurations(sides: &mut Sides, random: &mut Random) {
+    for length in [65_535, 65_536] {
+        for at in 0..3 {
+            let mut recording = worked();
+            recording.sections = (0..3)
+                .map(|i| Section {
+                    name: format!("S{}", i).into_bytes(),
+                    configuration: random.bytes(if i == at { length } else { i }),
+                })
+                .collect();
+            recording.frames.clear();
+            let file = recording.file().bytes;
+            let opened = sides.open(&file);
+            for i in 0..4 {
+                sides.part(&file, opened, 2, i, 0);
+            }
+            files::repair(sides, random, &recording.unclosed().bytes);
+        }
+    }
+    let sections: Vec<Section> =
+        (0..8).map(|i| Section { name: vec![b'A' + i; 255], configuration: random.bytes(65_535) }).collect();
+    let many = tags(random, 1000);
+    let recording = Recording { sections, system: many, frames: Vec::new(), user: Vec::new() };
+    let state = sides.fresh();
+    let front = recording.unclosed().bytes;
+    let list = setup(&recording.sections).bytes;
+    let system = table(&recording.system).bytes;
+    for room in [front.len(), front.len() - 1, front.len() + 9] {
+        let out = random.bytes(room);
+        sides.begin(state, &list, &system, &[9; 4], &out);
+    }
+    sides.open(&recording.file().bytes);
+}
+
+/// Files of 1,000,000 frames and of one more, and the recorder's state there.
+pub fn many_frames(sides: &mut Sides, random: &mut Random) {
+    let mut recording = worked();
+    recording.frames = (0..FRAME_LIMIT as i64)
+        .map(|i| Frame { time: i / 3, exposure: i as u32, sections: vec![Vec::new()] })
+        .collect();
+    for more in 0..2 {
+        if more == 1 {
+            recording.frames.push(Frame { time: 1 << 30, exposure: 9, sections: vec![vec![1]] });
+        }
+        let file = recording.file().bytes;
+        let opened = sides.open(&file);
+        for i in [0, 500_000, 999_999, 1_000_000, 1_000_001] {
+            sides.frame(&file, opened, i);
+        }
+        sides.part(&file, opened, 0, 999_999, 0);
+        let unclosed = recording.unclosed().bytes;
+        for cut in [0, 1] {
+            let cut_file = &unclosed[..unclosed.len() - cut];
+            sides.repair(cut_file, &random.bytes(16 * FRAME_LIMIT + 30));
+            sides.repair(cut_file, &random.bytes(16 * FRAME_LIMIT + 7));
+        }
+        // The header's count alone: the frames before the last, and one that is not there.
+        for count in [FRAME_LIMIT as u64 - 1, FRAME_LIMIT as u64, FRAME_LIMIT as u64 + 1] {
+            let mut nudged = file.clone();
+            set_number(&mut nudged, 5, 4, count);
+            sides.open(&nudged);
+        }
+    }
+    let full = 4 + 16 * FRAME_LIMIT;
+    for frames in [FRAME_LIMIT as u64 - 1, FRAME_LIMIT as u64] {
+        let state = FstfRecorder { stage: 1, piece: 0, sections: 1, frames, first: 0, last: 9, end: 1 << 30 };
+        for room in [full, full - 1, full + 1] {
+            let notes = random.bytes(room);
+            sides.add(state, 9, 1, &[1, 0, 0, 0, 5], &notes, &[0; 30]);
+            let out = random.bytes(full);
+            sides.close(state, &notes, &out);
+        }
+    }
+}

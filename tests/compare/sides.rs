@@ -1,0 +1,472 @@
+//! Each public call on both sides, the library through its C face and the rival: what the rival answers is put in the shape of the face, every
+//! member, and compared with what the library answers. Lent bytes are compared whole. Whatever differs is printed and counted.
+
+use crate::build::number;
+use crate::calls as ours;
+use crate::raw::*;
+use std::fmt::Debug;
+
+#[derive(Clone, Copy)]
+pub enum Call {
+    New,
+    Open,
+    Frame,
+    FrameOf,
+    Part,
+    PartOf,
+    Begin,
+    Add,
+    Close,
+    Repair,
+    Save,
+    TagAt,
+    TagNamed,
+}
+
+/// Stands beside the refusal numbers for the end of a table, or no such tag.
+const NONE: u64 = 18;
+const OUTCOMES: usize = 19;
+
+/// Each call with the outcomes that must be met; 0 is acceptance. Repair's 15 needs a file of 2^40 bytes.
+const CALLS: [(&str, &[u64]); 13] = [
+    ("fstf_new", &[0]),
+    ("fstf_open", &[0, 1, 2, 3, 4, 5, 6, 7]),
+    ("fstf_frame", &[0, 1, 2, 3, 4, 5, 6, 7, 8]),
+    ("fstf_frame_of", &[0, 1, 2, 3, 4, 5, 6, 7, 8]),
+    ("fstf_part", &[0, 1, 2, 3, 4, 5, 6, 7, 8]),
+    ("fstf_part_of", &[0, 1, 2, 3, 4, 5, 6, 7, 8]),
+    ("fstf_begin", &[0, 12, 10, 3, 4, 9]),
+    ("fstf_add", &[0, 12, 14, 15, 13, 9]),
+    ("fstf_close", &[0, 12, 9]),
+    ("fstf_repair", &[0, 1, 2, 3, 4, 16, 13, 9]),
+    ("fstf_save", &[0, 1, 2, 3, 4, 5, 6, 7, 10, 11, 17, 9]),
+    ("fstf_tag_at", &[0, NONE, 7]),
+    ("fstf_tag_named", &[0, NONE, 7]),
+];
+
+/// Differences printed before the run is given up.
+const ENOUGH: u64 = 5;
+
+pub struct Sides {
+    pub seed: u64,
+    pub group: &'static str,
+    pub case: u64,
+    pub inputs: u64,
+    pub differences: u64,
+    met: [[u64; OUTCOMES]; CALLS.len()],
+}
+
+/// Lent bytes: as given, and as each side left them.
+struct Lent {
+    before: Vec<u8>,
+    ours: Vec<u8>,
+    theirs: Vec<u8>,
+}
+
+impl Lent {
+    fn new(bytes: &[u8]) -> Lent {
+        Lent { before: bytes.to_vec(), ours: bytes.to_vec(), theirs: bytes.to_vec() }
+    }
+
+    fn agree(&self) -> bool {
+        self.ours == self.theirs
+    }
+
+    /// A refusal leaves all bytes, an acceptance those from `answer` on.
+    fn kept_from(&self, answer: usize) -> bool {
+        self.ours.get(answer..) == self.before.get(answer..)
+    }
+}
+
+/// What is printed of a byte string: short ones whole.
+fn shown(bytes: &[u8]) -> String {
+    if bytes.len() <= 600 {
+        let hex: Vec<String> = bytes.iter().map(|byte| format!("{:02X}", byte)).collect();
+        return format!("{} bytes {}", bytes.len(), hex.join(" "));
+    }
+    let hash = bytes
+        .iter()
+        .fold(0xCBF2_9CE4_8422_2325_u64, |hash, byte| (hash ^ u64::from(*byte)).wrapping_mul(0x0100_0000_01B3));
+    format!("{} bytes, FNV-1a {:016X}", bytes.len(), hash)
+}
+
+/// The rival's state for the numbers of a state of the face, where any stage over 3 is closed.
+fn their_state(recorder: FstfRecorder) -> rival::State {
+    rival::State {
+        stage: match recorder.stage {
+            0 => rival::Stage::Fresh,
+            1 => rival::Stage::Running,
+            2 => rival::Stage::Closing(recorder.piece),
+            _ => rival::Stage::Closed,
+        },
+        sections: recorder.sections,
+        frames: recorder.frames,
+        first: recorder.first,
+        last: recorder.last,
+        end: recorder.end,
+    }
+}
+
+fn flat_state(state: rival::State) -> FstfRecorder {
+    let (stage, piece) = match state.stage {
+        rival::Stage::Fresh => (0, 0),
+        rival::Stage::Running => (1, 0),
+        rival::Stage::Closing(piece) => (2, piece),
+        rival::Stage::Closed => (3, 0),
+    };
+    FstfRecorder {
+        stage,
+        piece,
+        sections: state.sections,
+        frames: state.frames,
+        first: state.first,
+        last: state.last,
+        end: state.end,
+    }
+}
+
+fn flat_taken(given: FstfRecorder, answer: Result<(rival::State, rival::Piece), u64>) -> FstfTaken {
+    match answer {
+        Ok((state, piece)) => {
+            FstfTaken { refused: 0, place: piece.place, length: piece.length, recorder: flat_state(state) }
+        }
+        Err(refused) => FstfTaken { refused, place: 0, length: 0, recorder: given },
+    }
+}
+
+fn flat_tag(answer: Result<Option<rival::Tag>, u64>) -> FstfTag {
+    let none = FstfTag { refused: 0, found: 0, name: 0, name_length: 0, value: 0, value_length: 0 };
+    match answer {
+        Ok(Some(tag)) => FstfTag {
+            refused: 0,
+            found: 1,
+            name: tag.name,
+            name_length: tag.name_length,
+            value: tag.value,
+            value_length: tag.value_length,
+        },
+        Ok(None) => none,
+        Err(refused) => FstfTag { refused, ..none },
+    }
+}
+
+/// The item that a kind of the face names; a kind that is none asks for a frame that no file has.
+fn their_item(kind: u64, i: u64, j: u64) -> rival::Item {
+    match kind {
+        0 => rival::Item::Section(i, j),
+        1 => rival::Item::SectionName(i),
+        2 => rival::Item::Configuration(i),
+        3 => rival::Item::SystemName(i),
+        4 => rival::Item::SystemValue(i),
+        5 => rival::Item::UserName(i),
+        6 => rival::Item::UserValue(i),
+        _ => rival::Item::Section(u64::MAX, j),
+    }
+}
+
+fn within(file: &[u8], start: u64, length: u64) -> bool {
+    matches!(start.checked_add(length), Some(end) if end <= file.len() as u64)
+}
+
+fn tag_outcome(tag: &FstfTag) -> u64 {
+    if tag.refused == 0 && tag.found == 0 {
+        return NONE;
+    }
+    tag.refused
+}
+
+impl Sides {
+    pub fn new(seed: u64) -> Sides {
+        Sides { seed, group: "", case: 0, inputs: 0, differences: 0, met: [[0; OUTCOMES]; CALLS.len()] }
+    }
+
+    pub fn enough(&self) -> bool {
+        self.differences >= ENOUGH
+    }
+
+    /// Counts an outcome, and prints the input and both answers where they differ.
+    fn settle(&mut self, call: Call, outcome: u64, agree: bool, input: &dyn Fn() -> String, answers: [&dyn Debug; 2]) {
+        self.inputs += 1;
+        self.met[call as usize][(outcome as usize).min(OUTCOMES - 1)] += 1;
+        if agree {
+            return;
+        }
+        self.differences += 1;
+        if self.differences > ENOUGH {
+            return;
+        }
+        println!("seed {} group {} case {}: {}", self.seed, self.group, self.case, CALLS[call as usize].0);
+        println!("  {}", input());
+        println!("  library {:?}", answers[0]);
+        println!("  rival   {:?}", answers[1]);
+    }
+
+    fn settle_lent(
+        &mut self,
+        call: Call,
+        outcome: u64,
+        agree: bool,
+        lent: &[&Lent],
+        input: &dyn Fn() -> String,
+        answers: [&dyn Debug; 2],
+    ) {
+        let whole = || {
+            let mut all = input();
+            for bytes in lent {
+                all += &format!("\n  lent {}", shown(&bytes.before));
+                all += &format!("\n  left by the library {}", shown(&bytes.ours));
+                all += &format!("\n  left by the rival   {}", shown(&bytes.theirs));
+            }
+            all
+        };
+        let same = lent.iter().all(|bytes| bytes.agree());
+        self.settle(call, outcome, agree && same, &whole, answers);
+    }
+
+    /// What both sides could miss together: an answer that is known from how the bytes were made.
+    pub fn known(&mut self, holds: bool, what: &str, bytes: &[u8]) {
+        if holds {
+            return;
+        }
+        self.differences += 1;
+        println!("seed {} group {} case {}: not so: {}", self.seed, self.group, self.case, what);
+        println!("  {}", shown(bytes));
+    }
+
+    pub fn fresh(&mut self) -> FstfRecorder {
+        let ours = ours::new();
+        let theirs = flat_state(rival::State::new());
+        self.settle(Call::New, 0, ours == theirs, &String::new, [&ours, &theirs]);
+        ours
+    }
+
+    pub fn open(&mut self, file: &[u8]) -> FstfOpened {
+        let ours = ours::open(file);
+        let none = FstfOpened {
+            refused: 0,
+            frames: 0,
+            sections: 0,
+            system_tags: 0,
+            user_tags: 0,
+            system: 0,
+            start: 0,
+            index: 0,
+            user: 0,
+        };
+        let theirs = match rival::open(file) {
+            Ok(opened) => FstfOpened {
+                refused: 0,
+                frames: opened.frames,
+                sections: opened.sections,
+                system_tags: opened.system_tags,
+                user_tags: opened.user_tags,
+                // The rival does not hand it out: the header's own field.
+                system: number(file, 17, 8),
+                start: opened.start,
+                index: opened.index,
+                user: opened.user,
+            },
+            Err(refused) => FstfOpened { refused, ..none },
+        };
+        let input = || format!("file {}", shown(file));
+        self.settle(Call::Open, ours.refused, ours == theirs, &input, [&ours, &theirs]);
+        ours
+    }
+
+    /// A frame by its number, from the file and from the numbers of its opening.
+    pub fn frame(&mut self, file: &[u8], opened: FstfOpened, i: u64) -> FstfFrame {
+        let ours = ours::frame(file, i);
+        let none = FstfFrame { refused: 0, place: 0, length: 0, time: 0, exposure: 0 };
+        let theirs = match rival::frame(file, i) {
+            Ok(frame) => FstfFrame {
+                refused: 0,
+                place: frame.place,
+                length: frame.length,
+                time: frame.time,
+                exposure: u64::from(frame.exposure),
+            },
+            Err(refused) => FstfFrame { refused, ..none },
+        };
+        let input = || format!("frame {} of file {}", i, shown(file));
+        self.settle(Call::Frame, ours.refused, ours == theirs, &input, [&ours, &theirs]);
+        let held = ours::frame_of(file, opened, i);
+        self.settle(Call::FrameOf, held.refused, held == theirs, &input, [&held, &theirs]);
+        ours
+    }
+
+    /// A part by its kind and numbers, from the file and from the numbers of its opening.
+    pub fn part(&mut self, file: &[u8], opened: FstfOpened, kind: u64, i: u64, j: u64) -> FstfPart {
+        let ours = ours::part(file, kind, i, j);
+        let theirs = match rival::part(file, their_item(kind, i, j)) {
+            Ok((start, length)) => FstfPart { refused: 0, start, length },
+            Err(refused) => FstfPart { refused, start: 0, length: 0 },
+        };
+        let input = || format!("kind {} numbers {} {} of file {}", kind, i, j, shown(file));
+        self.settle(Call::Part, ours.refused, ours == theirs, &input, [&ours, &theirs]);
+        let held = ours::part_of(file, opened, kind, i, j);
+        self.settle(Call::PartOf, held.refused, held == theirs, &input, [&held, &theirs]);
+        ours
+    }
+
+    /// A frame by any numbers, which the rival does not know: it lies in the file, or is refused as the opening was, or 8.
+    pub fn frame_of(&mut self, file: &[u8], numbers: FstfOpened, i: u64) {
+        let ours = ours::frame_of(file, numbers, i);
+        let refused = if numbers.refused != 0 { numbers.refused } else { 8 };
+        let none = FstfFrame { refused, place: 0, length: 0, time: 0, exposure: 0 };
+        let inside = ours.refused == 0 && within(file, ours.place, ours.length);
+        let agree = ours == none || inside && numbers.refused == 0;
+        let input = || format!("frame {} by {:?} of file {}", i, numbers, shown(file));
+        self.settle(Call::FrameOf, ours.refused, agree, &input, [&ours, &"in the file, or refused"]);
+    }
+
+    /// A part by any numbers, as `frame_of`.
+    pub fn part_of(&mut self, file: &[u8], numbers: FstfOpened, kind: u64, i: u64, j: u64) {
+        let ours = ours::part_of(file, numbers, kind, i, j);
+        let refused = if numbers.refused != 0 { numbers.refused } else { 8 };
+        let none = FstfPart { refused, start: 0, length: 0 };
+        let inside = ours.refused == 0 && within(file, ours.start, ours.length);
+        let agree = ours == none || inside && numbers.refused == 0;
+        let input = || format!("kind {} numbers {} {} by {:?} of file {}", kind, i, j, numbers, shown(file));
+        self.settle(Call::PartOf, ours.refused, agree, &input, [&ours, &"in the file, or refused"]);
+    }
+
+    /// What the call answered, the notes and the output.
+    pub fn begin(
+        &mut self,
+        given: FstfRecorder,
+        setup: &[u8],
+        system: &[u8],
+        notes: &[u8],
+        out: &[u8],
+    ) -> (FstfTaken, Vec<u8>, Vec<u8>) {
+        let mut notes = Lent::new(notes);
+        let mut out = Lent::new(out);
+        let ours = ours::begin(given, setup, system, &mut notes.ours, &mut out.ours);
+        let state = their_state(given);
+        let answer = rival::begin(state, setup, system, &mut notes.theirs, &mut out.theirs);
+        let theirs = flat_taken(given, answer);
+        let written = if ours.refused == 0 { 4 } else { 0 };
+        let kept = notes.kept_from(written) && out.kept_from(ours.length as usize);
+        let agree = ours == theirs && kept;
+        let input = || format!("{:?}\n  set-up {}\n  system {}", given, shown(setup), shown(system));
+        self.settle_lent(Call::Begin, ours.refused, agree, &[&notes, &out], &input, [&ours, &theirs]);
+        (ours, notes.ours, out.ours)
+    }
+
+    /// What the call answered, the notes and the output.
+    pub fn add(
+        &mut self,
+        given: FstfRecorder,
+        time: i64,
+        exposure: u32,
+        sections: &[u8],
+        notes: &[u8],
+        out: &[u8],
+    ) -> (FstfTaken, Vec<u8>, Vec<u8>) {
+        let mut notes = Lent::new(notes);
+        let mut out = Lent::new(out);
+        let ours = ours::add(given, time, exposure, sections, &mut notes.ours, &mut out.ours);
+        let state = their_state(given);
+        let answer = rival::add(state, time, exposure, sections, &mut notes.theirs, &mut out.theirs);
+        let theirs = flat_taken(given, answer);
+        let refused = ours.refused != 0;
+        let kept = out.kept_from(ours.length as usize) && (!refused || notes.kept_from(0));
+        let agree = ours == theirs && kept;
+        let input = || format!("{:?} time {} exposure {}\n  sections {}", given, time, exposure, shown(sections));
+        self.settle_lent(Call::Add, ours.refused, agree, &[&notes, &out], &input, [&ours, &theirs]);
+        (ours, notes.ours, out.ours)
+    }
+
+    /// What the call answered, and the output.
+    pub fn close(&mut self, given: FstfRecorder, notes: &[u8], out: &[u8]) -> (FstfTaken, Vec<u8>) {
+        let mut out = Lent::new(out);
+        let ours = ours::close(given, notes, &mut out.ours);
+        let theirs = flat_taken(given, rival::close(their_state(given), notes, &mut out.theirs));
+        let agree = ours == theirs && out.kept_from(ours.length as usize);
+        let input = || format!("{:?}\n  notes {}", given, shown(notes));
+        self.settle_lent(Call::Close, ours.refused, agree, &[&out], &input, [&ours, &theirs]);
+        (ours, out.ours)
+    }
+
+    /// What the call answered, and the output.
+    pub fn repair(&mut self, file: &[u8], out: &[u8]) -> (FstfRepaired, Vec<u8>) {
+        let mut out = Lent::new(out);
+        let ours = ours::repair(file, &mut out.ours);
+        let none = FstfRepaired { refused: 0, kept: 0, count: 0, index: 0, user: 0, tail: 0 };
+        let theirs = match rival::repair(file, &mut out.theirs) {
+            Ok(repaired) => FstfRepaired {
+                refused: 0,
+                kept: repaired.kept,
+                count: repaired.count,
+                index: repaired.index,
+                user: repaired.user,
+                tail: repaired.tail,
+            },
+            Err(refused) => FstfRepaired { refused, ..none },
+        };
+        let agree = ours == theirs && out.kept_from(ours.tail as usize);
+        let input = || format!("file {}", shown(file));
+        self.settle_lent(Call::Repair, ours.refused, agree, &[&out], &input, [&ours, &theirs]);
+        (ours, out.ours)
+    }
+
+    /// What the call answered, and the output.
+    pub fn save(&mut self, file: &[u8], sheet: &[u8], out: &[u8]) -> (FstfSaved, Vec<u8>) {
+        let mut out = Lent::new(out);
+        let ours = ours::save(file, sheet, &mut out.ours);
+        let theirs = match rival::save(file, sheet, &mut out.theirs) {
+            Ok(length) => FstfSaved { refused: 0, place: 0, length },
+            Err(not) => FstfSaved { refused: not.refused, place: not.place, length: 0 },
+        };
+        let agree = ours == theirs && out.kept_from(ours.length as usize);
+        let input = || format!("file {}\n  sheet {}", shown(file), shown(sheet));
+        self.settle_lent(Call::Save, ours.refused, agree, &[&out], &input, [&ours, &theirs]);
+        (ours, out.ours)
+    }
+
+    pub fn tag_at(&mut self, table: &[u8], number: u64) -> FstfTag {
+        let ours = ours::tag_at(table, number);
+        let theirs = flat_tag(rival::tag_at(table, number));
+        let input = || format!("number {} of table {}", number, shown(table));
+        let outcome = tag_outcome(&ours);
+        self.settle(Call::TagAt, outcome, ours == theirs, &input, [&ours, &theirs]);
+        ours
+    }
+
+    pub fn tag_named(&mut self, table: &[u8], name: &[u8]) -> FstfTag {
+        let ours = ours::tag_named(table, name);
+        let theirs = flat_tag(rival::tag_named(table, name));
+        let input = || format!("name {}\n  table {}", shown(name), shown(table));
+        let outcome = tag_outcome(&ours);
+        self.settle(Call::TagNamed, outcome, ours == theirs, &input, [&ours, &theirs]);
+        ours
+    }
+
+    /// Prints how often each outcome of each call was met; answers how many of its order were never met, or met outside it.
+    pub fn report(&self) -> usize {
+        let mut lacking = 0;
+        for ((name, order), met) in CALLS.iter().zip(&self.met) {
+            let mut line = format!("{}:", name);
+            for outcome in *order {
+                let times = met[*outcome as usize];
+                match *outcome {
+                    0 => line += &format!(" accepted {}", times),
+                    NONE => line += &format!(", none {}", times),
+                    refused => line += &format!(", {}: {}", refused, times),
+                }
+                if times == 0 {
+                    lacking += 1;
+                    line += " NEVER MET";
+                }
+            }
+            for (outcome, times) in met.iter().enumerate() {
+                if *times > 0 && !order.contains(&(outcome as u64)) {
+                    lacking += 1;
+                    line += &format!(", NOT IN ITS ORDER {}: {}", outcome, times);
+                }
+            }
+            println!("{}", line);
+        }
+        lacking
+    }
+}

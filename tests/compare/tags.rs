@@ -1,0 +1,319 @@
+//! Tables and sheets: saves, the tag browser, tags by their name.
+
+use crate::build::*;
+use crate::random::Random;
+use crate::sides::Sides;
+
+enum Seen {
+    Absent,
+    Value(Vec<u8>),
+    NobodyLooked,
+}
+
+struct Change {
+    name: Vec<u8>,
+    seen: Seen,
+    new: Option<Vec<u8>>,
+}
+
+fn short(bytes: &[u8], sheet: &mut Vec<u8>) {
+    sheet.push(bytes.len() as u8);
+    sheet.extend_from_slice(bytes);
+}
+
+fn sheet_bytes(changes: &[Change]) -> Vec<u8> {
+    let mut sheet = vec![changes.len() as u8];
+    for change in changes {
+        short(&change.name, &mut sheet);
+        match &change.seen {
+            Seen::Absent => sheet.push(0),
+            Seen::Value(value) => {
+                sheet.push(1);
+                short(value, &mut sheet);
+            }
+            Seen::NobodyLooked => sheet.push(2),
+        }
+        match &change.new {
+            None => sheet.push(0),
+            Some(value) => {
+                sheet.push(1);
+                short(value, &mut sheet);
+            }
+        }
+    }
+    sheet
+}
+
+/// A name of the table, or one that is not in it.
+fn change_name(random: &mut Random, user: &[Tag]) -> Vec<u8> {
+    if !user.is_empty() && random.one_in(2) {
+        return user[random.size(user.len() - 1)].name.clone();
+    }
+    let length = match random.below(30) {
+        0 => 255,
+        1..=5 => 1,
+        _ => 2 + random.size(6),
+    };
+    text(random, length)
+}
+
+fn new_value(random: &mut Random) -> Option<Vec<u8>> {
+    if random.one_in(3) {
+        return None;
+    }
+    let length = match random.below(30) {
+        0 => 255,
+        1..=6 => 0,
+        _ => random.size(6),
+    };
+    Some(text(random, length))
+}
+
+/// What the table says, nobody looked, or, one time in `wrong`, something else.
+fn seen(random: &mut Random, user: &[Tag], name: &[u8], wrong: u64) -> Seen {
+    let entry = user.iter().find(|tag| tag.name == name);
+    if random.one_in(3) {
+        return Seen::NobodyLooked;
+    }
+    let mistaken = random.one_in(wrong);
+    match (entry, mistaken) {
+        (None, false) => Seen::Absent,
+        (Some(tag), false) => Seen::Value(tag.value.clone()),
+        (None, true) => Seen::Value(if random.one_in(2) { Vec::new() } else { text(random, 2) }),
+        (Some(tag), true) => match random.below(4) {
+            0 => Seen::Absent,
+            1 => Seen::Value(text(random, tag.value.len())),
+            2 => Seen::Value(tag.value[..tag.value.len() / 2].to_vec()),
+            _ => Seen::Value(Vec::new()),
+        },
+    }
+}
+
+fn changes(random: &mut Random, user: &[Tag], count: usize, wrong: u64) -> Vec<Change> {
+    let mut changes: Vec<Change> = Vec::new();
+    for _ in 0..count {
+        let name = change_name(random, user);
+        if changes.iter().any(|change| change.name == name) {
+            continue;
+        }
+        let seen = seen(random, user, &name, wrong);
+        let new = new_value(random);
+        changes.push(Change { name, seen, new });
+    }
+    changes
+}
+
+/// A sheet with one fault, in one of the ways a sheet can be malformed.
+fn malformed(random: &mut Random, mut changes: Vec<Change>) -> Vec<u8> {
+    let bad = random.pick(&[0, 10, 31, 127, 128, 255]);
+    let last = changes.len().saturating_sub(1);
+    let at = random.size(last);
+    match random.below(11) {
+        0 => return Vec::new(),
+        1 if !changes.is_empty() => {
+            let name = changes[at].name.clone();
+            changes.push(Change { name, seen: Seen::NobodyLooked, new: None });
+        }
+        2 if !changes.is_empty() => changes[at].name = Vec::new(),
+        3 if !changes.is_empty() => {
+            let place = random.size(changes[at].name.len() - 1);
+            changes[at].name[place] = bad;
+        }
+        4 if !changes.is_empty() => changes[at].seen = Seen::Value(vec![65, bad]),
+        5 if !changes.is_empty() => changes[at].new = Some(vec![bad, 65]),
+        _ => (),
+    }
+    let mut sheet = sheet_bytes(&changes);
+    match random.below(8) {
+        0 => sheet.push(random.next() as u8),
+        1 => {
+            let length = random.size(sheet.len());
+            sheet.truncate(length);
+        }
+        2 => sheet[0] = sheet[0].wrapping_add(1),
+        3 => sheet[0] = sheet[0].wrapping_sub(1),
+        4 => {
+            let place = random.size(sheet.len() - 1);
+            sheet[place] = random.size(4) as u8;
+        }
+        5 => {
+            let place = random.size(sheet.len() - 1);
+            sheet[place] = random.next() as u8;
+        }
+        _ => (),
+    }
+    sheet
+}
+
+fn some_sheet(random: &mut Random, user: &[Tag]) -> Vec<u8> {
+    let count = match random.below(60) {
+        0 => 64,
+        1 => 65,
+        2 => 63 + random.size(4),
+        3..=8 => random.size(64),
+        9..=14 => 0,
+        _ => random.size(5),
+    };
+    let wrong = random.pick(&[2, 8, 1000]);
+    let changes = changes(random, user, count, wrong);
+    if random.one_in(4) {
+        return malformed(random, changes);
+    }
+    sheet_bytes(&changes)
+}
+
+/// A save with ample room, and again around the answer's length.
+fn save(sides: &mut Sides, random: &mut Random, file: &[u8], sheet: &[u8]) -> Option<Vec<u8>> {
+    // A new table holds nothing that is not in the file or in the sheet.
+    let out = random.bytes(file.len() + sheet.len());
+    let (ample, left) = sides.save(file, sheet, &out);
+    let length = ample.length as usize;
+    let room = random.room(length);
+    let out = random.bytes(room);
+    sides.save(file, sheet, &out);
+    if ample.refused != 0 {
+        return None;
+    }
+    Some(left[..length].to_vec())
+}
+
+/// One sheet for a file whose user tags are, or were, these.
+pub fn save_some(sides: &mut Sides, random: &mut Random, file: &[u8], user: &[Tag]) {
+    let sheet = some_sheet(random, user);
+    save(sides, random, file, &sheet);
+}
+
+/// Sheets for a legal file; what an accepted one gives is stored, opened, and saved to again with the same sheet.
+pub fn sheets(sides: &mut Sides, random: &mut Random) {
+    let mut recording = recording(random);
+    let count = if random.one_in(100) { 900 + random.size(100) } else { random.size(80) };
+    recording.user = tags(random, count);
+    let file = recording.file().bytes;
+    let before_user = number(&file, 25, 8) as usize;
+    for _ in 0..6 {
+        let sheet = some_sheet(random, &recording.user);
+        if let Some(table) = save(sides, random, &file, &sheet) {
+            let mut saved = file[..before_user].to_vec();
+            saved.extend_from_slice(&table);
+            sides.open(&saved);
+            save(sides, random, &saved, &sheet);
+        }
+    }
+}
+
+/// One wrong seen entry at each place of a sheet, and two of them.
+pub fn conflicts(sides: &mut Sides, random: &mut Random) {
+    let mut recording = small(random);
+    recording.user = tags(random, 12);
+    let file = recording.file().bytes;
+    let count = if random.one_in(8) { 64 } else { 8 };
+    let right = changes(random, &recording.user, count, u64::MAX);
+    for place in 0..right.len() {
+        let mut wrong = sheet_with(&right, place);
+        save(sides, random, &file, &sheet_bytes(&wrong));
+        let second = random.size(right.len() - 1);
+        wrong[second].seen = Seen::Value(b"not so".to_vec());
+        save(sides, random, &file, &sheet_bytes(&wrong));
+    }
+}
+
+fn sheet_with(right: &[Change], place: usize) -> Vec<Change> {
+    let copy = |(i, change): (usize, &Change)| Change {
+        name: change.name.clone(),
+        seen: match &change.seen {
+            _ if i == place => Seen::Value(b"not so".to_vec()),
+            Seen::Absent => Seen::Absent,
+            Seen::Value(value) => Seen::Value(value.clone()),
+            Seen::NobodyLooked => Seen::NobodyLooked,
+        },
+        new: change.new.clone(),
+    };
+    right.iter().enumerate().map(copy).collect()
+}
+
+/// Sheets that bring a table to 1,000 tags and over.
+pub fn table_full(sides: &mut Sides, random: &mut Random) {
+    let mut recording = smallest();
+    let count = 1000 - random.size(3);
+    recording.user = tags(random, count);
+    let file = recording.file().bytes;
+    for _ in 0..2 {
+        let added = random.size(5);
+        let mut changes: Vec<Change> = (0..added)
+            .map(|i| Change {
+                name: format!("an added tag, number {}", i).into_bytes(),
+                seen: if random.one_in(2) { Seen::Absent } else { Seen::NobodyLooked },
+                new: Some(b"new".to_vec()),
+            })
+            .collect();
+        if random.one_in(2) {
+            let name = recording.user[random.size(count - 1)].name.clone();
+            let at = random.size(changes.len());
+            changes.insert(at, Change { name, seen: Seen::NobodyLooked, new: None });
+        }
+        if random.one_in(6) {
+            changes.push(Change { name: b"last".to_vec(), seen: Seen::Value(b"not so".to_vec()), new: None });
+        }
+        save(sides, random, &file, &sheet_bytes(&changes));
+    }
+}
+
+/// A table with one fault, or none.
+fn some_table(random: &mut Random, tags: &[Tag]) -> Vec<u8> {
+    let written = table(tags);
+    let mut bytes = written.bytes;
+    match random.below(10) {
+        0 => bytes.push(random.next() as u8),
+        1 => {
+            let length = random.size(bytes.len());
+            bytes.truncate(length);
+        }
+        2 => {
+            let at = random.size(bytes.len() - 1);
+            bytes[at] = random.next() as u8;
+        }
+        3 => {
+            let (at, width) = random.pick(&written.fields);
+            let value = number(&bytes, at, width);
+            let step = random.pick(&[1, u64::MAX]);
+            set_number(&mut bytes, at, width, value.wrapping_add(step));
+        }
+        4 if tags.len() > 1 => {
+            // A name that comes twice.
+            let mut twice = tags.to_vec();
+            let from = random.size(tags.len() - 1);
+            let to = random.size(tags.len() - 1);
+            twice[to].name = twice[from].name.clone();
+            return table(&twice).bytes;
+        }
+        _ => (),
+    }
+    bytes
+}
+
+/// Tables good and bad, browsed at every number and asked for names in and not in them.
+pub fn browsed(sides: &mut Sides, random: &mut Random) {
+    let count = if random.one_in(2) { 1 + random.size(12) } else { tag_count(random) };
+    let tags = tags(random, count);
+    let table = some_table(random, &tags);
+    let every = if count > 50 { 97 } else { 1 };
+    for number in (0..count as u64 + 2).step_by(every) {
+        sides.tag_at(&table, number);
+    }
+    for number in [1000, u64::from(u32::MAX) + 1, u64::MAX, random.next()] {
+        sides.tag_at(&table, number);
+    }
+    for tag in tags.iter().step_by(every) {
+        sides.tag_named(&table, &tag.name);
+        sides.tag_named(&table, &tag.value);
+        let shorter = &tag.name[..tag.name.len() - 1];
+        sides.tag_named(&table, shorter);
+        let mut longer = tag.name.clone();
+        longer.push(b' ');
+        sides.tag_named(&table, &longer);
+    }
+    let length = random.size(300);
+    let any = random.bytes(length);
+    sides.tag_named(&table, &any);
+    sides.tag_named(&table, &[]);
+}
