@@ -1,15 +1,18 @@
 -- The tail as it is written: an entry, the frames that are known to stand, the entries one by one, the index, and the empty table.
 -- Assumes nothing.
-use Prim.Native.Nat.{ℕ, suc, _+_, _*_, _-_, _^_, _<_, _≤_}
+use Prim.Native.Nat.{ℕ, zero, suc, _+_, _*_, _-_, _^_, _<_, _≤_}
 use native.Mathlib.Omega.{arith}
 use mathlib.Core.Path.{_≡_, refl, ap, sym, _∙_}
+use mathlib.Core.Bool.{true}
 use mathlib.Core.List.{List, [], _++_, append-assoc, append-nil, flatMap}
+use lib.Dec.{eqb}
+use borrow.Author.Tests.{eqb-true}
 use lib.ListN.{length, take, drop, getD, length-append, length-drop, drop-of-length-le}
 use lib.Seq.{sets, length-sets, sets-eq, drop-drop, take-all, length-take-le}
 use mir.Syntax.{w8, w64}
 use mir.Val.{Fits}
 use Rattle.number.specs.Number.{bytesOf, numberOf, readAt, writeAt}
-use Rattle.number.proofs.Bytes.{length-bytesOf, slice-bytes}
+use Rattle.number.proofs.Bytes.{both-true, length-bytesOf, slice-bytes}
 use Rattle.number.proofs.Laws.{read-is}
 use Rattle.layout.specs.Recording.{Frame, frameBytes, entryBytes, entriesBytes, tableBytes}
 use Rattle.layout.specs.Reading.{Parsed, bad, good, frame, Walk, stopped, longer, walk}
@@ -24,7 +27,7 @@ use Rattle.text.specs.declared.Place.the-variants.{End}
 use Rattle.opening.specs.Opened.{sectionsAt, frameEnd, sinceFirst}
 use Rattle.opening.proofs.Frames.{sections-done, sections-first, ended, sections-ended, end-behind, end-within}
 use Rattle.opening.proofs.Index.{walk-cons}
-use Rattle.repair.specs.Repaired.{endIn, framesIn, entriesIn, indexIn, tailed}
+use Rattle.repair.specs.Repaired.{endIn, nextBy, framesIn, alike, alikeIn, entriesIn, indexIn, tailed}
 
 -- ── An entry ──
 
@@ -97,38 +100,87 @@ stands f k left place h e = go (frame k (drop place f)) refl
         let m : suc (length (walk (left - 1) k (drop (place + n) f) .frames)) ≡ left = rw (walk-cons f k left place x n h g) at e in
         (place + n, rw g, omega arith)
 
--- its sections say where it ends
-known : (f : List ℕ) (k left place next : ℕ) → 0 < left → framesIn f k left place ≡ left → next ≡ endIn (sectionsAt f (place + 16) k) → (frameEnd f place k ≡ End next) × (framesIn f k (left - 1) next ≡ left - 1)
+-- where it ends, and as many behind it
+known : (f : List ℕ) (k left place next : ℕ) → 0 < left → framesIn f k left place ≡ left → next ≡ endIn (frameEnd f place k) → (frameEnd f place k ≡ End next) × (framesIn f k (left - 1) next ≡ left - 1)
 unfolding endIn
 known f k left place next h e p =
     let (m, a, b) = stands f k left place h e in
-    let q : next ≡ m = p ∙ ap endIn (sections-ended f place k m a) in
+    let q : next ≡ m = p ∙ ap endIn a in
     (rw q a, rw q b)
 
-pub sections-known : (f : List ℕ) (k left place : ℕ) → 0 < left → framesIn f k left place ≡ left → sectionsAt f (place + 16) k ≡ End (endIn (sectionsAt f (place + 16) k))
+-- the sections of a frame say where it ends
+pub sections-known : (f : List ℕ) (k place end : ℕ) → frameEnd f place k ≡ End end → sectionsAt f (place + 16) k ≡ End (endIn (sectionsAt f (place + 16) k))
 unfolding endIn
-sections-known f k left place h e =
-    let (m, a, b) = stands f k left place h e in
-    rw (sections-ended f place k m a)
+sections-known f k place end e = rw (sections-ended f place k end e)
+
+pub end-known : (f : List ℕ) (k place end r : ℕ) → frameEnd f place k ≡ End end → r ≡ endIn (sectionsAt f (place + 16) k) → r ≡ endIn (frameEnd f place k)
+unfolding endIn
+end-known f k place end r e p = p ∙ ap endIn (sections-ended f place k end e ∙ sym e)
+
+pub next-common : (f : List ℕ) (k place common : ℕ) → (common ≡ 0 → ⊥) → frameEnd f place k ≡ End (nextBy f place k common) → place + common ≡ endIn (frameEnd f place k)
+unfolding nextBy endIn
+next-common f k place zero n e = absurd (n refl)
+next-common f k place (suc c) n e = rw e
+
+-- a frame that is known to be whole lies in the file
+end-there : (f : List ℕ) (k place next : ℕ) → ((i : ℕ) → Fits w8 (getD f i 0)) → frameEnd f place k ≡ End next → next ≤ length f
+end-there f k place next b q =
+    let (x, n, g, a, t, d) = ended f place k next q in
+    let (o, z, r) = frame-exact k .gives (drop place f) x n (bytes-drop place f (slice-bytes f b)) g in
+    let l : length (drop place f) ≡ length (frameBytes x) + length (drop n (drop place f)) = ap length r ∙ length-append (frameBytes x) (drop n (drop place f)) in
+    omega (arith, length-drop place f, end-within f place k next (End next) (sym q) refl)
+
+pub next-fits : (f : List ℕ) (k place common : ℕ) → ((i : ℕ) → Fits w8 (getD f i 0)) → (common ≡ 0 → ⊥) → frameEnd f place k ≡ End (nextBy f place k common) → length f < 2 ^ 64 → Fits w64 (place + common)
+unfolding nextBy
+next-fits f k place common b n e l =
+    let t = end-there f k place (nextBy f place k common) b e in
+    let c = next-common f k place common n e in
+    let m : nextBy f place k common ≡ place + common = by-common common n in
+    record { fits = omega arith }
+  where
+    by-common : (c : ℕ) → (c ≡ 0 → ⊥) → nextBy f place k c ≡ place + c
+    by-common zero n = absurd (n refl)
+    by-common (suc c) n = refl
+
+-- frames that have a length in common stand at places that it gives
+alike-first : (x : Frame) (n : ℕ) (w : Walk) (c : ℕ) → alike (suc c) (longer x n w .frames) ≡ true → (length (frameBytes x) ≡ suc c) × (alike (suc c) (w .frames) ≡ true)
+unfolding alike longer
+alike-first x n w c e = let b = both-true (eqb (length (frameBytes x)) (suc c)) (alike (suc c) (w .frames)) e in (eqb-true (length (frameBytes x)) (suc c) (b .0), b .1)
+
+next-alike : (f : List ℕ) (k left place next common : ℕ) → ((i : ℕ) → Fits w8 (getD f i 0)) → 0 < left → frameEnd f place k ≡ End next → alikeIn f k common left place ≡ true → (next ≡ nextBy f place k common) × (alikeIn f k common (left - 1) next ≡ true)
+unfolding nextBy alikeIn endIn alike
+next-alike f k left place next zero b h q e = (rw q, refl)
+next-alike f k left place next (suc c) b h q e = go (ended f place k next q)
+  where
+    go : ((x : Frame) × (n : ℕ) × (frame k (drop place f) ≡ good x n) × (place + n ≡ next) × (x .time ≡ readAt f (place + 4) 8) × (x .exposure ≡ readAt f (place + 12) 4)) → (next ≡ place + suc c) × (alikeIn f k (suc c) (left - 1) next ≡ true)
+    go (x, n, g, a, t, d) =
+        let z : n ≡ length (frameBytes x) = frame-exact k .gives (drop place f) x n (bytes-drop place f (slice-bytes f b)) g .1 in
+        let (l, m) = alike-first x n (walk (left - 1) k (drop (place + n) f)) c (rw (walk-cons f k left place x n h g) at e) in
+        (sym a ∙ ap (λ (j : ℕ). place + j) (z ∙ l), rw (← a) m)
+
+pub next-known : (f : List ℕ) (k left place common : ℕ) → ((i : ℕ) → Fits w8 (getD f i 0)) → 0 < left → framesIn f k left place ≡ left → alikeIn f k common left place ≡ true → frameEnd f place k ≡ End (nextBy f place k common)
+next-known f k left place common b h e a =
+    let (m, q, l) = stands f k left place h e in
+    q ∙ ap End (next-alike f k left place m common b h q a .0)
+
+pub alike-left : (f : List ℕ) (k left place next common : ℕ) → ((i : ℕ) → Fits w8 (getD f i 0)) → 0 < left → framesIn f k left place ≡ left → next ≡ endIn (frameEnd f place k) → alikeIn f k common left place ≡ true → alikeIn f k common (left - 1) next ≡ true
+alike-left f k left place next common b h e p a = next-alike f k left place next common b h (known f k left place next h e p .0) a .1
 
 pub head-there : (f : List ℕ) (k left place : ℕ) → 0 < left → framesIn f k left place ≡ left → place + 4 + 8 ≤ length f
 head-there f k left place h e =
     let (m, a, b) = stands f k left place h e in
     omega (arith, end-within f place k m (End m) (sym a) refl)
 
-pub head-fits : (f : List ℕ) (k left place : ℕ) → 0 < left → framesIn f k left place ≡ left → length f < 2 ^ 64 → Fits w64 (place + 16)
-head-fits f k left place h e l =
-    let (m, a, b) = stands f k left place h e in
-    let w = end-within f place k m (End m) (sym a) refl in
-    record { fits = omega arith }
+pub head-fits : (f : List ℕ) (k place end : ℕ) → frameEnd f place k ≡ End end → length f < 2 ^ 64 → Fits w64 (place + 16)
+head-fits f k place end e l = let w = end-within f place k end (End end) (sym e) refl in record { fits = omega arith }
 
 pub known-time-fits : (f : List ℕ) (k left place : ℕ) → 0 < left → framesIn f k left place ≡ left → length f < 2 ^ 64 → Fits w64 (place + 4)
 known-time-fits f k left place h e l = let w = head-there f k left place h e in record { fits = omega arith }
 
-pub known-behind : (f : List ℕ) (k left place next : ℕ) → 0 < left → framesIn f k left place ≡ left → next ≡ endIn (sectionsAt f (place + 16) k) → place ≤ next
+pub known-behind : (f : List ℕ) (k left place next : ℕ) → 0 < left → framesIn f k left place ≡ left → next ≡ endIn (frameEnd f place k) → place ≤ next
 known-behind f k left place next h e p = end-behind f place k next (End next) (sym (known f k left place next h e p .0)) refl
 
-pub known-left : (f : List ℕ) (k left place next : ℕ) → 0 < left → framesIn f k left place ≡ left → next ≡ endIn (sectionsAt f (place + 16) k) → framesIn f k (left - 1) next ≡ left - 1
+pub known-left : (f : List ℕ) (k left place next : ℕ) → 0 < left → framesIn f k left place ≡ left → next ≡ endIn (frameEnd f place k) → framesIn f k (left - 1) next ≡ left - 1
 known-left f k left place next h e p = known f k left place next h e p .1
 
 -- ── The entries ──
@@ -156,7 +208,7 @@ entries-cons f k first left place next t b h q v = go (ended f place k next q)
         let z : n ≡ length (frameBytes x) = frame-exact k .gives (drop place f) x n (bytes-drop place f (slice-bytes f b)) g .1 in
         rw (m, ← a, v, ← c, walk-cons f k left place x n h g) (longer-entries (walk (left - 1) k (drop (place + n) f)) x n first place z)
 
-pub entries-step : (f out new all : List ℕ) (k first left place entry next t : ℕ) → ((i : ℕ) → Fits w8 (getD f i 0)) → 0 < left → framesIn f k left place ≡ left → next ≡ endIn (sectionsAt f (place + 16) k) → t ≡ readAt f (place + 4) 8 → new ≡ sets out entry (entryBytes first t place (next - place)) → sets out entry (entriesIn f k first left place) ≡ all → sets new (entry + 16) (entriesIn f k first (left - 1) next) ≡ all
+pub entries-step : (f out new all : List ℕ) (k first left place entry next t : ℕ) → ((i : ℕ) → Fits w8 (getD f i 0)) → 0 < left → framesIn f k left place ≡ left → next ≡ endIn (frameEnd f place k) → t ≡ readAt f (place + 4) 8 → new ≡ sets out entry (entryBytes first t place (next - place)) → sets out entry (entriesIn f k first left place) ≡ all → sets new (entry + 16) (entriesIn f k first (left - 1) next) ≡ all
 entries-step f out new all k first left place entry next t b h s p q w i =
     let c = entries-cons f k first left place next t b h (known f k left place next h s p .0) q in
     let l = length-entry first t place (next - place) in

@@ -1,15 +1,17 @@
 -- What this crate's functions answer, by the layout's walk and its repair.
 use Prim.Native.Nat.{ℕ, zero, suc, _+_}
-use mathlib.Core.Bool.{not, cond}
+use mathlib.Core.Bool.{Bool, true, not, _&&_, cond}
 use mathlib.Core.List.{List, [], _∷_, _++_}
 use lib.ListN.{length, drop}
 use lib.Seq.{sets}
+use lib.Dec.{eqb}
 use Rattle.number.specs.Number.{bytesOf, readAt}
-use Rattle.layout.specs.Recording.{mostFrames, follow, inOrder, entriesBytes, indexBytes, indexLength, tableBytes}
+use Rattle.layout.specs.Recording.{Frame, frameBytes, mostFrames, follow, inOrder, entriesBytes, indexBytes, indexLength, tableBytes}
 use Rattle.layout.specs.Reading.{Walk, walk}
 use Rattle.layout.specs.Opening.{Line, line, firstOf}
 use Rattle.layout.specs.Recorder.{tooLong, noRoom, filled}
 use Rattle.layout.specs.Repair.{Repair, repairAnswer, repair}
+use Rattle.opening.specs.Opened.{frameEnd}
 use Rattle.text.specs.declared.Place.{Place}
 use Rattle.text.specs.declared.Place.the-variants.{End, Broken}
 use Rattle.repair.specs.declared.Repaired.{Repaired}
@@ -41,18 +43,28 @@ repairOf f out = madeOf out (repair f (length out))
 
 -- ── The walk ──
 
--- the frames of a walk from `place` on, behind `count` others of which the last has the time `last`: their number and their end, or that the times
--- break the rule
-unfoldable pub walkedBehind : Walk → (first last count place : ℕ) → Walked
-walkedBehind w first last count place =
-    cond (follow first last (w .frames)) (InOrder (count + length (w .frames)) (place + w .bytes)) OutOfOrder
+-- the length that `count` frames and one more have in common; 0 where they differ
+unfoldable pub commonWith : (count common size : ℕ) → ℕ
+commonWith zero common size = size
+commonWith (suc n) common size = cond (eqb common size) size 0
 
-unfoldable pub walkedFrom : List ℕ → (sections first left last count place : ℕ) → Walked
-walkedFrom f sections first left last count place = walkedBehind (walk left sections (drop place f)) first last count place
+-- the same of `count` frames and these behind them
+unfoldable pub commonBehind : (count common : ℕ) → List Frame → ℕ
+commonBehind count common [] = common
+commonBehind count common (x ∷ xs) = commonBehind (count + 1) (commonWith count common (length (frameBytes x))) xs
+
+-- the frames of a walk from `place` on, behind `count` others of which the last has the time `last`: their number, their end and the length that all
+-- have in common, or that the times break the rule
+unfoldable pub walkedBehind : Walk → (first last count common place : ℕ) → Walked
+walkedBehind w first last count common place =
+    cond (follow first last (w .frames)) (InOrder (count + length (w .frames)) (place + w .bytes) (commonBehind count common (w .frames))) OutOfOrder
+
+unfoldable pub walkedFrom : List ℕ → (sections first left last count common place : ℕ) → Walked
+walkedFrom f sections first left last count common place = walkedBehind (walk left sections (drop place f)) first last count common place
 
 -- all frames from the start of the walk on
 unfoldable pub walkedAll : Walk → (start : ℕ) → Walked
-walkedAll w start = cond (inOrder (w .frames)) (InOrder (length (w .frames)) (start + w .bytes)) OutOfOrder
+walkedAll w start = cond (inOrder (w .frames)) (InOrder (length (w .frames)) (start + w .bytes) (commonBehind 0 0 (w .frames))) OutOfOrder
 
 unfoldable pub walkedIn : List ℕ → (sections start : ℕ) → Walked
 walkedIn f sections start = walkedAll (walk mostFrames sections (drop start f)) start
@@ -61,10 +73,24 @@ walkedIn f sections start = walkedAll (walk mostFrames sections (drop start f)) 
 unfoldable pub framesIn : List ℕ → (sections count place : ℕ) → ℕ
 framesIn f sections count place = length (walk count sections (drop place f) .frames)
 
+-- each of these frames has that length; of 0 nothing is said
+unfoldable pub alike : (common : ℕ) → List Frame → Bool
+alike zero frames = true
+alike (suc n) [] = true
+alike (suc n) (x ∷ xs) = eqb (length (frameBytes x)) (suc n) && alike (suc n) xs
+
+unfoldable pub alikeIn : List ℕ → (sections common count place : ℕ) → Bool
+alikeIn f sections common count place = alike common (walk count sections (drop place f) .frames)
+
 -- the end that was found; 0 for none
 unfoldable pub endIn : Place → ℕ
 endIn (End n) = n
 endIn Broken = 0
+
+-- where the next frame starts, by the length that all have in common, or where this one is found to end
+unfoldable pub nextBy : List ℕ → (place sections common : ℕ) → ℕ
+nextBy f place sections zero = endIn (frameEnd f place sections)
+nextBy f place sections (suc n) = place + suc n
 
 -- ── The tail ──
 

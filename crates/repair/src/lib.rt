@@ -5,6 +5,7 @@ use opening::Front;
 use opening::Opening;
 use text::Place;
 ghost use mathlib.Core.Path.{_≡_};
+ghost use mathlib.Core.Bool.{true};
 ghost use mathlib.Core.List.{[]};
 ghost use Prim.Native.Nat.{_+_, _*_, _≤_};
 ghost use lib.ListN.{length};
@@ -13,8 +14,8 @@ ghost use Rattle.number.specs.Number.{readAt};
 ghost use Rattle.layout.specs.Recording.{entryBytes, tableBytes};
 ghost use Rattle.layout.specs.Repair.{whole};
 ghost use Rattle.text.specs.declared.Place.the-variants.{End};
-ghost use Rattle.opening.specs.Opened.{sectionsAt};
-ghost use Rattle.repair.specs.Repaired.{endIn, framesIn, walkedIn, entriesIn, indexIn, tailed, made, framesRepaired, repairOf};
+ghost use Rattle.opening.specs.Opened.{sectionsAt, frameEnd};
+ghost use Rattle.repair.specs.Repaired.{endIn, nextBy, commonWith, framesIn, alikeIn, walkedIn, entriesIn, indexIn, tailed, made, framesRepaired, repairOf};
 
 // The kept length, the three header fields, and the length of the tail, which stands at the start of the lent output; or the refusal number.
 pub enum Repaired {
@@ -28,10 +29,27 @@ pub enum Repaired {
     Refused(u8),
 }
 
-// What the walk found: how many frames there are and where the last one ends, or that their times break the rule.
+// What the walk found: how many frames there are, where the last one ends and the length that they have in common; or that their times break the rule.
 enum Walked {
-    InOrder { count: usize, end: usize },
+    InOrder {
+        count: usize,
+        end: usize,
+        common: usize,
+    },
     OutOfOrder,
+}
+
+// The length that `count` frames and one more have in common: 0 where they differ.
+fn common_length(count: usize, common: usize, size: usize) -> usize
+    ensures { λ r. ⌜ r ≡ commonWith count common size ⌝ }
+{
+    if count == 0 {
+        return size;
+    }
+    if common == size {
+        return size;
+    }
+    0
 }
 
 // "The walk takes whole frames one behind the other and stops at the first place without one, or after 1,000,000."
@@ -45,22 +63,32 @@ fn walk(file: &[u8], sections: usize, start: usize) -> Walked
     let mut count = 0;
     let mut place = start;
     let mut last = first;
+    let mut common = 0;
     let mut left = Header::MOST_FRAMES;
     while 0 < left {
         let end = opening::frame_end(file, place, sections);
         let Place::End(next) = end else {
-            return Walked::InOrder { count, end: place };
+            return Walked::InOrder {
+                count,
+                end: place,
+                common,
+            };
         };
         let time = number::read(file, place + 4, 8);
         if opening::follows_last(first, last, time) {} else {
             return Walked::OutOfOrder;
         }
+        common = common_length(count, common, next - place);
         count += 1;
         place = next;
         last = time;
         left -= 1;
     }
-    Walked::InOrder { count, end: place }
+    Walked::InOrder {
+        count,
+        end: place,
+        common,
+    }
 }
 
 // A number whose bytes are known to be there: in a part of just these bytes it is read with no test.
@@ -85,6 +113,18 @@ fn known_end(file: &[u8], at: usize, sections: usize) -> usize
         left -= 1;
     }
     place
+}
+
+// Where a frame that is known to be whole ends. Frames that have a length in common need no size read: the place of one does not wait for the bytes of
+// the one ahead of it.
+fn next_place(file: &[u8], place: usize, sections: usize, common: usize) -> usize
+    requires { ⌜ frameEnd (now file) place sections ≡ End (nextBy (now file) place sections common) ⌝ }
+    ensures { λ r. ⌜ r ≡ endIn (frameEnd (now (file .entry)) place sections) ⌝ }
+{
+    if common == 0 {
+        return known_end(file, place + Header::FRAME_HEAD, sections);
+    }
+    place + common
 }
 
 // An index entry in its sixteen bytes, all of which there is room for: time since the first frame, offset, length.
@@ -113,16 +153,17 @@ fn write_entries(
     start: usize,
     first: u64,
     count: usize,
+    common: usize,
     out: &mut [u8],
 )
-    requires { ⌜ (4 + 16 * count ≤ length (now out)) × (framesIn (now file) sections count start ≡ count) ⌝ }
+    requires { ⌜ (4 + 16 * count ≤ length (now out)) × (framesIn (now file) sections count start ≡ count) × (alikeIn (now file) sections common count start ≡ true) ⌝ }
     ensures { λ r. ⌜ now (out .exit) ≡ sets (now (out .entry)) 4 (entriesIn (now (file .entry)) sections first count start) ⌝ }
 {
     let mut place = start;
     let mut entry = 4;
     let mut left = count;
     while 0 < left {
-        let next = known_end(file, place + Header::FRAME_HEAD, sections);
+        let next = next_place(file, place, sections, common);
         let time = read_known(file, place + 4, 8);
         write_entry(out, entry, first, time, place, next - place);
         place = next;
@@ -132,13 +173,20 @@ fn write_entries(
 }
 
 // The index of the first `count` frames, at the output's start.
-fn write_index(file: &[u8], sections: usize, start: usize, count: usize, out: &mut [u8])
-    requires { ⌜ (start ≤ length (now file)) × (4 + 16 * count ≤ length (now out)) × (framesIn (now file) sections count start ≡ count) ⌝ }
+fn write_index(
+    file: &[u8],
+    sections: usize,
+    start: usize,
+    count: usize,
+    common: usize,
+    out: &mut [u8],
+)
+    requires { ⌜ (start ≤ length (now file)) × (4 + 16 * count ≤ length (now out)) × (framesIn (now file) sections count start ≡ count) × (alikeIn (now file) sections common count start ≡ true) ⌝ }
     ensures { λ r. ⌜ now (out .exit) ≡ sets (now (out .entry)) 0 (indexIn (now (file .entry)) sections start count) ⌝ }
 {
     let first = number::read(file, start + 4, 8);
     number::write(out, 0, 4, count as u64);
-    write_entries(file, sections, start, first, count, out);
+    write_entries(file, sections, start, first, count, common, out);
 }
 
 // "The user table is always written empty": its number of tags, and none.
@@ -150,11 +198,18 @@ fn write_empty_table(out: &mut [u8], at: usize)
 }
 
 // "a tail: the index of the walked frames and an empty user table"
-fn write_tail(file: &[u8], sections: usize, start: usize, count: usize, out: &mut [u8])
-    requires { ⌜ (start ≤ length (now file)) × (4 + 16 * count + 4 ≤ length (now out)) × (framesIn (now file) sections count start ≡ count) ⌝ }
+fn write_tail(
+    file: &[u8],
+    sections: usize,
+    start: usize,
+    count: usize,
+    common: usize,
+    out: &mut [u8],
+)
+    requires { ⌜ (start ≤ length (now file)) × (4 + 16 * count + 4 ≤ length (now out)) × (framesIn (now file) sections count start ≡ count) × (alikeIn (now file) sections common count start ≡ true) ⌝ }
     ensures { λ r. ⌜ now (out .exit) ≡ tailed (now (file .entry)) sections start count (now (out .entry)) ⌝ }
 {
-    write_index(file, sections, start, count, out);
+    write_index(file, sections, start, count, common, out);
     write_empty_table(out, 4 + Header::INDEX_ENTRY * count);
 }
 
@@ -164,7 +219,7 @@ fn repair_frames(file: &[u8], sections: usize, start: usize, out: &mut [u8]) -> 
     ensures { λ r. ⌜ made r (now (out .exit)) ≡ framesRepaired (now (file .entry)) sections start (now (out .entry)) ⌝ }
 {
     let walked = walk(file, sections, start);
-    let Walked::InOrder { count, end } = walked else {
+    let Walked::InOrder { count, end, common } = walked else {
         return Repaired::Refused(13);
     };
     // the end alone is compared first, so that no sum passes a usize
@@ -180,7 +235,7 @@ fn repair_frames(file: &[u8], sections: usize, start: usize, out: &mut [u8]) -> 
     if out.len() < tail {
         return Repaired::Refused(9);
     }
-    write_tail(file, sections, start, count, out);
+    write_tail(file, sections, start, count, common, out);
     Repaired::Kept {
         kept: end,
         count,

@@ -6,15 +6,16 @@ use Rattle.repair.proofs.walk.Statement.{statement}
 use Rattle.repair.proofs.walk.Tie as tie
 use Rattle.repair.proofs.walk.Reads as reads
 use Rattle.repair.proofs.walk.Lts as lts
+use Rattle.repair.proofs.common_length.Reads as common-length-reads
 use Rattle.number.proofs.read.Reads as read-reads
 use Rattle.opening.proofs.follows_last.Reads as follows-last-reads
 use Rattle.opening.proofs.frame_end.Reads as frame-end-reads
 
 abbrev Inv-loop : tie.InvT-loop
-Inv-loop file sections start first count₀ place₀ last₀ left₀ count place last left = (count + left ≤ 1000000) × (walkedFrom file sections first left last count place ≡ walkedIn file sections start)
+Inv-loop file sections start first count₀ place₀ last₀ common₀ left₀ count place last common left = (count + left ≤ 1000000) × (walkedFrom file sections first left last count common place ≡ walkedIn file sections start)
 
 abbrev μ-loop : tie.MeasureT-loop
-μ-loop file sections start first count₀ place₀ last₀ left₀ count place last left = left
+μ-loop file sections start first count₀ place₀ last₀ common₀ left₀ count place last common left = left
 
 add-read : tie.Need-add-read Inv-loop μ-loop
 add-read c = search laws
@@ -49,6 +50,12 @@ follows-last-requires c κs = search laws
 returns-2 : tie.Need-returns-2 Inv-loop μ-loop
 returns-2 c = search laws
 
+sub-common-length : tie.Need-sub-common-length Inv-loop μ-loop
+sub-common-length c = search laws
+
+common-length-requires : tie.Need-common-length-requires Inv-loop μ-loop
+common-length-requires c κs = search laws
+
 add-count : tie.Need-add-count Inv-loop μ-loop
 add-count c = search laws
 
@@ -81,6 +88,8 @@ walk-spec =
     read-requires-2
     follows-last-requires
     returns-2
+    sub-common-length
+    common-length-requires
     add-count
     sub-left
     loop-less

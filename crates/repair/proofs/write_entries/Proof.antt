@@ -1,31 +1,29 @@
 use Prim.Native.Nat.{_+_, _*_, _≤_}
 use mathlib.Core.Path.{_≡_}
+use mathlib.Core.Bool.{true}
 use lib.ListN.{length}
 use lib.Seq.{sets}
-use Rattle.repair.specs.Repaired.{framesIn, entriesIn}
+use Rattle.repair.specs.Repaired.{framesIn, alikeIn, entriesIn}
 use Rattle.repair.proofs.Laws.{laws}
 use Rattle.repair.proofs.write_entries.Statement.{statement}
 use Rattle.repair.proofs.write_entries.Tie as tie
 use Rattle.repair.proofs.write_entries.Reads as reads
 use Rattle.repair.proofs.write_entries.Lts as lts
-use Rattle.repair.proofs.known_end.Reads as known-end-reads
+use Rattle.repair.proofs.next_place.Reads as next-place-reads
 use Rattle.repair.proofs.read_known.Reads as read-known-reads
 use Rattle.repair.proofs.write_entry.Reads as write-entry-reads
 
 abbrev Inv-loop : tie.InvT-loop
-Inv-loop file sections start first count out₀ place₀ entry₀ left₀ out place entry left = (length out ≡ length out₀) × (entry + 16 * left ≤ length out) × (framesIn file sections left place ≡ left) × (sets out entry (entriesIn file sections first left place) ≡ sets out₀ 4 (entriesIn file sections first count start))
+Inv-loop file sections start first count common out₀ place₀ entry₀ left₀ out place entry left = (length out ≡ length out₀) × (entry + 16 * left ≤ length out) × (framesIn file sections left place ≡ left) × (alikeIn file sections common left place ≡ true) × (sets out entry (entriesIn file sections first left place) ≡ sets out₀ 4 (entriesIn file sections first count start))
 
 abbrev μ-loop : tie.MeasureT-loop
-μ-loop file sections start first count out₀ place₀ entry₀ left₀ out place entry left = left
+μ-loop file sections start first count common out₀ place₀ entry₀ left₀ out place entry left = left
 
 loop-holds : tie.Need-loop-holds Inv-loop μ-loop
 loop-holds c = search laws
 
-add-known-end : tie.Need-add-known-end Inv-loop μ-loop
-add-known-end c = search laws
-
-known-end-requires : tie.Need-known-end-requires Inv-loop μ-loop
-known-end-requires c κs = search laws
+next-place-requires : tie.Need-next-place-requires Inv-loop μ-loop
+next-place-requires c κs = search laws
 
 add-read-known : tie.Need-add-read-known Inv-loop μ-loop
 add-read-known c = search laws
@@ -49,7 +47,7 @@ loop-less : tie.Need-loop-less Inv-loop μ-loop
 loop-less c = search laws
 
 loop-again : tie.Need-loop-again Inv-loop μ-loop
-loop-again c = (search laws, search laws, search laws, search laws)
+loop-again c = (search laws, search laws, search laws, search laws, search laws)
 
 same-length : tie.Need-same-length Inv-loop μ-loop
 same-length c = search laws
@@ -64,8 +62,7 @@ write-entries-spec =
     Inv-loop
     μ-loop
     loop-holds
-    add-known-end
-    known-end-requires
+    next-place-requires
     add-read-known
     read-known-requires
     sub-write-entry
