@@ -1,5 +1,5 @@
 -- The flat answers of the C face, by cases on the answers of the calls behind it; and what its flat arguments ask for.
-use Prim.Native.Nat.{ℕ, _^_, _-_}
+use Prim.Native.Nat.{ℕ}
 use mathlib.Core.Bool.{cond}
 use mathlib.Core.List.{List}
 use lib.IntN.{pos}
