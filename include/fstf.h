@@ -95,8 +95,8 @@ FstfPart fstf_part_of(const uint8_t *file, size_t file_length, FstfOpened opened
 
 /* ── Recording ── into a file that is empty: begin once, add each frame, close five times. Each call is given the state and the notes as the call
  * before left them, and hands out one piece, the first `length` bytes of `out`. The caller stores it at `place` in the file, the pieces in the order
- * in which they came: then a recording that was cut short, at any byte, does not open, and `fstf_repair` keeps its whole frames once the first piece
- * was stored. Refused, the state is handed back as it was given, and nothing is to be stored. */
+ * in which they came: then a recording that was cut short, at any byte, does not open, unless it is the finished file already, and `fstf_repair` keeps its
+ * whole frames once the first piece was stored. Refused, the state is handed back as it was given, and nothing is to be stored. */
 typedef struct {
     uint64_t stage;    /* 0 fresh, 1 running, 2 closing, 3 closed; any other number is taken as closed */
     uint64_t piece;    /* closing: the next piece, 0 to 4; else 0 */

@@ -80,28 +80,31 @@ fn row(what: &str, measured: &Measured) {
     println!("| {} | {} | {} | {:.2} |", what, shown(measured.ours), shown(measured.theirs), ratio);
 }
 
-/// A closed file of equal frames of one section, and where its frames end. Contents are not zero, so that all of it is in memory.
-fn file_of(frames: usize, section: usize) -> (Vec<u8>, usize) {
+/// A closed file of frames of one section, of the size that `section` says, and where its frames end. Contents are not zero, so that all of it is in
+/// memory.
+fn file_of(frames: usize, section: fn(usize) -> usize) -> (Vec<u8>, usize) {
     let mut recording = worked();
     recording.frames.clear();
     let mut file = recording.unclosed().bytes;
-    let length = 20 + section;
+    let length = |i| 20 + section(i);
     let start = file.len();
-    let index = start + frames * length;
+    let index = start + (0..frames).map(length).sum::<usize>();
     let user = index + 4 + 16 * frames;
     file.reserve_exact(user + 4 - start);
     for i in 0..frames {
         file.extend_from_slice(&MARK);
         file.extend_from_slice(&(i as u64).to_le_bytes());
         file.extend_from_slice(&40u32.to_le_bytes());
-        file.extend_from_slice(&(section as u32).to_le_bytes());
-        file.resize(file.len() + section, 0xA5);
+        file.extend_from_slice(&(section(i) as u32).to_le_bytes());
+        file.resize(file.len() + section(i), 0xA5);
     }
     file.extend_from_slice(&(frames as u32).to_le_bytes());
+    let mut place = start;
     for i in 0..frames {
         file.extend_from_slice(&(i as u32).to_le_bytes());
-        file.extend_from_slice(&((start + i * length) as u64).to_le_bytes());
-        file.extend_from_slice(&(length as u32).to_le_bytes());
+        file.extend_from_slice(&(place as u64).to_le_bytes());
+        file.extend_from_slice(&(length(i) as u32).to_le_bytes());
+        place += length(i);
     }
     file.extend_from_slice(&[0; 4]);
     set_number(&mut file, 5, 4, frames as u64);
@@ -116,7 +119,7 @@ fn opening(file: &[u8]) -> Measured {
 }
 
 /// Opening a file, and repair of it where it was not closed and its last frame is torn.
-fn opened_and_repaired(name: &str, frames: usize, section: usize) {
+fn opened_and_repaired(name: &str, frames: usize, section: fn(usize) -> usize) {
     let (mut file, index) = file_of(frames, section);
     row(&format!("opening {}", name), &opening(&file));
     for (place, width) in [(5, 4), (9, 8), (25, 8)] {
@@ -219,7 +222,7 @@ fn growth() {
     println!("| opening, frames of 22 bytes | library | a frame | rival | a frame | ratio |");
     println!("|---|---|---|---|---|---|");
     for (name, frames) in [("1,000", 1_000), ("10,000", 10_000), ("100,000", 100_000), ("1,000,000", 1_000_000)] {
-        let (file, _) = file_of(frames, 2);
+        let (file, _) = file_of(frames, |_| 2);
         let measured = opening(&file);
         let each = |time: Duration| time.as_secs_f64() * 1e9 / frames as f64;
         println!(
@@ -238,8 +241,9 @@ fn main() {
     println!("| what | library | rival | ratio |");
     println!("|---|---|---|---|");
     // 1 GiB less what index and front take of it, by 10,000.
-    opened_and_repaired("1 GiB, 10,000 frames", 10_000, 107_338);
-    opened_and_repaired("1,000,000 frames of 22 bytes", 1_000_000, 2);
+    opened_and_repaired("1 GiB, 10,000 frames", 10_000, |_| 107_338);
+    opened_and_repaired("1 GiB, 10,000 frames of 401 lengths", 10_000, |i| 107_138 + 37 * i % 401);
+    opened_and_repaired("1,000,000 frames of 22 bytes", 1_000_000, |_| 2);
     for changes in [1, 8, 64] {
         saving(changes);
     }
