@@ -95,7 +95,7 @@ class Crate:
         self.page.write_text("\n".join(self.lines))
         said = run.stdout + run.stderr
         functions = dict(re.findall(r"^fn [\w:]*?(\w+): (.*)", said, re.M))
-        failing = set(re.findall(r"/proofs/(\w+)/Proof\.antt:\d+:\d+: error: (?!.*was not admitted)", said))
+        failing = set(re.findall(r"/proofs/(?:\w+/)?(\w+)/Proof\.antt:\d+:\d+: error: (?!.*was not admitted)", said))
         return run.returncode == 0, functions, failing
 
     def noticed(self, function, change, functions, failing):
