@@ -1,10 +1,14 @@
-"""Changes single operators, numbers and truth values of the proved code and asks the prover: does it notice each change?
+"""Changes single operators, numbers and truth values of the proved code and asks the prover what it makes of each change.
 
     python3 tests/operators.py [CRATE ...]
 
-It works on a copy in target/operators and needs `rt` only. In each round one change is made in every function of a crate; a change is noticed if the
-proof of its own function fails, and where that is not clear it is tried alone. What no proof notices is printed, and the last line counts.
-docs/ACCEPTANCE.md says what was found. All crates together take about an hour.
+It works on a copy in target/operators and needs `rt` only. In each round one change is made in every function of a crate, and what counts is what is
+said of that function's own proof; where nothing is, the change is tried alone. A change can
+  - fail at a fact: something that has to be shown of the function is not true, or not found, any more;
+  - fail by shape: only the text of the proof does not fit, as where a sum became a difference, or the code does not compile. That says nothing of the
+    contract: the change may even answer the same;
+  - pass.
+The last two are printed, and a line for each crate counts. docs/ACCEPTANCE.md says what was found.
 """
 
 import pathlib
@@ -40,6 +44,8 @@ CHANGES = [
     (" >> ", [" << "]),
 ]
 WORDS = {"true": "false", "false": "true"}
+
+FACT, SHAPE, PASSED = "failed at a fact", "failed by shape", "passed"
 
 
 def bodies(lines):
@@ -86,39 +92,44 @@ class Crate:
         }
 
     def ask(self, changed):
-        """What the prover says of the crate with these lines changed: whether all is proved, what it says of each function, and whose proofs fail."""
+        """What the prover says of the crate with these lines changed, and whether all is proved."""
         lines = list(self.lines)
         for number, new in changed:
             lines[number] = new
         self.page.write_text("\n".join(lines))
         run = subprocess.run(["rt", "dev", self.name], cwd=COPY, capture_output=True, text=True)
         self.page.write_text("\n".join(self.lines))
-        said = run.stdout + run.stderr
-        functions = dict(re.findall(r"^fn [\w:]*?(\w+): (.*)", said, re.M))
-        failing = set(re.findall(r"/proofs/(?:\w+/)?(\w+)/Proof\.antt:\d+:\d+: error: (?!.*was not admitted)", said))
-        return run.returncode == 0, functions, failing
+        return run.stdout + run.stderr, run.returncode == 0
 
-    def noticed(self, function, change, functions, failing):
-        said = functions.get(function, "")
-        if function in failing or said.startswith("no proof"):
-            return True
-        if said == "proved":
-            return False
-        # nothing is said of it, or only that it calls one that is not proved
-        return not self.ask([change])[0]
+    def kind(self, function, said):
+        """FACT, SHAPE or PASSED, by what is said of the function when it and others are changed."""
+        verdict = dict(re.findall(r"^fn [\w:]*?(\w+): (.*)", said, re.M)).get(function, "")
+        if verdict == "proved":
+            return PASSED
+        errors = re.findall(r"/proofs/(?:\w+/)?" + function + r"/Proof\.antt:\d+:\d+: error: (?!.*was not admitted)(.*)", said)
+        if any("`search`" in error or "`omega`" in error for error in errors) or "`search` does not close" in verdict:
+            return FACT
+        if errors:
+            return SHAPE
+        return None
 
     def tried(self):
-        """Prints each change that is not noticed, and answers how many were made and how many of them were not noticed."""
-        unnoticed = 0
+        """Prints each change that passes or fails by shape, and counts the kinds."""
+        counts = dict.fromkeys((FACT, SHAPE, PASSED), 0)
         for turn in range(max(map(len, self.changes.values()))):
             made = {function: own[turn] for function, own in self.changes.items() if turn < len(own)}
-            _, functions, failing = self.ask(made.values())
+            said, _ = self.ask(made.values())
             for function, change in made.items():
-                if not self.noticed(function, change, functions, failing):
-                    unnoticed += 1
+                kind = self.kind(function, said)
+                if kind is None:
+                    # nothing is said of its own proof: it calls another that is changed, or the code does not compile
+                    alone, proved = self.ask([change])
+                    kind = PASSED if proved else self.kind(function, alone) or SHAPE
+                counts[kind] += 1
+                if kind != FACT:
                     number, new = change
-                    print(f"{self.name}::{function}: {self.lines[number].strip()} → {new.strip()}", flush=True)
-        return sum(map(len, self.changes.values())), unnoticed
+                    print(f"{kind}: {self.name}::{function}: {self.lines[number].strip()} → {new.strip()}", flush=True)
+        return counts
 
 
 def copied():
@@ -135,9 +146,10 @@ def copied():
 def main():
     (ROOT / "target").mkdir(exist_ok=True)
     copied()
-    counts = [Crate(name).tried() for name in sys.argv[1:] or CODE]
-    made, unnoticed = (sum(column) for column in zip(*counts))
-    print(f"{made} changes, {unnoticed} not noticed")
+    for name in sys.argv[1:] or CODE:
+        counts = Crate(name).tried()
+        told = ", ".join(f"{counts[kind]} {kind}" for kind in counts)
+        print(f"{name}: {sum(counts.values())} changes, {told}", flush=True)
 
 
 main()
