@@ -1,6 +1,6 @@
 /* FSTF revision 1: opening, reading, recording, repairing and tagging files that are lent as bytes.
  *
- * Link target/staticlib/libfstf.a, which `rt staticlib fstf` writes (x86-64 Linux).
+ * Link target/staticlib/libfstf.a, which `rt staticlib fstf` writes (x86-64 Linux), or target/arm/libfstf.a, which arm/build writes (64-bit Arm Linux).
  * No call allocates, keeps a pointer, reads or writes a file, or fails in any other way than by a refusal number.
  * A refused call changes nothing of what is lent to it. An accepted one fills `out` from its start and leaves the bytes behind the answer.
  *
@@ -9,6 +9,11 @@
  *   - a length is below 2^63;
  *   - what a call writes (`notes` of begin and add, `out`) overlaps nothing else that is lent to it.
  * All else is answered: any bytes, and any numbers in a state or an opening that is passed back.
+ *
+ * Every answer begins with two members:
+ *   - `refused` is the number of the refusal, or 0; refused, all members behind `place` are 0, but for a recorder's state;
+ *   - `place` is what the number carries beside it, and 0 for all others:
+ *       11: the lowest change of the sheet, from 0, whose seen entry is not the table's.
  */
 #ifndef FSTF_H
 #define FSTF_H
@@ -27,8 +32,8 @@ enum {
     FSTF_REVISION = 2, /* revision: The file is of another revision; this library reads revision 1. */
     FSTF_SECTIONS = 3, /* sections: The section names or their configuration offsets are broken. */
     FSTF_SYSTEM_TABLE = 4, /* system table: The system table is missing, misplaced or malformed. */
-    FSTF_NOT_CLOSED = 5, /* not closed: The recording was never closed: repair it. */
-    FSTF_INDEX = 6, /* index: Frames, times and index do not agree: repair it. */
+    FSTF_NOT_CLOSED = 5, /* not closed: The recording was never closed: repair it. Repair empties the user table: keep the old file for its tags. */
+    FSTF_INDEX = 6, /* index: Frames, times and index do not agree: repair it. Repair empties the user table: keep the old file for its tags. */
     FSTF_USER_TABLE = 7, /* user table: The user table is malformed or does not end the file. */
     FSTF_NO_SUCH_ITEM = 8, /* no such item: Ask for an item number below its count. */
     FSTF_NO_ROOM = 9, /* no room: Lend a longer output (or longer notes). */
@@ -42,9 +47,90 @@ enum {
     FSTF_TABLE_FULL = 17 /* table full: More than 1,000 tags after the save. */
 };
 
-/* ── Opening ── refused 1 to 7, the first that holds; then all other members are 0. */
+/* The name of a refusal, as it stands above. */
+static inline const char *fstf_refusal_name(uint64_t refused) {
+    switch (refused) {
+    case FSTF_TAKEN: return "taken";
+    case FSTF_NOT_FSTF: return "not FSTF";
+    case FSTF_REVISION: return "revision";
+    case FSTF_SECTIONS: return "sections";
+    case FSTF_SYSTEM_TABLE: return "system table";
+    case FSTF_NOT_CLOSED: return "not closed";
+    case FSTF_INDEX: return "index";
+    case FSTF_USER_TABLE: return "user table";
+    case FSTF_NO_SUCH_ITEM: return "no such item";
+    case FSTF_NO_ROOM: return "no room";
+    case FSTF_SHEET: return "sheet";
+    case FSTF_CONFLICT: return "conflict";
+    case FSTF_STAGE: return "stage";
+    case FSTF_CLOCK: return "clock";
+    case FSTF_FRAME_SHAPE: return "frame shape";
+    case FSTF_FULL: return "full";
+    case FSTF_WHOLE: return "whole";
+    case FSTF_TABLE_FULL: return "table full";
+    default: return "unknown";
+    }
+}
+
+/* ── Version ── of this header and of the library that belongs to it. */
+#define FSTF_VERSION "0.1.0"
+#define FSTF_VERSION_MAJOR 0
+#define FSTF_VERSION_MINOR 1
+#define FSTF_VERSION_PATCH 0
+
+/* ── Places and limits of the format ── Numbers in a file have their low byte first. */
+enum {
+    /* Where the fields of the header stand. A repair is applied by storing `count` in 4 bytes at 5, `index` in 8 at 9 and `user` in 8 at 25. */
+    FSTF_COUNT_PLACE = 5,   /* the number of frames, 4 bytes */
+    FSTF_INDEX_PLACE = 9,   /* where the index starts, 8 bytes */
+    FSTF_SYSTEM_PLACE = 17, /* where the system table starts, 8 bytes */
+    FSTF_USER_PLACE = 25,   /* where the user table starts, 8 bytes */
+    FSTF_HEADER_LENGTH = 33,
+
+    FSTF_MOST_SECTIONS = 8,             /* of a frame; at least 1 */
+    FSTF_LONGEST_NAME = 255,            /* bytes of a name; at least 1. Of a section: 0-9, A-Z, a-z; of a tag: bytes 32 to 126 */
+    FSTF_LONGEST_VALUE = 255,           /* bytes of a tag's value, 32 to 126; may be none */
+    FSTF_LONGEST_CONFIGURATION = 65535, /* bytes of a section's configuration */
+    FSTF_LONGEST_SECTION = 16777216,    /* bytes of a section in a frame */
+    FSTF_MOST_FRAMES = 1000000,         /* of a recording */
+    FSTF_MOST_TAGS = 1000,              /* of a table */
+    FSTF_MOST_CHANGES = 64,             /* of a sheet */
+    FSTF_LARGEST_TABLE = 512004,        /* bytes of a table: 4, and for each of 1,000 tags twice a length and 255 bytes */
+    FSTF_CLOSING_PIECES = 5
+};
+#define FSTF_LONGEST_SPAN UINT64_C(4294967295) /* milliseconds from the first frame to any other */
+#define FSTF_LARGEST_FILE (UINT64_C(1) << 40)  /* bytes of a recording, its user table at its largest */
+
+/* ── Room ── how many bytes of `out`, and of `notes`, are enough whatever the call is given. */
+#define FSTF_BEGIN_ROOM(setup_length, system_length) (UINT64_C(81) + (setup_length) + (system_length))
+#define FSTF_ADD_ROOM(sections_length) (UINT64_C(16) + (sections_length))
+/* The notes of so many frames, and the `out` of the first close call. 16,000,004 bytes are enough for any recording. */
+#define FSTF_NOTES_ROOM(frames) (UINT64_C(4) + UINT64_C(16) * (frames))
+/* A repair's tail: 8 bytes, and 16 more for each frame. No frame has fewer than 20 bytes, so that a file's length is a bound; 16,000,008 are enough for
+ * any file. */
+#define FSTF_REPAIR_ROOM(file_length) \
+    (UINT64_C(8) + UINT64_C(16) * ((file_length) / 20 < FSTF_MOST_FRAMES ? (file_length) / 20 : FSTF_MOST_FRAMES))
+/* A save's table: no longer than the old table, from `user` to the file's end, and the sheet together. FSTF_LARGEST_TABLE bytes are always enough. */
+#define FSTF_SAVE_ROOM(table_length, sheet_length) (UINT64_C(0) + (table_length) + (sheet_length))
+
+/* ── When to flush ── What is said of cuts below holds for storage that keeps the order of writes. A disk or a card behind a cache may store a later
+ * write first. There, flush (fsync and the like) three times:
+ *   1. after the first piece: without it nothing can be repaired;
+ *   2. after the second closing piece, ahead of the last three, which say in the header that the recording is closed. Otherwise a cut can leave a file
+ *      that opens and shows pixels that were never stored;
+ *   3. after the fifth closing piece, before anybody is told that the recording is closed.
+ * Between 1 and 2, flush as often as you want to be sure of frames: of frames that were added since, a repair after a cut may find none, or pixels
+ * that were never stored.
+ * A repaired file and a file with new tags are written under another name, flushed, and renamed; then the directory is flushed. */
+
+/* ── Before a repair replaces a file ── A repaired file has an empty user table. A recording that was cut off had none; but a closed file is refused 5 or 6
+ * too where, say, one bit of its header flipped, and then its members' tags are not kept. They can still be read where the bytes from the header's user
+ * offset, or from the repair's `user`, up to the file's end are a table: `fstf_tag_at` says so. Keep the old file. */
+
+/* ── Opening ── refused 1 to 7, the first that holds. */
 typedef struct {
     uint64_t refused;
+    uint64_t place;
     uint64_t frames;      /* how many frames the file has */
     uint64_t sections;    /* how many sections every frame has, 1 to 8 */
     uint64_t system_tags; /* how many tags the system table has */
@@ -57,13 +143,14 @@ typedef struct {
 
 FstfOpened fstf_open(const uint8_t *file, size_t file_length);
 
-/* ── Reading ── refused 1 to 7, then 8; then all other members are 0. Numbers count from 0.
+/* ── Reading ── refused 1 to 7, then 8. Numbers count from 0.
  * `fstf_frame` and `fstf_part` open the file at each call. `fstf_frame_of` and `fstf_part_of` go by an opening that went ahead: one who reads many
  * items opens once, and passes what `fstf_open` answered. While the file stays as it was, the answers are the same. A number in `refused` is passed
- * through; any other numbers lead to bytes within the file, or are refused 8. */
+ * through, with its place; any other numbers lead to bytes within the file, or are refused 8. */
 typedef struct {
     uint64_t refused;
-    uint64_t place;    /* where the frame starts in the file */
+    uint64_t place;
+    uint64_t start;    /* where the frame starts in the file */
     uint64_t length;   /* the number of its bytes */
     int64_t time;      /* its time in milliseconds */
     uint64_t exposure; /* as the frame's head says it, below 2^32 */
@@ -75,6 +162,7 @@ FstfFrame fstf_frame_of(const uint8_t *file, size_t file_length, FstfOpened open
 /* Where the bytes of an item stand in the file. */
 typedef struct {
     uint64_t refused;
+    uint64_t place;
     uint64_t start;
     uint64_t length;
 } FstfPart;
@@ -94,7 +182,7 @@ FstfPart fstf_part(const uint8_t *file, size_t file_length, uint64_t kind, uint6
 FstfPart fstf_part_of(const uint8_t *file, size_t file_length, FstfOpened opened, uint64_t kind, uint64_t i, uint64_t j);
 
 /* ── Recording ── into a file that is empty: begin once, add each frame, close five times. Each call is given the state and the notes as the call
- * before left them, and hands out one piece, the first `length` bytes of `out`. The caller stores it at `place` in the file, the pieces in the order
+ * before left them, and hands out one piece, the first `length` bytes of `out`. The caller stores it at `start` in the file, the pieces in the order
  * in which they came: then a recording that was cut short, at any byte, does not open, unless it is the finished file already, and `fstf_repair` keeps its
  * whole frames once the first piece was stored. Refused, the state is handed back as it was given, and nothing is to be stored. */
 typedef struct {
@@ -109,7 +197,8 @@ typedef struct {
 
 typedef struct {
     uint64_t refused;
-    uint64_t place;  /* where the piece goes in the file */
+    uint64_t place;
+    uint64_t start;  /* where the piece goes in the file */
     uint64_t length; /* how many bytes of `out` are the piece */
     FstfRecorder recorder;
 } FstfTaken;
@@ -133,9 +222,10 @@ FstfTaken fstf_add(FstfRecorder recorder, int64_t time, uint32_t exposure, const
 FstfTaken fstf_close(FstfRecorder recorder, const uint8_t *notes, size_t notes_length, uint8_t *out, size_t out_length);
 
 /* ── Repair ── of a file that was cut: keep its first `kept` bytes, put the tail behind them, and set the header's count, index offset and user
- * offset. Refused 1 to 4, 16, 13, 15, 9; then all other members are 0. */
+ * offset. Refused 1 to 4, 16, 13, 15, 9. */
 typedef struct {
     uint64_t refused;
+    uint64_t place;
     uint64_t kept;
     uint64_t count;
     uint64_t index;
@@ -150,7 +240,7 @@ FstfRepaired fstf_repair(const uint8_t *file, size_t file_length, uint8_t *out, 
  * Refused 1 to 7, 10, 11, 17, 9. */
 typedef struct {
     uint64_t refused;
-    uint64_t place;  /* refused 11: the lowest change, from 0, whose seen entry is not the table's; else 0 */
+    uint64_t place;
     uint64_t length; /* how many bytes of `out` are the new table */
 } FstfSaved;
 
@@ -159,7 +249,8 @@ FstfSaved fstf_save(const uint8_t *file, size_t file_length, const uint8_t *shee
 /* ── Tags of a table ── `table` is exactly a table, as it stands in a file: else refused 7. */
 typedef struct {
     uint64_t refused;
-    uint64_t found;        /* 1, or 0 where there is no such tag; then the places and lengths are 0 */
+    uint64_t place;
+    uint64_t found;        /* 1, or 0 where there is no such tag; then the members below are 0 */
     uint64_t name;         /* where its name's bytes start in the table */
     uint64_t name_length;
     uint64_t value;        /* where its value's bytes start in the table */

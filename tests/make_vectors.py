@@ -1,7 +1,7 @@
 """Writes the vectors and the lines expected of them, by the model of document 01 in model.py.
 
-Run it with no arguments. It first checks the model by the document's twelve examples and further sure facts, then writes
-crates/vectors/data/NAME, crates/vectors/args and crates/vectors/stdout below the repository root. A second run writes the same bytes.
+Run it with no arguments. It first checks the model by the document's twelve examples and further sure facts, then writes, below
+crates/PROGRAM for each program that runs vectors, data/NAME, args and stdout. A second run writes the same bytes.
 VECTORS.md says what a vector holds and how its line reads. Where a vector is put with an expectation, that was thought out by hand from
 the document, and the model's line has to start with it.
 """
@@ -15,7 +15,16 @@ import model
 from model import Refusal, State
 
 ROOT = Path(__file__).resolve().parent.parent
-FOLDER = ROOT / "crates" / "vectors"
+
+# The programs, with the first bytes of the vectors that each runs.
+PROGRAMS = {
+    "opening_vectors": b"ofp",
+    "recorder_vectors": b"abc",
+    "repair_vectors": b"r",
+    "saving_vectors": b"s",
+    "browser_vectors": b"nt",
+    "whole_vectors": b"w",
+}
 
 TOP = 2**64 - 1
 EARLIEST, LATEST = -(2**63), 2**63 - 1
@@ -390,6 +399,14 @@ def line_of(vector):
         return f"refused {refusal.number}"
 
 
+def program_of(vector):
+    """The program that runs a vector."""
+    for program, kinds in PROGRAMS.items():
+        if vector and vector[0] in kinds:
+            return program
+    return "opening_vectors"
+
+
 # ---- the collection ----
 
 
@@ -415,15 +432,21 @@ class Vectors:
         self.put("open_" + name, of_open(file), wanted)
 
     def write(self):
-        data = FOLDER / "data"
+        for program in PROGRAMS:
+            self.write_program(program, [name for name, vector in self.all.items() if program_of(vector) == program])
+
+    def write_program(self, program, names):
+        folder = ROOT / "crates" / program
+        data = folder / "data"
         data.mkdir(parents=True, exist_ok=True)
         for old in data.iterdir():
-            if old.name not in self.all:
+            if old.name not in names:
                 old.unlink()
-        for name, vector in self.all.items():
-            (data / name).write_bytes(vector)
-        (FOLDER / "args").write_text("".join(name + "\n" for name in self.all))
-        (FOLDER / "stdout").write_text("".join(f"{name}: {line}\n" for name, line in self.lines.items()))
+        for name in names:
+            (data / name).write_bytes(self.all[name])
+        (folder / "args").write_text("".join(name + "\n" for name in names))
+        (folder / "stdout").write_text("".join(f"{name}: {self.lines[name]}\n" for name in names))
+        print(program, len(names), "vectors,", sum(len(self.all[name]) for name in names), "bytes")
 
 
 # ---- (1) opening ----

@@ -19,7 +19,11 @@ import sys
 
 ROOT = pathlib.Path(__file__).resolve().parent.parent
 COPY = ROOT / "target" / "operators"
-CODE = ["number", "marks", "header", "text", "opening", "repair", "recorder", "reading", "saving", "browser", "fstf"]
+CODE = [
+    path.parent.parent.name
+    for path in sorted((ROOT / "crates").glob("*/src/lib.rt"))
+    if re.search(r"\bfn \w+", path.read_text())
+]
 
 CHANGES = [
     (" <= ", [" < ", " == "]),

@@ -1,4 +1,4 @@
-//! Measures the static library against the rival: one process, the same inputs, run in turns; medians.
+//! Measures the static library against the rival: one process, the same inputs, run in turns; the least times, since others on the machine only add.
 
 #[path = "../compare/build.rs"]
 #[allow(dead_code)]
@@ -16,9 +16,12 @@ mod raw;
 
 use build::*;
 use clock::used;
+use std::sync::atomic::{AtomicUsize, Ordering::Relaxed};
 use std::time::Duration;
 
+/// Runs of each side: so many at least, and more until the three least of both lie together.
 const RUNS: usize = 15;
+const MOST_RUNS: usize = 150;
 /// A run repeats its call until it takes about this long, so that the clock's grain does not show.
 const RUN_LENGTH: Duration = Duration::from_millis(30);
 
@@ -43,9 +46,25 @@ fn repeats(call: &mut dyn FnMut() -> u64) -> u32 {
     (RUN_LENGTH.as_nanos() / once.as_nanos().max(100)).max(1) as u32
 }
 
-fn median(mut times: Vec<Duration>) -> Duration {
+/// How many figures were taken, and of how many the runs lay apart.
+static FIGURES: AtomicUsize = AtomicUsize::new(0);
+static APART: AtomicUsize = AtomicUsize::new(0);
+
+/// Whether the three least times lie within a twentieth: then the least is no accident, and hardly disturbed.
+fn settled(times: &[Duration]) -> bool {
+    let mut times = times.to_vec();
     times.sort();
-    times[times.len() / 2]
+    times[2] <= times[0] * 21 / 20
+}
+
+/// The least time. Where the median lies more than a quarter above it, something else disturbed the runs.
+fn least(mut times: Vec<Duration>) -> Duration {
+    times.sort();
+    FIGURES.fetch_add(1, Relaxed);
+    if times[times.len() / 2] > times[0] * 5 / 4 {
+        APART.fetch_add(1, Relaxed);
+    }
+    times[0]
 }
 
 /// Both sides in turns. What they answer is some number of the answer, and has to be the same.
@@ -54,14 +73,17 @@ fn measure(ours: &mut dyn FnMut() -> u64, theirs: &mut dyn FnMut() -> u64) -> Me
     let their_repeats = repeats(theirs);
     let mut our_times = Vec::new();
     let mut their_times = Vec::new();
-    for _ in 0..RUNS {
+    for run in 1..=MOST_RUNS {
         let (time, answer) = timed(our_repeats, ours);
         our_times.push(time);
         let (time, other) = timed(their_repeats, theirs);
         their_times.push(time);
         assert_eq!(answer, other, "the two sides answer differently");
+        if run >= RUNS && settled(&our_times) && settled(&their_times) {
+            break;
+        }
     }
-    Measured { ours: median(our_times), theirs: median(their_times) }
+    Measured { ours: least(our_times), theirs: least(their_times) }
 }
 
 fn shown(time: Duration) -> String {
@@ -254,4 +276,7 @@ fn main() {
     recording_of("1,000,000 frames of 36 bytes", 1_000_000, 16);
     recording_of("1,000 frames of 1 MiB", 1_000, 1 << 20);
     growth();
+    let (figures, apart) = (FIGURES.load(Relaxed), APART.load(Relaxed));
+    println!();
+    println!("In {} of {} times the median of the runs lay more than a quarter above the least.", apart, figures);
 }

@@ -365,6 +365,7 @@ pub fn numbers_of_no_opening(sides: &mut Sides, random: &mut Random) {
         }
         if random.one_in(12) {
             numbers.refused = 1 + random.below(7);
+            numbers.place = random.next();
         }
         let i = random.near(own.frames);
         sides.frame_of(&file, numbers, i);

@@ -73,7 +73,7 @@ impl Session {
         self.state = taken.recorder;
         self.notes = notes;
         self.sections = recording.sections.len();
-        store(&mut self.card, taken.place, &left[..taken.length as usize]);
+        store(&mut self.card, taken.start, &left[..taken.length as usize]);
     }
 
     fn add(&mut self, sides: &mut Sides, random: &mut Random) {
@@ -91,7 +91,7 @@ impl Session {
         }
         self.state = taken.recorder;
         self.notes = notes;
-        store(&mut self.card, taken.place, &left[..taken.length as usize]);
+        store(&mut self.card, taken.start, &left[..taken.length as usize]);
     }
 
     fn close(&mut self, sides: &mut Sides, random: &mut Random) {
@@ -103,7 +103,7 @@ impl Session {
         }
         self.state = taken.recorder;
         for (i, byte) in left[..taken.length as usize].iter().enumerate() {
-            store(&mut self.card, taken.place + i as u64, &[*byte]);
+            store(&mut self.card, taken.start + i as u64, &[*byte]);
             self.closing.push(self.card.clone());
         }
     }

@@ -23,11 +23,10 @@ pub enum Call {
     TagNamed,
 }
 
-/// Stands beside the refusal numbers for the end of a table, or no such tag.
-const NONE: u64 = 18;
-const OUTCOMES: usize = 19;
+/// The numbers of include/fstf.h, 0 to 17; a last count is for those that it does not have.
+const NUMBERS: usize = 18;
 
-/// Each call with the outcomes that must be met; 0 is acceptance. Repair's 15 needs a file of 2^40 bytes.
+/// Each call with the numbers that must be met; 0 is acceptance. Repair's 15 needs a file of 2^40 bytes.
 const CALLS: [(&str, &[u64]); 13] = [
     ("fstf_new", &[0]),
     ("fstf_open", &[0, 1, 2, 3, 4, 5, 6, 7]),
@@ -40,8 +39,8 @@ const CALLS: [(&str, &[u64]); 13] = [
     ("fstf_close", &[0, 12, 9]),
     ("fstf_repair", &[0, 1, 2, 3, 4, 16, 13, 9]),
     ("fstf_save", &[0, 1, 2, 3, 4, 5, 6, 7, 10, 11, 17, 9]),
-    ("fstf_tag_at", &[0, NONE, 7]),
-    ("fstf_tag_named", &[0, NONE, 7]),
+    ("fstf_tag_at", &[0, 7]),
+    ("fstf_tag_named", &[0, 7]),
 ];
 
 /// Differences printed before the run is given up.
@@ -53,7 +52,9 @@ pub struct Sides {
     pub case: u64,
     pub inputs: u64,
     pub differences: u64,
-    met: [[u64; OUTCOMES]; CALLS.len()],
+    met: [[u64; NUMBERS + 1]; CALLS.len()],
+    /// Accepted, at the end of a table or where there is no such tag.
+    without_tag: [u64; CALLS.len()],
 }
 
 /// Lent bytes: as given, and as each side left them.
@@ -128,17 +129,18 @@ fn flat_state(state: rival::State) -> FstfRecorder {
 fn flat_taken(given: FstfRecorder, answer: Result<(rival::State, rival::Piece), u64>) -> FstfTaken {
     match answer {
         Ok((state, piece)) => {
-            FstfTaken { refused: 0, place: piece.place, length: piece.length, recorder: flat_state(state) }
+            FstfTaken { refused: 0, place: 0, start: piece.place, length: piece.length, recorder: flat_state(state) }
         }
-        Err(refused) => FstfTaken { refused, place: 0, length: 0, recorder: given },
+        Err(refused) => FstfTaken { refused, place: 0, start: 0, length: 0, recorder: given },
     }
 }
 
 fn flat_tag(answer: Result<Option<rival::Tag>, u64>) -> FstfTag {
-    let none = FstfTag { refused: 0, found: 0, name: 0, name_length: 0, value: 0, value_length: 0 };
+    let none = FstfTag { refused: 0, place: 0, found: 0, name: 0, name_length: 0, value: 0, value_length: 0 };
     match answer {
         Ok(Some(tag)) => FstfTag {
             refused: 0,
+            place: 0,
             found: 1,
             name: tag.name,
             name_length: tag.name_length,
@@ -168,26 +170,28 @@ fn within(file: &[u8], start: u64, length: u64) -> bool {
     matches!(start.checked_add(length), Some(end) if end <= file.len() as u64)
 }
 
-fn tag_outcome(tag: &FstfTag) -> u64 {
-    if tag.refused == 0 && tag.found == 0 {
-        return NONE;
+/// The refusal of an item that is not there, by the numbers of an opening.
+fn refused_by(numbers: FstfOpened) -> (u64, u64) {
+    match numbers.refused {
+        0 => (8, 0),
+        refused => (refused, numbers.place),
     }
-    tag.refused
 }
 
 impl Sides {
     pub fn new(seed: u64) -> Sides {
-        Sides { seed, group: "", case: 0, inputs: 0, differences: 0, met: [[0; OUTCOMES]; CALLS.len()] }
+        let met = [[0; NUMBERS + 1]; CALLS.len()];
+        Sides { seed, group: "", case: 0, inputs: 0, differences: 0, met, without_tag: [0; CALLS.len()] }
     }
 
     pub fn enough(&self) -> bool {
         self.differences >= ENOUGH
     }
 
-    /// Counts an outcome, and prints the input and both answers where they differ.
-    fn settle(&mut self, call: Call, outcome: u64, agree: bool, input: &dyn Fn() -> String, answers: [&dyn Debug; 2]) {
+    /// Counts a number, and prints the input and both answers where they differ.
+    fn settle(&mut self, call: Call, refused: u64, agree: bool, input: &dyn Fn() -> String, answers: [&dyn Debug; 2]) {
         self.inputs += 1;
-        self.met[call as usize][(outcome as usize).min(OUTCOMES - 1)] += 1;
+        self.met[call as usize][(refused as usize).min(NUMBERS)] += 1;
         if agree {
             return;
         }
@@ -204,7 +208,7 @@ impl Sides {
     fn settle_lent(
         &mut self,
         call: Call,
-        outcome: u64,
+        refused: u64,
         agree: bool,
         lent: &[&Lent],
         input: &dyn Fn() -> String,
@@ -220,7 +224,7 @@ impl Sides {
             all
         };
         let same = lent.iter().all(|bytes| bytes.agree());
-        self.settle(call, outcome, agree && same, &whole, answers);
+        self.settle(call, refused, agree && same, &whole, answers);
     }
 
     /// What both sides could miss together: an answer that is known from how the bytes were made.
@@ -244,6 +248,7 @@ impl Sides {
         let ours = ours::open(file);
         let none = FstfOpened {
             refused: 0,
+            place: 0,
             frames: 0,
             sections: 0,
             system_tags: 0,
@@ -256,6 +261,7 @@ impl Sides {
         let theirs = match rival::open(file) {
             Ok(opened) => FstfOpened {
                 refused: 0,
+                place: 0,
                 frames: opened.frames,
                 sections: opened.sections,
                 system_tags: opened.system_tags,
@@ -276,11 +282,12 @@ impl Sides {
     /// A frame by its number, from the file and from the numbers of its opening.
     pub fn frame(&mut self, file: &[u8], opened: FstfOpened, i: u64) -> FstfFrame {
         let ours = ours::frame(file, i);
-        let none = FstfFrame { refused: 0, place: 0, length: 0, time: 0, exposure: 0 };
+        let none = FstfFrame { refused: 0, place: 0, start: 0, length: 0, time: 0, exposure: 0 };
         let theirs = match rival::frame(file, i) {
             Ok(frame) => FstfFrame {
                 refused: 0,
-                place: frame.place,
+                place: 0,
+                start: frame.place,
                 length: frame.length,
                 time: frame.time,
                 exposure: u64::from(frame.exposure),
@@ -298,8 +305,8 @@ impl Sides {
     pub fn part(&mut self, file: &[u8], opened: FstfOpened, kind: u64, i: u64, j: u64) -> FstfPart {
         let ours = ours::part(file, kind, i, j);
         let theirs = match rival::part(file, their_item(kind, i, j)) {
-            Ok((start, length)) => FstfPart { refused: 0, start, length },
-            Err(refused) => FstfPart { refused, start: 0, length: 0 },
+            Ok((start, length)) => FstfPart { refused: 0, place: 0, start, length },
+            Err(refused) => FstfPart { refused, place: 0, start: 0, length: 0 },
         };
         let input = || format!("kind {} numbers {} {} of file {}", kind, i, j, shown(file));
         self.settle(Call::Part, ours.refused, ours == theirs, &input, [&ours, &theirs]);
@@ -308,12 +315,12 @@ impl Sides {
         ours
     }
 
-    /// A frame by any numbers, which the rival does not know: it lies in the file, or is refused as the opening was, or 8.
+    /// A frame by any numbers, which the rival does not know: it lies in the file, or is refused as the opening was, place and all, or 8.
     pub fn frame_of(&mut self, file: &[u8], numbers: FstfOpened, i: u64) {
         let ours = ours::frame_of(file, numbers, i);
-        let refused = if numbers.refused != 0 { numbers.refused } else { 8 };
-        let none = FstfFrame { refused, place: 0, length: 0, time: 0, exposure: 0 };
-        let inside = ours.refused == 0 && within(file, ours.place, ours.length);
+        let (refused, place) = refused_by(numbers);
+        let none = FstfFrame { refused, place, start: 0, length: 0, time: 0, exposure: 0 };
+        let inside = ours.refused == 0 && within(file, ours.start, ours.length);
         let agree = ours == none || inside && numbers.refused == 0;
         let input = || format!("frame {} by {:?} of file {}", i, numbers, shown(file));
         self.settle(Call::FrameOf, ours.refused, agree, &input, [&ours, &"in the file, or refused"]);
@@ -322,8 +329,8 @@ impl Sides {
     /// A part by any numbers, as `frame_of`.
     pub fn part_of(&mut self, file: &[u8], numbers: FstfOpened, kind: u64, i: u64, j: u64) {
         let ours = ours::part_of(file, numbers, kind, i, j);
-        let refused = if numbers.refused != 0 { numbers.refused } else { 8 };
-        let none = FstfPart { refused, start: 0, length: 0 };
+        let (refused, place) = refused_by(numbers);
+        let none = FstfPart { refused, place, start: 0, length: 0 };
         let inside = ours.refused == 0 && within(file, ours.start, ours.length);
         let agree = ours == none || inside && numbers.refused == 0;
         let input = || format!("kind {} numbers {} {} by {:?} of file {}", kind, i, j, numbers, shown(file));
@@ -392,10 +399,11 @@ impl Sides {
     pub fn repair(&mut self, file: &[u8], out: &[u8]) -> (FstfRepaired, Vec<u8>) {
         let mut out = Lent::new(out);
         let ours = ours::repair(file, &mut out.ours);
-        let none = FstfRepaired { refused: 0, kept: 0, count: 0, index: 0, user: 0, tail: 0 };
+        let none = FstfRepaired { refused: 0, place: 0, kept: 0, count: 0, index: 0, user: 0, tail: 0 };
         let theirs = match rival::repair(file, &mut out.theirs) {
             Ok(repaired) => FstfRepaired {
                 refused: 0,
+                place: 0,
                 kept: repaired.kept,
                 count: repaired.count,
                 index: repaired.index,
@@ -428,8 +436,8 @@ impl Sides {
         let ours = ours::tag_at(table, number);
         let theirs = flat_tag(rival::tag_at(table, number));
         let input = || format!("number {} of table {}", number, shown(table));
-        let outcome = tag_outcome(&ours);
-        self.settle(Call::TagAt, outcome, ours == theirs, &input, [&ours, &theirs]);
+        self.settle(Call::TagAt, ours.refused, ours == theirs, &input, [&ours, &theirs]);
+        self.count_tag(Call::TagAt, &ours);
         ours
     }
 
@@ -437,21 +445,24 @@ impl Sides {
         let ours = ours::tag_named(table, name);
         let theirs = flat_tag(rival::tag_named(table, name));
         let input = || format!("name {}\n  table {}", shown(name), shown(table));
-        let outcome = tag_outcome(&ours);
-        self.settle(Call::TagNamed, outcome, ours == theirs, &input, [&ours, &theirs]);
+        self.settle(Call::TagNamed, ours.refused, ours == theirs, &input, [&ours, &theirs]);
+        self.count_tag(Call::TagNamed, &ours);
         ours
     }
 
-    /// Prints how often each outcome of each call was met; answers how many of its order were never met, or met outside it.
+    fn count_tag(&mut self, call: Call, tag: &FstfTag) {
+        self.without_tag[call as usize] += u64::from(tag.refused == 0 && tag.found == 0);
+    }
+
+    /// Prints how often each number of each call was met; answers how many of its order were never met, or met outside it.
     pub fn report(&self) -> usize {
         let mut lacking = 0;
-        for ((name, order), met) in CALLS.iter().zip(&self.met) {
+        for (((name, order), met), without) in CALLS.iter().zip(&self.met).zip(&self.without_tag) {
             let mut line = format!("{}:", name);
-            for outcome in *order {
-                let times = met[*outcome as usize];
-                match *outcome {
+            for number in *order {
+                let times = met[*number as usize];
+                match *number {
                     0 => line += &format!(" accepted {}", times),
-                    NONE => line += &format!(", none {}", times),
                     refused => line += &format!(", {}: {}", refused, times),
                 }
                 if times == 0 {
@@ -459,10 +470,18 @@ impl Sides {
                     line += " NEVER MET";
                 }
             }
-            for (outcome, times) in met.iter().enumerate() {
-                if *times > 0 && !order.contains(&(outcome as u64)) {
+            for (number, times) in met.iter().enumerate() {
+                if *times > 0 && !order.contains(&(number as u64)) {
                     lacking += 1;
-                    line += &format!(", NOT IN ITS ORDER {}: {}", outcome, times);
+                    line += &format!(", NOT IN ITS ORDER {}: {}", number, times);
+                }
+            }
+            // of the accepted ones some find a tag, and some find none
+            if name.starts_with("fstf_tag_") {
+                line += &format!(", accepted without a tag {}", without);
+                if *without == 0 || *without == met[0] {
+                    lacking += 1;
+                    line += " NEVER MET, OR ALWAYS";
                 }
             }
             println!("{}", line);

@@ -115,7 +115,8 @@ fn malformed(random: &mut Random, mut changes: Vec<Change>) -> Vec<u8> {
             changes.push(Change { name, seen: Seen::NobodyLooked, new: None });
         }
         2 if !changes.is_empty() => changes[at].name = Vec::new(),
-        3 if !changes.is_empty() => {
+        // The tags that names are taken from may be bent: then a name can be empty.
+        3 if !changes.is_empty() && !changes[at].name.is_empty() => {
             let place = random.size(changes[at].name.len() - 1);
             changes[at].name[place] = bad;
         }

@@ -16,8 +16,8 @@ static void check(const char *what, int holds) {
 
 /* A piece, stored at its place in the file. */
 static uint64_t store(uint8_t *file, uint64_t length, const uint8_t *out, FstfTaken taken) {
-    memcpy(file + taken.place, out, taken.length);
-    uint64_t end = taken.place + taken.length;
+    memcpy(file + taken.start, out, taken.length);
+    uint64_t end = taken.start + taken.length;
     return length < end ? end : length;
 }
 
@@ -35,14 +35,14 @@ int main(void) {
     uint64_t length = 0;
 
     FstfTaken taken = fstf_begin(fstf_new(), setup, sizeof setup, system, sizeof system, notes, sizeof notes, out, room);
-    check("begin is taken", taken.refused == 0 && taken.recorder.stage == 1 && taken.place == 0);
+    check("begin is taken", taken.refused == 0 && taken.recorder.stage == 1 && taken.start == 0);
     length = store(file, length, out, taken);
 
     uint32_t size = LIMIT;
     for (int k = 0; k < 4; k++) sections[k] = (uint8_t)(size >> (8 * k));
-    uint64_t place = taken.recorder.end;
+    uint64_t start = taken.recorder.end;
     taken = fstf_add(taken.recorder, 1000, 20, sections, 4u + size, notes, sizeof notes, out, room);
-    check("a section of 16777216 bytes is taken", taken.refused == 0 && taken.place == place && taken.length == 16u + 4u + size && taken.recorder.frames == 1);
+    check("a section of 16777216 bytes is taken", taken.refused == 0 && taken.start == start && taken.length == 16u + 4u + size && taken.recorder.frames == 1);
     check("its bytes stand behind the frame's head", memcmp(out + 16, sections, 4u + size) == 0);
     length = store(file, length, out, taken);
 
@@ -72,7 +72,9 @@ int main(void) {
     FstfPart part = fstf_part(file, length, FSTF_SECTION, 0, 0), part_of = fstf_part_of(file, length, opened, FSTF_SECTION, 0, 0);
     check("and to the same section", part.refused == 0 && part.length == LIMIT && memcmp(&part, &part_of, sizeof part) == 0);
     opened.refused = FSTF_USER_TABLE;
-    check("a refusal in it is passed through", fstf_part_of(file, length, opened, FSTF_SECTION, 0, 0).refused == FSTF_USER_TABLE);
+    opened.place = 5;
+    part = fstf_part_of(file, length, opened, FSTF_SECTION, 0, 0);
+    check("a refusal in it is passed through, with its place", part.refused == FSTF_USER_TABLE && part.place == 5);
     opened.refused = 0;
     part = fstf_part_of(NULL, 0, opened, FSTF_SECTION, 0, 0);
     check("a null pointer of length 0 is answered", fstf_open(NULL, 0).refused == FSTF_NOT_FSTF && part.refused == FSTF_NO_SUCH_ITEM);

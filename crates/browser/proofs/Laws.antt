@@ -16,19 +16,21 @@ use Rattle.layout.specs.Items.{noTag}
 use Rattle.layout.specs.Browser.{tagAt, browse, cursorAfter, numberOfTag, tagNamed}
 use Rattle.layout.specs.Browser as layout
 use Rattle.layout.proofs.Readers.{exactly-good}
-use Rattle.text.specs.Rows.{rowName, found, findName}
-use Rattle.text.specs.Table.{tablePlaceOf, tagFound}
-use Rattle.text.specs.declared.Row.the-variants as row
-use Rattle.text.specs.declared.TablePlace.{TablePlace}
-use Rattle.text.specs.declared.TablePlace.the-variants as tablePlace
-use Rattle.text.specs.declared.TagFound.{TagFound}
-use Rattle.text.specs.declared.TagFound.the-variants as tagFound
-use Rattle.text.specs.declared.Found.{Found}
-use Rattle.text.specs.declared.Found.the-variants as found
-use Rattle.text.proofs.Readers.{tag-row}
-use Rattle.text.proofs.Places.{table-read, tag-found-at, tag-found-past}
-use Rattle.text.proofs.Names.{find-there}
-use Rattle.text.proofs.Finding.{find-nothing, find-at, number-none, number-at}
+use Rattle.rows.specs.Rows.{rowName}
+use Rattle.names.specs.Names.{found, findName}
+use Rattle.tables.specs.Tables.{tablePlaceOf, tagFound}
+use Rattle.rows.specs.declared.Row.the-variants as row
+use Rattle.tables.specs.declared.TablePlace.{TablePlace}
+use Rattle.tables.specs.declared.TablePlace.the-variants as tablePlace
+use Rattle.tables.specs.declared.TagFound.{TagFound}
+use Rattle.tables.specs.declared.TagFound.the-variants as tagFound
+use Rattle.names.specs.declared.NameFound.{NameFound}
+use Rattle.names.specs.declared.NameFound.the-variants as found
+use Rattle.names.proofs.Readers.{tag-row}
+use Rattle.tables.proofs.Places.{table-read, tag-found-at, tag-found-past}
+use Rattle.names.proofs.Laws.{find-there}
+use Rattle.names.proofs.Finding.{find-nothing, find-at, number-none, number-at}
+use Rattle.refusal.specs.Refusal.{plain}
 use Rattle.browser.specs.Browsing.{tagsOf, browsedTag, browsedAs}
 use Rattle.browser.specs.declared.Tags.{Tags}
 use Rattle.browser.specs.declared.Tags.the-variants as tags
@@ -98,7 +100,7 @@ unfolding tagsOf
 tags-bad bad e = refl
 tags-bad (good ts m) e = let z : _≡_ {A = ℕ} 0 1 = cc in absurd (omega arith)
 
-pub browse-refused : (t : List ℕ) (i : ℕ) (r : Tags) → r ≡ tagsOf (exactly table t) → r ≡ tags.Broken → browsed.Refused 7 ≡ browsedAs (browse t i)
+pub browse-refused : (t : List ℕ) (i : ℕ) (r : Tags) → r ≡ tagsOf (exactly table t) → r ≡ tags.Broken → browsed.Refused (plain 7) ≡ browsedAs (browse t i)
 unfolding browse browsedAs
 browse-refused t i r e f = rw (tags-bad (exactly table t) (sym e ∙ f), browse)
 
@@ -111,19 +113,19 @@ browse-found t i n r f b e g h k =
     let (ts, m, p, q) = tags-good (exactly table t) n (sym e ∙ g) in
     k ∙ ap browsedTag h ∙ found-is t i m ts (exactly-good table t ts m p .0) ∙ sym (browse-is t ts m i p)
 
-pub named-refused : (t name : List ℕ) (r : Tags) → r ≡ tagsOf (exactly table t) → r ≡ tags.Broken → browsed.Refused 7 ≡ browsedAs (tagNamed t name)
+pub named-refused : (t name : List ℕ) (r : Tags) → r ≡ tagsOf (exactly table t) → r ≡ tags.Broken → browsed.Refused (plain 7) ≡ browsedAs (tagNamed t name)
 unfolding tagNamed browsedAs
 named-refused t name r e f = rw (tags-bad (exactly table t) (sym e ∙ f), tagNamed)
 
 -- the bytes of the whole name
-whole-name : (name t : List ℕ) (n : ℕ) (f : Found) → f ≡ findName name 0 (length name) t 4 n row.Tag → f ≡ found name n (rowName row.Tag) t 0 4
+whole-name : (name t : List ℕ) (n : ℕ) (f : NameFound) → f ≡ findName name 0 (length name) t 4 n row.Tag → f ≡ found name n (rowName row.Tag) t 0 4
 whole-name name t n f e = e ∙ find-there name t 0 (length name) 4 n row.Tag (omega arith) ∙ ap (λ (v : List ℕ). found v n (rowName row.Tag) t 0 4) (take-length name)
 
 named-is : (t name : List ℕ) (ts : List Tag) (m i : ℕ) → exactly table t ≡ good ts m → numberOfTag name ts ≡ i → browsedAs (tagNamed t name) ≡ browsedAs (cond (ltb i (length ts)) (tagAt ts i) layout.end)
 unfolding tagNamed
 named-is t name ts m i e f = rw (e, tagNamed, f)
 
-pub named-none : (t name : List ℕ) (n : ℕ) (r : Tags) (f : Found) → r ≡ tagsOf (exactly table t) → r ≡ tags.Whole n → f ≡ findName name 0 (length name) t 4 n row.Tag → f ≡ found.Nothing → browsed.End ≡ browsedAs (tagNamed t name)
+pub named-none : (t name : List ℕ) (n : ℕ) (r : Tags) (f : NameFound) → r ≡ tagsOf (exactly table t) → r ≡ tags.Whole n → f ≡ findName name 0 (length name) t 4 n row.Tag → f ≡ found.Nothing → browsed.End ≡ browsedAs (tagNamed t name)
 unfolding browsedAs tagNames
 named-none t name n r f e g h k =
     let (ts, m, p, q) = tags-good (exactly table t) n (sym e ∙ g) in
@@ -131,7 +133,7 @@ named-none t name n r f e g h k =
     let a : among name (tagNames ts) ≡ false = find-nothing row.Tag tag (λ x. x .name) tag-row name t (length ts) 0 4 j ts w (rw q (sym (whole-name name t n f h) ∙ k)) in
     sym (named-is t name ts m (length ts) p (number-none name ts a) ∙ rw (le-ltb (length ts) (length ts) (omega arith))))
 
-pub named-found : (t name : List ℕ) (n i at : ℕ) (r : Tags) (f : Found) (d : TagFound) (b : Browsed) → r ≡ tagsOf (exactly table t) → r ≡ tags.Whole n → f ≡ findName name 0 (length name) t 4 n row.Tag → f ≡ found.At i at → d ≡ tagFound t 0 i → b ≡ browsedTag d → b ≡ browsedAs (tagNamed t name)
+pub named-found : (t name : List ℕ) (n i at : ℕ) (r : Tags) (f : NameFound) (d : TagFound) (b : Browsed) → r ≡ tagsOf (exactly table t) → r ≡ tags.Whole n → f ≡ findName name 0 (length name) t 4 n row.Tag → f ≡ found.At i at → d ≡ tagFound t 0 i → b ≡ browsedTag d → b ≡ browsedAs (tagNamed t name)
 unfolding tagNames
 named-found t name n i at r f d b e g h k x y =
     let (ts, m, p, q) = tags-good (exactly table t) n (sym e ∙ g) in

@@ -4,8 +4,9 @@ use lib.ListN.{length}
 use Rattle.layout.specs.Recording.{Tag}
 use Rattle.layout.specs.Reading.{Parsed, bad, good}
 use Rattle.layout.specs.Browser as layout
-use Rattle.text.specs.declared.TagFound.{TagFound}
-use Rattle.text.specs.declared.TagFound.the-variants as found
+use Rattle.tables.specs.declared.TagFound.{TagFound}
+use Rattle.tables.specs.declared.TagFound.the-variants as found
+use Rattle.refusal.specs.Refusal.{plain}
 use Rattle.browser.specs.declared.Tags.{Tags}
 use Rattle.browser.specs.declared.Tags.the-variants as tags
 use Rattle.browser.specs.declared.Browsed.{Browsed}
@@ -23,4 +24,4 @@ browsedTag found.Nothing = browsed.End
 unfoldable pub browsedAs : layout.Browsed → Browsed
 browsedAs (layout.tag name value) = browsed.Tag (name .start) (name .len) (value .start) (value .len)
 browsedAs layout.end = browsed.End
-browsedAs (layout.refused n) = browsed.Refused n
+browsedAs (layout.refused n) = browsed.Refused (plain n)

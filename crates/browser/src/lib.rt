@@ -1,8 +1,9 @@
 // The tag browser: one tag after another of a table in file form, and a tag by its name.
-use text::Found;
-use text::Row;
-use text::TablePlace;
-use text::TagFound;
+use names::NameFound;
+use refusal::Refusal;
+use rows::Row;
+use tables::TablePlace;
+use tables::TagFound;
 ghost use mathlib.Core.Path.{_≡_};
 ghost use Rattle.layout.specs.Reading.{exactly, table};
 ghost use Rattle.layout.specs.Browser.{browse, cursorAfter, tagNamed};
@@ -17,7 +18,7 @@ pub enum Browsed {
         value_length: usize,
     },
     End,
-    Refused(u8),
+    Refused(Refusal),
 }
 
 // The number of tags of bytes that are exactly a legal table.
@@ -29,7 +30,7 @@ enum Tags {
 fn tags_of(bytes: &[u8]) -> Tags
     ensures { λ r. ⌜ r ≡ tagsOf (exactly table (now (bytes .entry))) ⌝ }
 {
-    let read = text::table(bytes, 0);
+    let read = tables::table(bytes, 0);
     let TablePlace::Whole(n, end) = read else {
         return Tags::Broken;
     };
@@ -66,9 +67,9 @@ pub fn tag_at(table: &[u8], number: u64) -> Browsed
 {
     let tags = tags_of(table);
     let Tags::Whole(n) = tags else {
-        return Browsed::Refused(7);
+        return Browsed::Refused(Refusal::USER_TABLE);
     };
-    tag_or_end(text::tag_found(table, 0, number as usize))
+    tag_or_end(tables::tag_found(table, 0, number as usize))
 }
 
 // The tag of a name, or the end where there is none.
@@ -77,13 +78,13 @@ pub fn tag_named(table: &[u8], name: &[u8]) -> Browsed
 {
     let tags = tags_of(table);
     let Tags::Whole(n) = tags else {
-        return Browsed::Refused(7);
+        return Browsed::Refused(Refusal::USER_TABLE);
     };
-    let found = text::find_name(name, 0, name.len(), table, 4, n, Row::Tag);
-    let Found::At(number, place) = found else {
+    let found = names::find_name(name, 0, name.len(), table, 4, n, Row::Tag);
+    let NameFound::At(number, place) = found else {
         return Browsed::End;
     };
-    tag_or_end(text::tag_found(table, 0, number))
+    tag_or_end(tables::tag_found(table, 0, number))
 }
 
 // The number of the tag behind it, where there is a tag of this number; else the number as it is.

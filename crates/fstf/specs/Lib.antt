@@ -1,1 +1,1 @@
-pub mod Face
+-- The contracts cite the definitions of the face crates.

@@ -16,7 +16,7 @@ use Rattle.layout.specs.Repair.{walked, keptLength, keptCount, tail, rep
 use Rattle.layout.specs.Saving.{tagValue, malformed, entryOf, seenOf, change, changeNames, sheet, changesOf, lookUp, sameEntry, agrees, conflicts, someConflict, conflictPlace, newEntry, tagWith, keptTags, newTags, applied, userTags, newTable, saveLines, saveRefusal, saveAnswer, save}
 
 -- "A whole file, 98 bytes"
-theFile : List ℕ
+unfoldable pub theFile : List ℕ
 theFile =
     0x46 ∷ 0x53 ∷ 0x54 ∷ 0x46 ∷ 0x01 ∷ 0x01 ∷ 0x00 ∷ 0x00 ∷ 0x00 ∷ 0x4A ∷ 0x00 ∷ 0x00 ∷ 0x00 ∷ 0x00 ∷ 0x00 ∷ 0x00 ∷ 0x00
     ∷ 0x30 ∷ 0x00 ∷ 0x00 ∷ 0x00 ∷ 0x00 ∷ 0x00 ∷ 0x00 ∷ 0x00 ∷ 0x5E ∷ 0x00 ∷ 0x00 ∷ 0x00 ∷ 0x00 ∷ 0x00 ∷ 0x00 ∷ 0x00
@@ -52,7 +52,7 @@ pub record Row : Type 0 where
   given : List ℕ
   expected : List ℕ
 
-row : List ℕ → List ℕ → Row
+unfoldable pub row : List ℕ → List ℕ → Row
 row g e = record { given = g; expected = e }
 
 pub rows : List Row
@@ -83,7 +83,7 @@ rows =
     ∷ row (saves (take 94 theFile ++ tableWithSite)) (11 ∷ 0 ∷ [])
     ∷ []
 
-pub holdsAt : Row → Bool
+unfoldable pub holdsAt : Row → Bool
 holdsAt r = same (r .given) (r .expected)
 
 -- P1 to P12 hold of the definitions

@@ -1,4 +1,5 @@
 pub mod Examples
+pub mod Limits
 pub mod Lists
 pub mod Outputs
 pub mod Readers
@@ -11,6 +12,7 @@ pub mod Encoded
 pub mod Places
 pub mod Condition2
 pub mod Sheets
+pub mod SheetBytes
 pub mod Applied
 pub mod Saved
 pub mod Repaired
@@ -27,3 +29,7 @@ pub mod CutWalks
 pub mod CutRepairs
 pub mod Moments
 pub mod Condition3
+pub mod Refusals
+pub mod Fresh
+pub mod Browsing
+pub mod Entries

@@ -11,7 +11,7 @@ use lib.ListN.{length, take, drop, length-append, take-append-drop, drop-of-leng
 use lib.Seq.{drop-nil, take-nil, drop-append-le}
 use lib.Dec.{leb, ltb, eqb}
 use lib.Pow.{areBytes}
-use borrow.Author.Tests.{leb-true, leb-false, eqb-true, eq-eqb}
+use borrow.Author.Tests.{leb-true, leb-false, eqb-true, eq-eqb, ne-eqb}
 use Rattle.number.proofs.Bytes.{both-true, and-true}
 use Rattle.layout.specs.Recording.{every, same}
 
@@ -38,6 +38,13 @@ cond-false b x y e = simp e
 pub cond-same : {A : Type 0} (b : Bool) (x : A) → cond b x x ≡ x
 cond-same true x = refl
 cond-same false x = refl
+
+-- the number that is asked for, or what the others say
+pub asks : {A : Type 0} (k m : ℕ) (x y z : A) → k ≡ m → z ≡ x → z ≡ cond (eqb k m) x y
+asks k m x y z e h = rw (eq-eqb k m e) h
+
+pub asks-not : {A : Type 0} (k m : ℕ) (x y z : A) → (k ≡ m → ⊥) → z ≡ y → z ≡ cond (eqb k m) x y
+asks-not k m x y z e h = rw (ne-eqb k m e) h
 
 -- a test passes or fails
 pub decided : (b : Bool) → (b ≡ true) ⊎ (b ≡ false)

@@ -123,11 +123,11 @@ module _ {f : List ℕ} {at : ℕ} (ts : List Tag) (i : ℕ) (h : i < length ts)
   unfolding tableBytes
   tag-stands = stands-one tagBytes ts i noTag h (stands-at (at + 4) (rw length-bytesOf) (stands-back (bytesOf 4 (length ts)) (flatMap tagBytes ts) p))
 
-  tag-name-stands : Stands f (nameStart at ts i) (getD ts i noTag .name)
+  pub tag-name-stands : Stands f (nameStart at ts i) (getD ts i noTag .name)
   unfolding nameStart tagBytes
   tag-name-stands = string-stands (getD ts i noTag .name) (stands-front (shortString (getD ts i noTag .name)) (shortString (getD ts i noTag .value)) tag-stands)
 
-  tag-value-stands : Stands f (valueStart at ts i) (getD ts i noTag .value)
+  pub tag-value-stands : Stands f (valueStart at ts i) (getD ts i noTag .value)
   unfolding valueStart nameStart tagBytes shortString
   tag-value-stands = stands-at (valueStart at ts i) (omega arith) (string-stands (getD ts i noTag .value) (stands-back (shortString (getD ts i noTag .name)) (shortString (getD ts i noTag .value)) tag-stands))
 

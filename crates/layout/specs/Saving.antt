@@ -1,10 +1,10 @@
 -- "Saving tags": sheets, and the save's order 1 to 7, 10, 11 with its place, 17, 9.
 use Prim.Native.Nat.{ℕ, zero, suc, _+_}
 use mathlib.Core.Bool.{Bool, true, false, not, _||_, cond}
-use mathlib.Core.List.{List, [], _∷_, _++_, map}
+use mathlib.Core.List.{List, [], _∷_, _++_, map, flatMap}
 use lib.ListN.{length}
 use lib.Dec.{ltb, eqb}
-use Rattle.layout.specs.Recording.{Tag, mostTags, within, same, among, distinct, legalTagName, legalTagValue, tagNames, tableBytes}
+use Rattle.layout.specs.Recording.{Tag, mostTags, shortString, within, same, among, distinct, legalTagName, legalTagValue, tagNames, tableBytes}
 use Rattle.layout.specs.Reading.{Reader, bad, _then_, only, give, exactly, times, number, string, isBad, valueOr}
 use Rattle.layout.specs.Opening.{Line, line, firstOf, openingLines, shown}
 use Rattle.layout.specs.Recorder.{noRoom}
@@ -55,6 +55,21 @@ sheet = only (λ cs. distinct (changeNames cs)) (only (within 0 mostChanges) (nu
 
 unfoldable pub changesOf : List ℕ → List Change
 changesOf bytes = valueOr [] (exactly sheet bytes)
+
+-- the bytes of a sheet
+unfoldable pub newBytes : Entry → List ℕ
+newBytes absent = 0 ∷ []
+newBytes (holds v) = 1 ∷ shortString v
+
+unfoldable pub seenBytes : Seen → List ℕ
+seenBytes (saw e) = newBytes e
+seenBytes nobodyLooked = 2 ∷ []
+
+unfoldable pub changeBytes : Change → List ℕ
+changeBytes c = shortString (c .name) ++ seenBytes (c .seen) ++ newBytes (c .new)
+
+unfoldable pub sheetBytes : List Change → List ℕ
+sheetBytes cs = length cs ∷ flatMap changeBytes cs
 
 -- ── To look: all seen entries are compared with the table before the save ──
 

@@ -30,6 +30,10 @@ freshState = record { stage = fresh; sections = 0; frames = 0; first = 0; last =
 unfoldable pub started : (notes : List ℕ) → Session
 started notes = record { state = freshState; notes = notes; pieces = [] }
 
+-- the same from any state whose stage is fresh, whatever its numbers
+abbrev pub startedFrom : State → (notes : List ℕ) → Session
+startedFrom st notes = record { state = st; notes = notes; pieces = [] }
+
 -- "Each accepted call hands out one piece", a refused one none
 unfoldable pub pieceOf : Step → (refused : ℕ) → List Piece
 pieceOf step zero = step .piece ∷ []

@@ -1,9 +1,10 @@
 // The listing program: it reads the first 65,536 bytes at most from standard input, treats them as the file, and prints its frames.
+use items::FrameRead;
 use libc::STDIN_FILENO;
 use libc::STDOUT_FILENO;
 use opening::Held;
 use opening::Opening;
-use reading::FrameRead;
+use refusal::Refusal;
 ghost use mathlib.Core.Path.{_≡_};
 ghost use lib.IntN.{natAbs};
 ghost use mir.Syntax.{w64};
@@ -38,9 +39,9 @@ fn print_time(time: i64) {
     print_number(magnitude(pattern));
 }
 
-fn print_refused(number: u8) {
+fn print_refused(refusal: Refusal) {
     print_text(b"refused ");
-    print_number(number as u64);
+    print_number(refusal.number as u64);
     print_text(b"\n");
 }
 
@@ -61,7 +62,7 @@ fn print_frame(i: usize, place: usize, length: usize, time: i64, exposure: u32) 
 fn print_frames(file: &[u8], held: Held) {
     let mut i = 0;
     while i < held.frames {
-        let read = reading::frame_of(file, held, i as u64);
+        let read = items::frame_of(file, held, i as u64);
         match read {
             FrameRead::Frame {
                 place,
@@ -69,7 +70,7 @@ fn print_frames(file: &[u8], held: Held) {
                 time,
                 exposure,
             } => print_frame(i, place, length, time, exposure),
-            FrameRead::Refused(number) => print_refused(number),
+            FrameRead::Refused(refusal) => print_refused(refusal),
         }
         i += 1;
     }
@@ -78,7 +79,7 @@ fn print_frames(file: &[u8], held: Held) {
 fn list(file: &[u8]) {
     let opening = opening::open(file);
     match opening {
-        Opening::Refused(number) => print_refused(number),
+        Opening::Refused(refusal) => print_refused(refusal),
         Opening::Opened(held) => {
             print_text(b"frames ");
             print_number(held.frames as u64);

@@ -12,7 +12,7 @@ use lib.Dec.{leb, ltb, eqb}
 use lib.Bits.{bitOr, or-comm, or-shr, or-mod}
 use lib.Pow.{pow-pos, shl-exact}
 use borrow.Author.Needs.{needs}
-use borrow.Author.Tests.{leb-true, ltb-true, eqb-true, le-leb, lt-leb, lt-ltb, le-ltb}
+use borrow.Author.Tests.{leb-true, ltb-true, eqb-true, le-leb, lt-leb, lt-ltb, le-ltb, not-true, not-false}
 use mir.Syntax.{w64}
 use mir.Val.{Fits}
 use Rattle.number.specs.Number.{has, numberOf}
@@ -326,4 +326,4 @@ mark-stays ms m k h = go (takes ms m)
     go true = by-bits (set ms (place m) (withBits (getD ms (place m) 0) m)) k (λ t. words-keep ms (place m) (place k) m k (bits-there ms k h (sym same-takes ∙ t)))
     go false = h
 
-pub ruleset laws = (needs, mixed, below, times-fits, sum-fits, word-small, word-is, words-more, words-done, words-there, words-left, bytes-more, bytes-done, byte-small, of-short, of-far, of-few, of-many, last-there, last-fits, words-all-there, length-small, one-bit, bit-is, bits-are, no-first, no-second, by-third, set-short, set-far, set-done, word-there, told-short, told-far, told)
+pub ruleset laws = (needs, not-true, not-false, mixed, below, times-fits, sum-fits, word-small, word-is, words-more, words-done, words-there, words-left, bytes-more, bytes-done, byte-small, of-short, of-far, of-few, of-many, last-there, last-fits, words-all-there, length-small, one-bit, bit-is, bits-are, no-first, no-second, by-third, set-short, set-far, set-done, word-there, told-short, told-far, told)

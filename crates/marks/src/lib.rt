@@ -108,10 +108,10 @@ fn with_bits(word: u64, m: usize) -> u64
 fn has_bits(word: u64, m: usize) -> bool
     ensures { λ r. ⌜ r ≡ hasBits word m ⌝ }
 {
-    if has_bit(word, m / 0x200_0000 % 64) {} else {
+    if !has_bit(word, m / 0x200_0000 % 64) {
         return false;
     }
-    if has_bit(word, m / 0x8_0000 % 64) {} else {
+    if !has_bit(word, m / 0x8_0000 % 64) {
         return false;
     }
     has_bit(word, m / 0x2000 % 64)

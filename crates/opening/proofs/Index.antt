@@ -4,53 +4,33 @@ use Prim.Native.Nat.{ℕ, zero, suc, _+_, _*_, _-_, _^_, _<_, _≤_}
 use native.Mathlib.Omega.{arith}
 use mathlib.Core.Path.{_≡_, refl, ap, sym, _∙_}
 use mathlib.Core.Bool.{Bool, true, false, not, _&&_, _||_}
-use mathlib.Core.List.{List, [], _∷_, _++_}
+use mathlib.Core.List.{List, _∷_, _++_}
 use lib.ListN.{length, take, drop, getD, length-append, length-drop}
 use lib.Seq.{drop-drop, take-add, take-all, length-take-le}
-use lib.Dec.{leb, ltb, eqb, leb·suc-suc}
+use lib.Dec.{ltb, eqb, leb·suc-suc}
 use lib.Pow.{areBytes}
 use borrow.Author.Needs.{needs}
-use borrow.Author.Tests.{le-leb, lt-leb, leb-true, ltb-false, lt-ltb, le-ltb, eq-eqb, ne-eqb, eqb-true}
+use borrow.Author.Tests.{ltb-false, lt-ltb, le-ltb, eq-eqb, ne-eqb, eqb-true}
 use mir.Syntax.{w8, w64}
 use mir.Val.{Fits}
-use Rattle.number.specs.Number.{bytesOf, readAt, rank}
+use Rattle.number.specs.Number.{bytesOf, readAt}
 use Rattle.number.proofs.Bytes.{length-bytesOf, slice-bytes, both-true}
 use Rattle.number.proofs.Laws.{read-is}
-use Rattle.layout.specs.Recording.{Frame, frameBytes, entryBytes, entriesBytes, indexBytes, firstTime, follows, follow, inOrder, same, longestSpan}
-use Rattle.layout.specs.Reading.{Parsed, bad, good, frame, Walk, stopped, longer, walk}
+use Rattle.layout.specs.Recording.{Frame, frameBytes, entryBytes, entriesBytes, indexBytes, firstTime, follows, follow, inOrder, same}
+use Rattle.layout.specs.Reading.{good, frame, Walk, stopped, longer, walk}
 use Rattle.layout.proofs.Lists.{bytes-drop, bytes-take, same-true}
 use Rattle.opening.proofs.Same.{same-append, same-number}
-use Rattle.opening.proofs.Frames.{frame-parts, ended, not-ended, end-behind, time-fits, end-near}
-use Rattle.opening.specs.Opened.{frameEnd, sinceFirst, otherEntry, otherWalk, otherFrames, badIndexIn, badIndexBy}
+use Rattle.frames.proofs.Laws.{ended, not-ended, end-behind, time-fits, end-near}
+use Rattle.frames.specs.Frames.{frameEnd, sinceFirst}
+use Rattle.opening.specs.Opened.{otherEntry, otherWalk, otherFrames, badIndexIn, badIndexBy}
 use Rattle.header.specs.declared.Header.{Header}
-use Rattle.text.specs.declared.Place.{Place}
-use Rattle.text.specs.declared.Place.the-variants.{End, Broken}
-use Rattle.layout.proofs.Walks.{walk-none, walk-stop, walk-step, walk-gives}
+use Rattle.parts.specs.declared.Place.{Place}
+use Rattle.parts.specs.declared.Place.the-variants.{End, Broken}
+use Rattle.layout.proofs.Walks.{walk-none, walk-stop, walk-gives}
 use Rattle.layout.proofs.Exact.{frame-exact}
 use Rattle.layout.proofs.Sizes.{length-entry}
-use Rattle.layout.proofs.Encoded.{length-entries}
-
--- ── Times ──
-
-pub since-before : (first time a b : ℕ) → a ≡ rank first → b ≡ rank time → b < a → 0 ≡ sinceFirst first time
-unfolding sinceFirst
-since-before first time a b p q h = omega arith
-
-pub since-after : (first time a b : ℕ) → a ≡ rank first → b ≡ rank time → a ≤ b → b - a ≡ sinceFirst first time
-unfolding sinceFirst
-since-after first time a b p q h = omega arith
-
-pub follows-early : (first last time a b : ℕ) → a ≡ rank time → b ≡ rank last → a < b → false ≡ follows first last time
-unfolding follows
-follows-early first last time a b p q h = rw (lt-leb (rank last) (rank time) (omega arith))
-
-pub follows-late : (first last time a b d : ℕ) → a ≡ rank time → b ≡ rank last → b ≤ a → d ≡ sinceFirst first time → 4294967295 < d → false ≡ follows first last time
-unfolding follows sinceFirst
-follows-late first last time a b d p q h e l = rw (le-leb (rank last) (rank time) (omega arith), lt-leb (rank time - rank first) longestSpan (omega arith))
-
-pub follows-right : (first last time a b d : ℕ) → a ≡ rank time → b ≡ rank last → b ≤ a → d ≡ sinceFirst first time → d ≤ 4294967295 → true ≡ follows first last time
-unfolding follows sinceFirst
-follows-right first last time a b d p q h e l = rw (le-leb (rank last) (rank time) (omega arith), le-leb (rank time - rank first) longestSpan (omega arith))
+use Rattle.frames.proofs.Walks.{walk-cons, length-index, walk-first, by-first}
+use Rattle.frames.proofs.Times.{since-fits}
 
 -- ── An entry ──
 
@@ -141,13 +121,6 @@ pub frames-fewer : (f : List ℕ) (k index first left at entry last : ℕ) (r : 
 unfolding otherFrames otherWalk stopped
 frames-fewer f k index first left at entry last r all h p u q = rw (walk-stop left k (drop at f) (not-ended f at k (sym p ∙ u)), lt-ltb 0 left h) at q
 
--- one more frame, and the walk behind it
-pub walk-cons : (f : List ℕ) (k left at : ℕ) (x : Frame) (n : ℕ) → 0 < left → frame k (drop at f) ≡ good x n → walk left k (drop at f) ≡ longer x n (walk (left - 1) k (drop (at + n) f))
-walk-cons f k zero at x n h e = absurd (omega arith)
-walk-cons f k (suc left) at x n h e =
-    let p : suc left - 1 ≡ left = omega arith in
-    rw (p, ← drop-drop n at f) (walk-step left k (drop at f) x n e)
-
 -- what is asked of a frame from `at` to `next`, and of the walk behind it
 abbrev asked : Walk → List ℕ → (index first left at entry last next time size : ℕ) → Bool
 asked w f index first left at entry last next time size =
@@ -207,13 +180,6 @@ frames-step f k index first left at entry last next t d r s o all b h l p q a u 
     let c = frames-cons f k index first left at entry last next t (slice-bytes f b) h l (sym p ∙ q) a in
     sym (asked-right (walk (left - 1) k (drop next f)) f index first (left - 1) at entry last next t (next - at) (sym u ∙ v) (sym (rw w at x) ∙ y)) ∙ sym c ∙ i
 
--- the time that follows is at most 4,294,967,295 after the first
-pub since-fits : (first last t d : ℕ) (s : Bool) → s ≡ follows first last t → s ≡ true → d ≡ sinceFirst first t → d < 2 ^ 32
-unfolding follows sinceFirst
-since-fits first last t d s p q e =
-    let h = leb-true (rank t - rank first) longestSpan (both-true (leb (rank last) (rank t)) (leb (rank t - rank first) longestSpan) (sym p ∙ q) .1) in
-    omega arith
-
 -- ── The index as a whole ──
 
 second-holds : (a c d e : Bool) → (a || true || c || d || e) ≡ true
@@ -226,10 +192,6 @@ fifth-holds false true c d = refl
 fifth-holds false false true d = refl
 fifth-holds false false false true = refl
 fifth-holds false false false false = refl
-
-pub length-index : (at : ℕ) (fs : List Frame) → length (indexBytes at fs) ≡ 4 + 16 * length fs
-unfolding indexBytes
-length-index at fs = omega (arith, length-append (bytesOf 4 (length fs)) (entriesBytes (firstTime fs) at fs), length-bytesOf 4 (length fs), length-entries (firstTime fs) at fs)
 
 -- an index that can not be there
 index-bad : (w : Walk) (f : List ℕ) (h : Header) (start : ℕ) → length (w .frames) ≤ h .count → (length (w .frames) ≡ h .count → same (take (h .user - h .index) (drop (h .index) f)) (indexBytes start (w .frames)) ≡ true → ⊥) → true ≡ badIndexIn w f h start
@@ -290,38 +252,6 @@ index-count f h k start n b l m e p u = index-bad w f h start (walk-few f k star
         let t = both-true (eqb (readAt f (h .index) 4) (length (w .frames))) (same (take (16 * h .count) (drop (h .index + 4) f)) (entriesBytes (firstTime (w .frames)) start (w .frames))) (sym s ∙ q) in
         u (p ∙ eqb-true (readAt f (h .index) 4) (length (w .frames)) (t .0) ∙ c)
 
--- the first frame's time stands behind its mark
-pub walk-first : (f : List ℕ) (k start most : ℕ) (x : Frame) (xs : List Frame) → walk most k (drop start f) .frames ≡ x ∷ xs → x .time ≡ readAt f (start + 4) 8
-unfolding stopped longer
-walk-first f k start zero x xs e =
-    let q : [] ≡ x ∷ xs = rw (walk-none k (drop start f)) at e in
-    let z : _≡_ {A = ℕ} 0 1 = cc in
-    absurd (omega arith)
-walk-first f k start (suc most) x xs e = go (frame k (drop start f)) refl
-  where
-    go : (p : Parsed Frame) → frame k (drop start f) ≡ p → x .time ≡ readAt f (start + 4) 8
-    go bad g =
-        let q : [] ≡ x ∷ xs = rw (walk-stop (suc most) k (drop start f) g) at e in
-        let z : _≡_ {A = ℕ} 0 1 = cc in
-        absurd (omega arith)
-    go (good y n) g =
-        let q : y ∷ walk most k (drop n (drop start f)) .frames ≡ x ∷ xs = rw (walk-step most k (drop start f) y n g) at e in
-        let i : y ≡ x = cc in
-        let p = frame-parts k (drop start f) y n g in
-        ap (λ (v : Frame). v .time) (sym i) ∙ p .time ∙ rw (drop-drop 4 start f) (sym (read-is f (start + 4) 8 (omega arith) (omega (arith, length-drop start f, p .long))))
-
--- the rule of a recording's times is that of frames behind its first
-follows-itself : (t : ℕ) → follows t t t ≡ true
-unfolding follows
-follows-itself t = rw (le-leb (rank t) (rank t) (omega arith), le-leb (rank t - rank t) longestSpan (omega arith))
-
-pub by-first : (fs : List Frame) (first start : ℕ) → ((x : Frame) (xs : List Frame) → fs ≡ x ∷ xs → x .time ≡ first) → (inOrder fs ≡ follow first first fs) × (entriesBytes (firstTime fs) start fs ≡ entriesBytes first start fs)
-unfolding inOrder follow firstTime entriesBytes
-by-first [] first start h = (refl, refl)
-by-first (x ∷ xs) first start h =
-    let e : x .time ≡ first = h x xs refl in
-    (rw (e, follows-itself), rw e)
-
 walk-index : (w : Walk) (f : List ℕ) (h : Header) (start first : ℕ) → length (w .frames) ≤ h .count → ((x : Frame) (xs : List Frame) → w .frames ≡ x ∷ xs → x .time ≡ first) → areBytes f ≡ true → h .user ≤ length f → h .count ≤ 1000000 → h .user - h .index ≡ 4 + 16 * h .count → readAt f (h .index) 4 ≡ h .count → otherWalk w f (h .index) first (h .count) start (h .index + 4) first ≡ badIndexIn w f h start
 unfolding badIndexIn otherWalk
 walk-index w f h start first few firsts b l m e p = go (ltb (length (w .frames)) (h .count)) refl
@@ -340,8 +270,7 @@ index-frames f h k start n first r b l m e p q g i =
     i
     ∙ walk-index (walk (h .count) k (drop start f)) f h start first (walk-few f k start (h .count) (slice-bytes f b)) (λ x xs v. walk-first f k start (h .count) x xs v ∙ sym g) (slice-bytes f b) l m e (sym p ∙ q)
 
--- the times and an entry; the loop over frames and entries; the index as a whole
-pub ruleset entry-laws = (needs, since-before, since-after, follows-early, follows-late, follows-right, other-since, other-offset, other-size, this-entry)
+pub ruleset entry-laws = (needs, other-since, other-offset, other-size, this-entry)
 
 pub ruleset frames-laws = (needs, end-behind, time-fits, end-near, frames-done, frames-elsewhere, frames-fewer, frames-late, frames-other, frames-step, since-fits)
 

@@ -1,8 +1,3 @@
-pub mod Readers
-pub mod Frames
-pub mod Definitions
-pub mod Line3
-pub mod Fronts
 pub mod Same
 pub mod Index
 pub mod Lines

@@ -4,99 +4,51 @@ use Prim.Native.Nat.{ℕ, zero, suc, _+_, _-_, _≤_}
 use native.Mathlib.Omega.{arith}
 use mathlib.Core.Path.{_≡_, refl, ap, sym, _∙_}
 use mathlib.Core.Bool.{Bool, true, false, not, _||_}
-use mathlib.Core.List.{List, [], _∷_, _++_, append-nil, flatMap}
-use lib.ListN.{length, take, drop, getD, length-drop, length-append}
-use lib.Dec.{leb, ltb, eqb}
+use mathlib.Core.List.{List, [], _∷_, _++_}
+use lib.ListN.{length, take, drop, getD, length-drop}
+use lib.Dec.{ltb, eqb}
 use lib.Pow.{areBytes}
 use borrow.Author.Needs.{needs}
-use borrow.Author.Tests.{ltb-false, leb-true, eq-eqb, ne-eqb}
+use borrow.Author.Tests.{ltb-false, eq-eqb, ne-eqb}
 use mir.Syntax.{w8}
 use mir.Val.{Fits}
-use Rattle.number.specs.Number.{bytesOf, numberOf}
-use Rattle.number.proofs.Bytes.{length-bytesOf, slice-bytes, both-true}
-use Rattle.layout.specs.Recording.{Tag, tagBytes, tableBytes, mostSections, largestUserOffset, within, distinct, inOrder, same, indexBytes}
-use Rattle.layout.specs.Reading.{Parsed, bad, good, isBad, valueOr, taken, exactly, onward, _then_, only, number, times, table, Definition, definition, definedNames, definitions}
-use Rattle.layout.specs.Opening.{Line, line, firstOf, headerCount, indexOffset, systemOffset, userOffset, readDefinitions, definedIn, readSystem, readUser, walkStart, walkOf, counted, offsetsLegal, lastOffset, notFstf, badSections, badSystem, notClosed, badIndex, badUser, frontLines, openingLines, refusal, sectionsFrom, shown}
-use Rattle.layout.proofs.Lists.{or-false, bytes-drop}
-use Rattle.layout.proofs.Lines.{line-pass, line-holds, FrontPasses, front-pass, front-clear, passes-opens, lines-first}
-use Rattle.layout.proofs.Exact.{table-exact}
+use Rattle.number.proofs.Bytes.{slice-bytes}
+use Rattle.layout.specs.Recording.{Tag, largestUserOffset, inOrder, same, indexBytes}
+use Rattle.layout.specs.Reading.{bad, good, valueOr, exactly, onward, table, Definition}
+use Rattle.layout.specs.Opening.{Line, line, firstOf, headerCount, indexOffset, systemOffset, userOffset, definedIn, readUser, walkStart, walkOf, counted, notFstf, notClosed, badIndex, badUser, frontLines, openingLines, refusal, sectionsFrom, shown}
+use Rattle.layout.proofs.Lists.{bytes-drop}
+use Rattle.layout.proofs.Lines.{line-pass, line-holds, FrontPasses, front-pass, passes-opens, lines-first}
 use Rattle.layout.proofs.Walks.{walk-gives}
-use Rattle.text.specs.Table.{tablePlaceOf}
-use Rattle.text.specs.declared.TablePlace.{TablePlace}
-use Rattle.text.specs.declared.TablePlace.the-variants as tableAs
-use Rattle.text.proofs.Readers.{only-parts}
-use Rattle.text.proofs.Times.{times-length}
-use Rattle.opening.proofs.Readers.{tested-then}
-use Rattle.opening.proofs.Fronts.{header-is, table-found, table-none}
-use Rattle.opening.specs.Opened.{notClosedBy, badIndexIn, badIndexBy, frontHeld, frontBy, frontOf, frontRefusal, heldOf, openBy, openOf}
+use Rattle.tables.specs.Tables.{tablePlaceOf}
+use Rattle.tables.specs.declared.TablePlace.{TablePlace}
+use Rattle.tables.specs.declared.TablePlace.the-variants as tableAs
+use Rattle.front.proofs.Fronts.{header-is, table-found, table-none}
+use Rattle.refusal.specs.Refusal.{plain}
+use Rattle.refusal.specs.declared.Refusal.{Refusal}
+use Rattle.opening.specs.Opened.{notClosedBy, badIndexIn, badIndexBy, heldOf, openBy, openOf, openRefusal}
+use Rattle.front.specs.Front.{frontHeld, frontOf, frontRefusal}
 use Rattle.header.specs.Header.{headerOf}
 use Rattle.header.specs.declared.Header.{Header}
-use Rattle.opening.specs.declared.FrontHeld.{FrontHeld}
-use Rattle.opening.specs.declared.Front.{Front}
-use Rattle.opening.specs.declared.Front.the-variants as frontAs
+use Rattle.front.specs.declared.FrontHeld.{FrontHeld}
+use Rattle.front.specs.declared.Front.{Front}
+use Rattle.front.specs.declared.Front.the-variants as frontAs
 use Rattle.opening.specs.declared.Held.{Held}
+use Rattle.opening.specs.declared.Opening.{Opening}
 use Rattle.opening.specs.declared.Opening.the-variants as openingAs
+use Rattle.front.proofs.Passed.{front-passes, front-refuses, start-within, few-sections}
 
 -- ── What the front's answer says ──
 
-pub front-passes : (f : List ℕ) (held : FrontHeld) → frontOf f ≡ frontAs.Whole held → FrontPasses f × (held ≡ frontHeld f)
-unfolding frontOf frontBy
-front-passes f held e = go (firstOf (frontLines f)) refl e
-  where
-    go : (n : ℕ) → firstOf (frontLines f) ≡ n → frontBy n (frontHeld f) ≡ frontAs.Whole held → FrontPasses f × (held ≡ frontHeld f)
-    go zero q g = (front-clear f [] (ap firstOf (append-nil (frontLines f)) ∙ q) .0, cc)
-    go (suc n) q g = let z : _≡_ {A = ℕ} 0 1 = cc in absurd (omega arith)
-
-pub front-refuses : (f : List ℕ) (n : ℕ) → frontOf f ≡ frontAs.Refused n → (m : ℕ) × (n ≡ suc m) × (firstOf (frontLines f) ≡ suc m)
-unfolding frontOf frontBy
-front-refuses f n e = go (firstOf (frontLines f)) refl e
-  where
-    go : (j : ℕ) → firstOf (frontLines f) ≡ j → frontBy j (frontHeld f) ≡ frontAs.Refused n → (m : ℕ) × (n ≡ suc m) × (firstOf (frontLines f) ≡ suc m)
-    go zero q g = let z : _≡_ {A = ℕ} 0 1 = cc in absurd (omega arith)
-    go (suc j) q g = (j, cc, q)
-
-open-number : (f : List ℕ) (n : ℕ) → refusal f ≡ suc n → openingAs.Refused (suc n) ≡ openOf f
+open-number : (f : List ℕ) (n : ℕ) → refusal f ≡ suc n → openingAs.Refused (plain (suc n)) ≡ openOf f
 unfolding openOf openBy
 open-number f n e = rw e
 
-pub open-front-refused : (f : List ℕ) (r : Front) (n m : ℕ) → r ≡ frontOf f → r ≡ frontAs.Refused n → m ≡ frontRefusal r → openingAs.Refused m ≡ openOf f
+pub open-front-refused : (f : List ℕ) (r : Front) (n m : Refusal) → r ≡ frontOf f → r ≡ frontAs.Refused n → m ≡ frontRefusal r → openingAs.Refused m ≡ openOf f
 unfolding refusal openingLines
 open-front-refused f r n m p q s = go (front-refuses f n (sym p ∙ q)) (s ∙ ap frontRefusal q)
   where
-    go : ((j : ℕ) × (n ≡ suc j) × (firstOf (frontLines f) ≡ suc j)) → m ≡ n → openingAs.Refused m ≡ openOf f
+    go : ((j : ℕ) × (n ≡ plain (suc j)) × (firstOf (frontLines f) ≡ suc j)) → m ≡ n → openingAs.Refused m ≡ openOf f
     go (j, k, e) l = rw (l, k) (open-number f j (lines-first (frontLines f) _ j e))
-
--- ── What a passed line gives ──
-
--- a table that was found ends within the file
-pub table-ends : (f : List ℕ) (at : ℕ) (ts : List Tag) (m : ℕ) → areBytes f ≡ true → table (drop at f) ≡ good ts m → at + m ≤ length f
-unfolding tableBytes
-table-ends f at ts m b e =
-    let (l, k, s) = table-exact .gives (drop at f) ts m (bytes-drop at f b) e in
-    omega (arith, ap length s, length-append (tableBytes ts) (drop m (drop at f)), length-drop at f, length-append (bytesOf 4 (length ts)) (flatMap tagBytes ts), length-bytesOf 4 (length ts))
-
-read-of : {A : Type 0} (p : Parsed A) → isBad p ≡ false → (x : A) × (n : ℕ) × (p ≡ good x n)
-read-of bad e = let z : _≡_ {A = ℕ} 0 1 = cc in absurd (omega arith)
-read-of (good x n) e = (x, n, refl)
-
-pub start-within : (f : List ℕ) → areBytes f ≡ true → badSystem f ≡ false → walkStart f ≤ length f
-unfolding badSystem walkStart taken readSystem
-start-within f b e = go (read-of (readSystem f) (or-false (ltb (systemOffset f) (lastOffset 0 (definedIn f)) || ltb (lastOffset 0 (definedIn f) + 65535) (systemOffset f)) (isBad (readSystem f)) e .1))
-  where
-    go : ((ts : List Tag) × (m : ℕ) × (readSystem f ≡ good ts m)) → walkStart f ≤ length f
-    go (ts, m, q) = rw q (table-ends f (systemOffset f) ts m b q)
-
-few-sections : (f : List ℕ) → badSections f ≡ false → length (definedIn f) ≤ 8
-unfolding badSections definedIn valueOr readDefinitions definitions
-few-sections f e = go (read-of (readDefinitions f) (or-false (isBad (readDefinitions f)) (not (offsetsLegal (33 + taken (readDefinitions f)) (definedIn f))) e .0))
-  where
-    few : (ds : List Definition) (m : ℕ) → ((1 ≤ length (drop 33 f)) × (within 1 mostSections (numberOf (take 1 (drop 33 f))) ≡ true) × (n : ℕ) × (times (numberOf (take 1 (drop 33 f))) definition (drop 1 (drop 33 f)) ≡ good ds n) × (m ≡ 1 + n)) → length ds ≤ 8
-    few ds m (l, t, n, g, h) =
-        let k = numberOf (take 1 (drop 33 f)) in
-        omega (arith, times-length definition (numberOf (take 1 (drop 33 f))) (drop 1 (drop 33 f)) ds n g, leb-true (numberOf (take 1 (drop 33 f))) 8 (both-true (leb 1 (numberOf (take 1 (drop 33 f)))) (leb (numberOf (take 1 (drop 33 f))) 8) t .1))
-
-    go : ((ds : List Definition) × (m : ℕ) × (readDefinitions f ≡ good ds m)) → length (definedIn f) ≤ 8
-    go (ds, m, q) = rw q (few ds m (tested-then (within 1 mostSections) 1 (λ k. times k definition) (drop 33 f) ds m (only-parts (λ ds. distinct (definedNames ds)) (only (within 1 mostSections) (number 1) then λ k. times k definition) (drop 33 f) ds m q .0)))
 
 -- ── The tests behind the front ──
 
@@ -165,7 +117,7 @@ module _ (f : List ℕ) (r : Front) (held : FrontHeld) (h : Header) (p : r ≡ f
   unfolding frontHeld
   held-start b = rw held-is (start-within f (slice-bytes f b) (passes .system))
 
-  pub open-not-closed : (b : Bool) → b ≡ notClosedBy f h → b ≡ true → openingAs.Refused 5 ≡ openOf f
+  pub open-not-closed : (b : Bool) → b ≡ notClosedBy f h → b ≡ true → openingAs.Refused (plain 5) ≡ openOf f
   unfolding refusal openingLines
   open-not-closed b t u = open-number f 4 (front-pass f _ passes ∙ line-holds 5 (notClosed f) _ (sym (closed-is f (passes .mark)) ∙ sym (ap (notClosedBy f) s) ∙ sym t ∙ u))
 
@@ -188,7 +140,7 @@ module _ (f : List ℕ) (r : Front) (held : FrontHeld) (h : Header) (p : r ≡ f
     unfolding frontHeld
     index-of = rw (held-is, s) (index-is f (passes .mark))
 
-    pub open-bad-index : (c : Bool) → c ≡ badIndexBy f h (held .sections) (held .start) → c ≡ true → openingAs.Refused 6 ≡ openOf f
+    pub open-bad-index : (c : Bool) → c ≡ badIndexBy f h (held .sections) (held .start) → c ≡ true → openingAs.Refused (plain 6) ≡ openOf f
     unfolding refusal openingLines
     open-bad-index c v w = open-number f 5 (behind _ ∙ line-holds 6 (badIndex f) _ (sym index-of ∙ sym v ∙ w))
 
@@ -196,20 +148,20 @@ module _ (f : List ℕ) (r : Front) (held : FrontHeld) (h : Header) (p : r ≡ f
       index-right : badIndex f ≡ false
       index-right = sym index-of ∙ sym v ∙ w
 
-      refused-7 : badUser f ≡ true → openingAs.Refused 7 ≡ openOf f
+      refused-7 : badUser f ≡ true → openingAs.Refused (plain 7) ≡ openOf f
       unfolding refusal openingLines
       refused-7 e = open-number f 6 (behind _ ∙ line-pass 6 (badIndex f) _ index-right ∙ line-holds 7 (badUser f) _ e)
 
       table-of : (t : TablePlace) → t ≡ tablePlaceOf (h .user) (table (drop (h .user) f)) → t ≡ tablePlaceOf (userOffset f) (table (drop (userOffset f) f))
       table-of t e = e ∙ ap (λ (at : ℕ). tablePlaceOf at (table (drop at f))) (ap (λ (x : Header). x .user) header)
 
-      pub open-bad-user : (t : TablePlace) → t ≡ tablePlaceOf (h .user) (table (drop (h .user) f)) → t ≡ tableAs.Broken → openingAs.Refused 7 ≡ openOf f
+      pub open-bad-user : (t : TablePlace) → t ≡ tablePlaceOf (h .user) (table (drop (h .user) f)) → t ≡ tableAs.Broken → openingAs.Refused (plain 7) ≡ openOf f
       open-bad-user t e g = refused-7 (user-none f (table-none f (userOffset f) (sym (table-of t e) ∙ g)))
 
-      pub open-long-user : (t : TablePlace) (tags end : ℕ) → t ≡ tablePlaceOf (h .user) (table (drop (h .user) f)) → t ≡ tableAs.Whole tags end → (end ≡ length f → ⊥) → openingAs.Refused 7 ≡ openOf f
+      pub open-long-user : (t : TablePlace) (tags end : ℕ) → t ≡ tablePlaceOf (h .user) (table (drop (h .user) f)) → t ≡ tableAs.Whole tags end → (end ≡ length f → ⊥) → openingAs.Refused (plain 7) ≡ openOf f
       open-long-user t tags end e g x = go (table-found f (userOffset f) tags end (sym (table-of t e) ∙ g))
         where
-          go : ((ts : List Tag) × (m : ℕ) × (table (drop (userOffset f) f) ≡ good ts m) × (length ts ≡ tags) × (userOffset f + m ≡ end)) → openingAs.Refused 7 ≡ openOf f
+          go : ((ts : List Tag) × (m : ℕ) × (table (drop (userOffset f) f) ≡ good ts m) × (length ts ≡ tags) × (userOffset f + m ≡ end)) → openingAs.Refused (plain 7) ≡ openOf f
           go (ts, m, a, i, j) = refused-7 (user-long f ts m user-there a (λ k. x (sym j ∙ k)))
 
       pub opened : (t : TablePlace) (tags end : ℕ) → ((i : ℕ) → Fits w8 (getD f i 0)) → t ≡ tablePlaceOf (h .user) (table (drop (h .user) f)) → t ≡ tableAs.Whole tags end → end ≡ length f → openingAs.Opened (record { frames = h .count; sections = held .sections; «system_tags» = held .«system_tags»; «user_tags» = tags; system = held .system; start = held .start; index = h .index; user = h .user }) ≡ openOf f
@@ -232,12 +184,15 @@ open-opens f held e = go (refusal f) e
     go zero g = (refl, cc)
     go (suc n) g = let z : _≡_ {A = ℕ} 0 1 = cc in absurd (omega arith)
 
-pub open-refuses : (f : List ℕ) (n : ℕ) → openOf f ≡ openingAs.Refused n → (m : ℕ) × (n ≡ suc m) × (refusal f ≡ suc m)
+pub open-refuses : (f : List ℕ) (n : Refusal) → openOf f ≡ openingAs.Refused n → (m : ℕ) × (n ≡ plain (suc m)) × (refusal f ≡ suc m)
 unfolding openOf openBy
 open-refuses f n e = go (refusal f) refl e
   where
-    go : (j : ℕ) → refusal f ≡ j → openBy j (heldOf f) ≡ openingAs.Refused n → (m : ℕ) × (n ≡ suc m) × (refusal f ≡ suc m)
+    go : (j : ℕ) → refusal f ≡ j → openBy j (heldOf f) ≡ openingAs.Refused n → (m : ℕ) × (n ≡ plain (suc m)) × (refusal f ≡ suc m)
     go zero q g = let z : _≡_ {A = ℕ} 0 1 = cc in absurd (omega arith)
     go (suc j) q g = (j, cc, q)
 
-pub ruleset laws = (needs, open-front-refused, held-few, held-start, open-not-closed, user-within, open-bad-index, open-bad-user, open-long-user, opened)
+pub opened-refusal : (r : Opening) (h : Held) → r ≡ openingAs.Opened h → plain 0 ≡ openRefusal r
+opened-refusal r h e = rw e
+
+pub ruleset laws = (needs, open-front-refused, held-few, held-start, open-not-closed, user-within, open-bad-index, open-bad-user, open-long-user, opened, opened-refusal)

@@ -10,39 +10,37 @@ use mathlib.Core.List.{List, [], _∷_, _++_}
 use lib.ListN.{length, take, drop}
 use borrow.Author.Needs.{needs}
 use borrow.Author.Tests.{lt-ltb, le-ltb}
-use mir.Syntax.{w32, w64}
-use mir.Val.{Fits, toZ, ofZ}
-use mir.Facts.{ofZ-toZ}
-use lib.IntN.{ℤ}
-use Rattle.number.proofs.Bytes.{slice-bytes}
+use mir.Syntax.{w64}
+use mir.Val.{Fits, toZ}
 use Rattle.layout.specs.Recording.{Frame, frameBytes}
 use Rattle.layout.specs.Opening.{line, firstOf, openingLines, refusal, shown}
 use Rattle.layout.specs.Items.{noSuchItem, noSuchFrame, itemStart, itemBytes, partOf, itemRefusal, itemPart, frameRefusal, frameShown, frameAnswer, frameStart, frameOf}
 use Rattle.layout.specs.Items as items
-use Rattle.layout.proofs.Lists.{le-or-lt, bytes-drop}
+use Rattle.layout.proofs.Lists.{le-or-lt}
 use Rattle.layout.proofs.Lines.{line-pass, line-holds, lines-first, opening-pass, opens-passes}
 use Rattle.layout.proofs.Places.{item-stands}
-use Rattle.layout.proofs.Exact.{frame-exact, frame-legal}
-use Rattle.text.specs.declared.Place.{Place}
-use Rattle.text.specs.declared.Place.the-variants.{End, Broken}
-use Rattle.opening.specs.Opened.{heldOf, openOf, openRefusal, frameAt, wholeFrame}
+use Rattle.parts.specs.declared.Place.the-variants.{End}
+use Rattle.opening.specs.Opened.{heldOf, openOf, openRefusal}
+use Rattle.frames.specs.Frames.{frameAt, wholeFrame}
 use Rattle.opening.specs.declared.Held.{Held}
 use Rattle.opening.specs.declared.Opening.{Opening}
 use Rattle.opening.specs.declared.Opening.the-variants as openingAs
-use Rattle.opening.specs.declared.FrameAt.{FrameAt}
-use Rattle.opening.specs.declared.FrameAt.the-variants.{Whole, None}
 use Rattle.opening.proofs.Lines.{open-opens, open-refuses}
-use Rattle.opening.proofs.Frames.{found, found-behind}
-use Rattle.reading.specs.Read.{itemOf, foundIn, foundBy, findOf, numberOf, frameBy, frameReadOf, framePlace, frameFrom, frameBehind, heldFrame, heldFound}
+use Rattle.refusal.specs.Refusal.{plain}
+use Rattle.refusal.specs.declared.Refusal.{Refusal}
+use Rattle.reading.specs.Read.{itemOf, foundIn, foundBy, findOf, refusalOf, frameBy, frameReadOf}
+use Rattle.items.specs.Items.{framePlace, frameFrom, heldFrame, heldFound}
 use Rattle.reading.specs.Read as read
-use Rattle.reading.specs.declared.Item.{Item}
-use Rattle.reading.specs.declared.Found.{Found}
-use Rattle.reading.specs.declared.Found.the-variants.{At, Refused}
-use Rattle.reading.specs.declared.FrameRead.{FrameRead}
-use Rattle.reading.specs.declared.FrameRead.the-variants as frameAs
-use Rattle.reading.proofs.Opened.{Bytes, legal, here, frame-here}
-use Rattle.reading.proofs.Laws.{place-past}
+use Rattle.items.specs.declared.Item.{Item}
+use Rattle.items.specs.declared.Found.{Found}
+use Rattle.items.specs.declared.Found.the-variants.{At, Refused}
+use Rattle.items.specs.declared.FrameRead.{FrameRead}
+use Rattle.items.specs.declared.FrameRead.the-variants as frameAs
+use Rattle.items.proofs.Bytes.{Bytes}
+use Rattle.reading.proofs.Opened.{legal, here, frame-here}
+use Rattle.items.proofs.Laws.{place-past}
 use Rattle.reading.proofs.Held.{held-frames, held-sections, held-index, shown-place, shown-item}
+use Rattle.items.proofs.Frames.{frame-nowhere, frame-there}
 
 -- ── What opening's answer says ──
 
@@ -52,7 +50,7 @@ opens f r h e g = open-opens f h (sym e ∙ g) .0
 holds : (f : List ℕ) (r : Opening) (h : Held) → r ≡ openOf f → r ≡ openingAs.Opened h → h ≡ heldOf f
 holds f r h e g = open-opens f h (sym e ∙ g) .1
 
-refused-with : (f : List ℕ) (r : Opening) (q n : ℕ) → r ≡ openOf f → r ≡ openingAs.Refused q → n ≡ openRefusal r → (k : ℕ) × (refusal f ≡ suc k) × (n ≡ suc k)
+refused-with : (f : List ℕ) (r : Opening) (q n : Refusal) → r ≡ openOf f → r ≡ openingAs.Refused q → n ≡ openRefusal r → (k : ℕ) × (refusal f ≡ suc k) × (n ≡ plain (suc k))
 refused-with f r q n e g h =
     let (k, p, m) = open-refuses f q (sym e ∙ g) in
     (k, m, h ∙ ap openRefusal g ∙ p)
@@ -71,11 +69,11 @@ eight-passed f b o e = opening-pass f (line 8 b ∷ []) (opens-passes f o) ∙ l
 
 -- ── Finding an item ──
 
-pub find-refused : (f : List ℕ) (r : Opening) (q n : ℕ) (it : Item) → r ≡ openOf f → r ≡ openingAs.Refused q → n ≡ openRefusal r → Refused n ≡ findOf f it
+pub find-refused : (f : List ℕ) (r : Opening) (q n : Refusal) (it : Item) → r ≡ openOf f → r ≡ openingAs.Refused q → n ≡ openRefusal r → Refused n ≡ findOf f it
 unfolding findOf foundBy itemRefusal
 find-refused f r q n it e g h =
     let (k, p, m) = refused-with f r q n e g h in
-    let u : findOf f it ≡ Refused (suc k) = rw (eight-refused f (noSuchItem (shown f) (itemOf it)) k p) in
+    let u : findOf f it ≡ Refused (plain (suc k)) = rw (eight-refused f (noSuchItem (shown f) (itemOf it)) k p) in
     ap Refused m ∙ sym u
 
 -- an item of a file that opens
@@ -91,18 +89,26 @@ pub find-opened : (f : List ℕ) (r : Opening) (h : Held) (it : Item) (x : Found
 unfolding findOf
 find-opened f r h it x b e g u = u ∙ shown-item f b (opens f r h e g) h (holds f r h e g) it ∙ found-item f (itemOf it) (opens f r h e g)
 
-pub number-found : (f : List ℕ) (it : Item) (r : Found) (n : ℕ) → r ≡ findOf f it → n ≡ numberOf r → n ≡ itemRefusal f (itemOf it)
+pub refusal-found : (f : List ℕ) (it : Item) (r : Found) (n : Refusal) → r ≡ findOf f it → n ≡ refusalOf r → n ≡ plain (itemRefusal f (itemOf it))
 unfolding findOf foundBy
-number-found f it r n e h = go (itemRefusal f (itemOf it)) (e)
+refusal-found f it r n e h = go (itemRefusal f (itemOf it)) (e)
   where
-    go : (m : ℕ) → r ≡ foundBy m (itemPart f (itemOf it)) → n ≡ m
-    go zero g = h ∙ ap numberOf g
-    go (suc k) g = h ∙ ap numberOf g
+    go : (m : ℕ) → r ≡ foundBy m (itemPart f (itemOf it)) → n ≡ plain m
+    go zero g = h ∙ ap refusalOf g
+    go (suc k) g = h ∙ ap refusalOf g
+
+pub none-refused : (r : Found) (start len : ℕ) → r ≡ At start len → plain 0 ≡ refusalOf r
+unfolding refusalOf
+none-refused r start len e = rw e
+
+pub refused-so : (r : Found) (n : Refusal) → r ≡ Refused n → n ≡ refusalOf r
+unfolding refusalOf
+refused-so r n e = rw e
 
 -- ── The part ──
 
 -- a refused item's part is empty, at the start
-part-none : (f : List ℕ) (it : Item) (n : ℕ) → findOf f it ≡ Refused n → itemPart f (itemOf it) ≡ record { start = 0; len = 0 }
+part-none : (f : List ℕ) (it : Item) (n : Refusal) → findOf f it ≡ Refused n → itemPart f (itemOf it) ≡ record { start = 0; len = 0 }
 unfolding findOf foundBy itemPart partOf
 part-none f it n e = go (itemRefusal f (itemOf it)) refl e
   where
@@ -128,11 +134,11 @@ found-ends f it start len b e = go (refusal f) refl (noSuchItem (shown f) (itemO
   where
     go : (m : ℕ) → refusal f ≡ m → (c : Bool) → noSuchItem (shown f) (itemOf it) ≡ c → start + len ≤ length f
     go (suc k) p c q =
-        let u : findOf f it ≡ Refused (suc k) = rw (eight-refused f (noSuchItem (shown f) (itemOf it)) k p) in
+        let u : findOf f it ≡ Refused (plain (suc k)) = rw (eight-refused f (noSuchItem (shown f) (itemOf it)) k p) in
         let z : _≡_ {A = ℕ} 0 1 = cc in
         absurd (omega arith)
     go zero p true q =
-        let u : findOf f it ≡ Refused 8 = rw (eight-holds f (noSuchItem (shown f) (itemOf it)) p q) in
+        let u : findOf f it ≡ Refused (plain 8) = rw (eight-holds f (noSuchItem (shown f) (itemOf it)) p q) in
         let z : _≡_ {A = ℕ} 0 1 = cc in
         absurd (omega arith)
     go zero p false q =
@@ -147,7 +153,7 @@ end-fits f it start len r b h e g = let l = found-ends f it start len b (sym e �
 pub end-within : (f : List ℕ) (it : Item) (start len : ℕ) (r : Found) → Bytes f → r ≡ findOf f it → r ≡ At start len → start + len ≤ length f
 end-within f it start len r b e g = found-ends f it start len b (sym e ∙ g)
 
-pub part-refused : (block offset : ℕ) (f : List ℕ) (it : Item) (n : ℕ) (r : Found) → r ≡ findOf f it → r ≡ Refused n → record { block = block; offset = offset; bytes = [] } ≡ read.partOf (record { block = block; offset = offset; bytes = f }) (itemPart f (itemOf it))
+pub part-refused : (block offset : ℕ) (f : List ℕ) (it : Item) (n : Refusal) (r : Found) → r ≡ findOf f it → r ≡ Refused n → record { block = block; offset = offset; bytes = [] } ≡ read.partOf (record { block = block; offset = offset; bytes = f }) (itemPart f (itemOf it))
 unfolding read.partOf
 part-refused block offset f it n r e g =
     let z : 0 + offset ≡ offset = omega arith in
@@ -159,21 +165,12 @@ part-found block offset f it start len r e g = rw (part-some f it start len (sym
 
 -- ── Frames ──
 
-pub frame-refused : (f : List ℕ) (r : Opening) (q n i : ℕ) → r ≡ openOf f → r ≡ openingAs.Refused q → n ≡ openRefusal r → frameAs.Refused n ≡ frameReadOf f i
+pub frame-refused : (f : List ℕ) (r : Opening) (q n : Refusal) (i : ℕ) → r ≡ openOf f → r ≡ openingAs.Refused q → n ≡ openRefusal r → frameAs.Refused n ≡ frameReadOf f i
 unfolding frameReadOf frameBy frameRefusal
 frame-refused f r q n i e g h =
     let (k, p, m) = refused-with f r q n e g h in
-    let u : frameReadOf f i ≡ frameAs.Refused (suc k) = rw (eight-refused f (noSuchFrame (shown f) i) k p) in
+    let u : frameReadOf f i ≡ frameAs.Refused (plain (suc k)) = rw (eight-refused f (noSuchFrame (shown f) i) k p) in
     ap frameAs.Refused m ∙ sym u
-
--- the frame that the numbers lead to
-pub frame-nowhere : (f : List ℕ) (h : Held) (i : ℕ) (q : Place) → q ≡ framePlace f (h .frames) (h .index) i → q ≡ Broken → frameAs.Refused 8 ≡ heldFrame f h i
-unfolding heldFrame frameBehind
-frame-nowhere f h i q e g = sym (ap (frameBehind f (h .sections)) (sym e ∙ g))
-
-frame-there : (f : List ℕ) (h : Held) (i : ℕ) (q : Place) (p : ℕ) → q ≡ framePlace f (h .frames) (h .index) i → q ≡ End p → heldFrame f h i ≡ frameFrom p (frameAt f p (h .sections))
-unfolding heldFrame frameBehind
-frame-there f h i q p e g = ap (frameBehind f (h .sections)) (sym e ∙ g)
 
 -- of a file that opens it is the frame shown
 pub shown-frame : (f : List ℕ) (h : Held) (i : ℕ) → Bytes f → refusal f ≡ 0 → h ≡ heldOf f → heldFrame f h i ≡ frameReadOf f i
@@ -182,7 +179,7 @@ shown-frame f h i b o e = go (le-or-lt (length (shown f .frames)) i)
   where
     go : (length (shown f .frames) ≤ i) ⊎ (i < length (shown f .frames)) → heldFrame f h i ≡ frameReadOf f i
     go (inl l) =
-        let u : frameReadOf f i ≡ frameAs.Refused 8 = rw (eight-holds f (noSuchFrame (shown f) i) o (rw (le-ltb i (length (shown f .frames)) l))) in
+        let u : frameReadOf f i ≡ frameAs.Refused (plain 8) = rw (eight-holds f (noSuchFrame (shown f) i) o (rw (le-ltb i (length (shown f .frames)) l))) in
         sym (frame-nowhere f h i _ refl (sym (place-past f (h .frames) (h .index) i (omega (arith, held-frames f b o h e))))) ∙ sym u
     go (inr l) =
         let x : Frame = frameOf (shown f) i in
@@ -195,25 +192,4 @@ shown-frame f h i b o e = go (le-or-lt (length (shown f .frames)) i)
 pub frame-opened : (f : List ℕ) (r : Opening) (h : Held) (i : ℕ) (x : FrameRead) → Bytes f → r ≡ openOf f → r ≡ openingAs.Opened h → x ≡ heldFrame f h i → x ≡ frameReadOf f i
 frame-opened f r h i x b e g u = u ∙ shown-frame f h i b (opens f r h e g) (holds f r h e g)
 
-pub frame-none : (f : List ℕ) (h : Held) (i p : ℕ) (q : Place) (r : FrameAt) → q ≡ framePlace f (h .frames) (h .index) i → q ≡ End p → r ≡ frameAt f p (h .sections) → r ≡ None → frameAs.Refused 8 ≡ heldFrame f h i
-unfolding frameFrom
-frame-none f h i p q r e g u v = sym (frame-there f h i q p e g ∙ ap (frameFrom p) (sym u ∙ v))
-
--- its numbers fit
-frame-fits : (f : List ℕ) (p k next t x : ℕ) (r : FrameAt) → Bytes f → r ≡ frameAt f p k → r ≡ Whole next t x → (t < 2 ^ 64) × (x < 2 ^ 32)
-frame-fits f p k next t x r b e g =
-    let (y, n, q, u, v, w) = found f p k next t x (sym e ∙ g) in
-    let l = frame-legal k y .1 (frame-exact k .gives (drop p f) y n (bytes-drop p f (slice-bytes f b)) q .0) in
-    (omega (arith, l .0), omega (arith, l .1))
-
-pub exposure-fits : (f : List ℕ) (p k next t x : ℕ) (r : FrameAt) → Bytes f → r ≡ frameAt f p k → r ≡ Whole next t x → Fits w32 x
-exposure-fits f p k next t x r b e g = record { fits = frame-fits f p k next t x r b e g .1 }
-
--- an Int64 is stored by its pattern
-pub frame-some : (f : List ℕ) (h : Held) (i p next t x : ℕ) (z : ℤ) (q : Place) (r : FrameAt) → Bytes f → q ≡ framePlace f (h .frames) (h .index) i → q ≡ End p → r ≡ frameAt f p (h .sections) → r ≡ Whole next t x → z ≡ toZ w64 t → frameAs.Frame p (next - p) (toZ w64 (ofZ w64 z)) x ≡ heldFrame f h i
-unfolding frameFrom
-frame-some f h i p next t x z q r b e g u v w =
-    let o : ofZ w64 z ≡ t = ap (ofZ w64) w ∙ ofZ-toZ {w = w64} {n = t} (record { fits = frame-fits f p (h .sections) next t x r b u v .0 }) in
-    rw o (sym (frame-there f h i q p e g ∙ ap (frameFrom p) (sym u ∙ v)))
-
-pub ruleset laws = (needs, end-fits, end-within, part-refused, part-found, frame-refused, frame-opened, frame-nowhere, frame-none, frame-some, found-behind, exposure-fits, find-refused, find-opened, number-found)
+pub ruleset laws = (needs, end-fits, end-within, part-refused, part-found, frame-refused, frame-opened, find-refused, find-opened, refusal-found, none-refused, refused-so)

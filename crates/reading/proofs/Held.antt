@@ -21,23 +21,28 @@ use Rattle.layout.proofs.Readers.{exactly-good}
 use Rattle.layout.proofs.Lines.{opens-passes}
 use Rattle.layout.proofs.Fronts.{FrontRead}
 use Rattle.layout.proofs.Encoded.{legal-front, legal-user, behindFrames, opens-placed}
-use Rattle.text.specs.Text.{textOf}
-use Rattle.text.specs.Rows.{endOf}
-use Rattle.text.specs.Table.{tagFound}
-use Rattle.text.specs.declared.Place.the-variants.{End}
-use Rattle.text.specs.declared.TagFound.the-variants as tag
-use Rattle.text.specs.declared.Text.the-variants as text
-use Rattle.text.proofs.Places.{tag-found-at, tag-found-past}
-use Rattle.opening.specs.Opened.{heldOf, sizedAt, sectionsAt, definitionAt, wholeDefinition}
-use Rattle.opening.specs.declared.DefinitionAt.the-variants as definitionAs
+use Rattle.strings.specs.Strings.{textOf}
+use Rattle.parts.specs.Parts.{endOf}
+use Rattle.tables.specs.Tables.{tagFound}
+use Rattle.parts.specs.declared.Place.the-variants.{End}
+use Rattle.tables.specs.declared.TagFound.the-variants as tag
+use Rattle.strings.specs.declared.Text.the-variants as text
+use Rattle.tables.proofs.Places.{tag-found-at, tag-found-past}
+use Rattle.opening.specs.Opened.{heldOf}
+use Rattle.frames.specs.Frames.{sizedAt, sectionsAt}
+use Rattle.front.specs.Front.{definitionAt, wholeDefinition}
+use Rattle.front.specs.declared.DefinitionAt.the-variants as definitionAs
 use Rattle.opening.specs.declared.Held.{Held}
-use Rattle.reading.specs.Read.{itemOf, foundIn, framePlace, heldSection, definitionPlace, heldName, offsetOr, nextAt, heldConfiguration, nameOf, valueOf, heldFound}
-use Rattle.reading.specs.declared.Item.{Item}
-use Rattle.reading.specs.declared.Item.the-variants as item
-use Rattle.reading.specs.declared.Found.the-variants.{At, Refused}
+use Rattle.refusal.specs.Refusal.{plain}
+use Rattle.reading.specs.Read.{itemOf, foundIn}
+use Rattle.items.specs.Items.{framePlace, heldSection, definitionPlace, heldName, offsetOr, nextAt, heldConfiguration, nameOf, valueOf, heldFound}
+use Rattle.items.specs.declared.Item.{Item}
+use Rattle.items.specs.declared.Item.the-variants as item
+use Rattle.items.specs.declared.Found.the-variants.{At, Refused}
 use Rattle.reading.proofs.Standing.{configurations-next}
-use Rattle.reading.proofs.Opened.{Bytes, legal, again, order, definitionStart, definitions-ahead, definitionOf, definition-here, definition-next, name-here, frame-within, frame-place, sizeStart, sections-ahead, section-here}
-use Rattle.reading.proofs.Laws.{name-past, name-found, configuration-past, configuration-found, place-past, place-there, section-past, section-nowhere, section-found}
+use Rattle.items.proofs.Bytes.{Bytes}
+use Rattle.reading.proofs.Opened.{legal, again, order, definitionStart, definitions-ahead, definitionOf, definition-here, definition-next, name-here, frame-within, frame-place, sizeStart, sections-ahead, section-here}
+use Rattle.items.proofs.Laws.{name-past, name-found, configuration-past, configuration-found, place-past, place-there, section-past, section-nowhere, section-found}
 
 -- ── A file that opens ──
 
@@ -95,11 +100,11 @@ tag-in f at n i ts e = go (le-or-lt (length ts) i)
     go (inr h) = rw (lt-ltb i (length ts) h) (tag-found-at f at n i ts e h)
 
 -- its name, or 8; its value, or 8
-name-or : (b : Bool) (p q k l : ℕ) → nameOf (cond b (tag.At p q k l) tag.Nothing) ≡ cond (not b) (Refused 8) (At p q)
+name-or : (b : Bool) (p q k l : ℕ) → nameOf (cond b (tag.At p q k l) tag.Nothing) ≡ cond (not b) (Refused (plain 8)) (At p q)
 name-or true p q k l = refl
 name-or false p q k l = refl
 
-value-or : (b : Bool) (p q k l : ℕ) → valueOf (cond b (tag.At p q k l) tag.Nothing) ≡ cond (not b) (Refused 8) (At k l)
+value-or : (b : Bool) (p q k l : ℕ) → valueOf (cond b (tag.At p q k l) tag.Nothing) ≡ cond (not b) (Refused (plain 8)) (At k l)
 value-or true p q k l = refl
 value-or false p q k l = refl
 
@@ -154,7 +159,7 @@ module _ (f : List ℕ) (b : Bytes f) (o : refusal f ≡ 0) where
   unfolding foundIn noSuchItem itemStart itemBytes sizeStart sectionsAt sizedAt endOf sizedBytes
   shown-section frames index n i j c d m = go (le-or-lt n j) (le-or-lt frames i)
     where
-      past : (x : Bool) → cond (not (x && false)) (Refused 8) (At (itemStart (shown f) (frameSection i j)) (length (itemBytes (shown f) (frameSection i j)))) ≡ Refused 8
+      past : (x : Bool) → cond (not (x && false)) (Refused (plain 8)) (At (itemStart (shown f) (frameSection i j)) (length (itemBytes (shown f) (frameSection i j)))) ≡ Refused (plain 8)
       past true = refl
       past false = refl
 

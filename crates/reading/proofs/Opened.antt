@@ -7,8 +7,6 @@ use mathlib.Core.Bool.{true}
 use mathlib.Core.List.{List, [], _∷_, _++_, flatMap}
 use lib.ListN.{length, take, drop, getD}
 use lib.Dec.{leb}
-use mir.Syntax.{w8}
-use mir.Val.{Fits}
 use Rattle.number.specs.Number.{bytesOf, readAt, rank}
 use Rattle.number.proofs.Bytes.{slice-bytes, length-bytesOf}
 use Rattle.layout.specs.Recording.{Frame, Recording, Legal, largestUserOffset, longestSection, shortString, definitionListBytes, definitionsBytes, definitionsEnd, configurationsBytes, tableBytes, sizedBytes, frameHeadBytes, frameBytes, entryBytes, entriesBytes, indexBytes, firstTime, framesStart, framesEnd, userStart, encode, every, legalSection, legalFrame}
@@ -21,16 +19,14 @@ use Rattle.layout.proofs.Fronts.{definedAt, defined-bytes, length-defined, defi
 use Rattle.layout.proofs.Encoded.{frames-start, frames-end, user-start, length-index, length-encode, drop-index}
 use Rattle.layout.proofs.Places.{Stands, stands-front, stands-back, stands-at, stands-one, every-one, definitions-stand, frame-stands, length-head, frame-sections}
 use Rattle.layout.proofs.Condition2.{opens-legal}
-use Rattle.text.specs.Rows.{endOf, rowName}
-use Rattle.text.specs.declared.Place.the-variants.{End}
-use Rattle.text.specs.declared.Row.the-variants as row
-use Rattle.text.proofs.Times.{times-led}
-use Rattle.text.proofs.Readers.{definition-row}
+use Rattle.parts.specs.Parts.{endOf}
+use Rattle.rows.specs.Rows.{rowName}
+use Rattle.parts.specs.declared.Place.the-variants.{End}
+use Rattle.rows.specs.declared.Row.the-variants as row
+use Rattle.parts.proofs.Times.{times-led}
+use Rattle.names.proofs.Readers.{definition-row}
 use Rattle.reading.proofs.Standing.{ahead-read, one-read, number-stands, defined-ahead, defined-one, defined-next, noDefinition, entry-stands}
-
--- the elements of a lent file are bytes
-abbrev pub Bytes : List ℕ → Type 0
-Bytes f = (i : ℕ) → Fits w8 (getD f i 0)
+use Rattle.items.proofs.Bytes.{Bytes}
 
 -- where a section's definition starts, and what it says
 unfoldable pub definitionStart : Recording → ℕ → ℕ

@@ -10,17 +10,12 @@ use prog.Routine.{Routine}
 use prog.Wp.{Heap}
 use Rattle.outcome.specs.Outcome.{Determines, DeterminesBy, agree}
 use Rattle.reading.specs.Read.{lies}
-use Rattle.reading.proofs.find_of
 use Rattle.reading.proofs.find
 use Rattle.reading.proofs.part
 use Rattle.reading.proofs.refusal
-use Rattle.reading.proofs.frame_of
 use Rattle.reading.proofs.frame
 
 module _ {M : Type 1} (𝓤 : URA M) (H : Heap 𝓤) (A : Atoms 𝓤) (mem : Memory → SProp 𝓤) (run : Routine → Fun 𝓤) where
-  pub find-of-one : Determines 𝓤 «find_of».ended («find_of».clauses 𝓤 H A mem run)
-  find-of-one κs a g x y v w = agree 𝓤 (λ p q. (p ∙ sym q, refl))
-
   pub find-one : Determines 𝓤 find.ended (find.clauses 𝓤 H A mem run)
   find-one κs a g x y v w = agree 𝓤 (λ p q. (p ∙ sym q, refl))
 
@@ -29,9 +24,6 @@ module _ {M : Type 1} (𝓤 : URA M) (H : Heap 𝓤) (A : Atoms 𝓤) (mem : Mem
 
   pub refusal-one : Determines 𝓤 refusal.ended (refusal.clauses 𝓤 H A mem run)
   refusal-one κs a g x y v w = agree 𝓤 (λ p q. (p ∙ sym q, refl))
-
-  pub frame-of-one : Determines 𝓤 «frame_of».ended («frame_of».clauses 𝓤 H A mem run)
-  frame-of-one κs a g x y v w = agree 𝓤 (λ p q. (p ∙ sym q, refl))
 
   pub frame-one : Determines 𝓤 frame.ended (frame.clauses 𝓤 H A mem run)
   frame-one κs a g x y v w = agree 𝓤 (λ p q. (p ∙ sym q, refl))

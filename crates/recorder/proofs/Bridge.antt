@@ -15,9 +15,10 @@ use Rattle.layout.specs.Opening.{firstOf}
 use Rattle.layout.specs.Recorder as layout
 use Rattle.layout.specs.Recorder.{State, Step, answer, filled, firstAfter, added, closedBy, begun, addLines, closeLines, beginLines}
 use Rattle.layout.specs.Storage.{freshState}
-use Rattle.recorder.specs.Recorded.{stageOf, toStage, stateOf, recorderOf, freshRecorder, answered, takenOf, madeOf, beginOf, addOf, closeOf}
-use Rattle.recorder.specs.declared.Stage.{Stage}
-use Rattle.recorder.specs.declared.Stage.the-variants.{Fresh, Running, Closing, Closed}
+use Rattle.stages.specs.Stages.{stageOf, toStage}
+use Rattle.recorder.specs.Recorded.{stateOf, recorderOf, freshRecorder, answered, takenOf, madeOf, beginOf, addOf, closeOf}
+use Rattle.stages.specs.declared.Stage.{Stage}
+use Rattle.stages.specs.declared.Stage.the-variants.{Fresh, Running, Closing, Closed}
 use Rattle.recorder.specs.declared.Recorder.{Recorder}
 
 -- ── There and back ──

@@ -11,26 +11,29 @@ use lib.Dec.{ltb, eqb}
 use borrow.Author.Tests.{lt-ltb, le-ltb, eq-eqb, ne-eqb, eqb-true, eqb-false, ltb-false, ltb-true}
 use mir.Syntax.{w64}
 use mir.Val.{Fits, ofZ, toZ}
+use Rattle.number.proofs.Bools.{or-left}
 use Rattle.number.specs.Number.{bytesOf, writeAt}
 use Rattle.number.proofs.Bytes.{and-true, length-bytesOf}
 use Rattle.layout.specs.Recording.{indexLength, tableBytes}
 use Rattle.layout.specs.Opening.{line, firstOf}
 use Rattle.layout.specs.Recorder as layout
 use Rattle.layout.specs.Recorder.{State, piece, brokenState, pieceNumber, takesClose, closeLines, closingPieces, closingPiece, notesShort, filled, closedBy, stageAfter}
-use Rattle.layout.proofs.Lists.{or-false, not-or}
+use Rattle.layout.proofs.Lists.{or-false, not-or, or-right}
 use Rattle.layout.proofs.Lines.{line-pass, line-holds, line-clear}
-use Rattle.layout.proofs.Lists.{or-right}
 use Rattle.layout.proofs.Orders.{no-lines}
-use Rattle.text.specs.Text.{copied}
-use Rattle.text.proofs.Laws.{copied-there}
-use Rattle.recorder.specs.Recorded.{stageOf, toStage, stateOf, recorderOf, closingNumber, closingLength, made, closeOf}
+use Rattle.parts.specs.Parts.{copied}
+use Rattle.parts.proofs.Laws.{copied-there}
+use Rattle.refusal.specs.Refusal.{plain}
+use Rattle.refusal.specs.declared.Refusal.{Refusal}
+use Rattle.stages.specs.Stages.{stageOf, toStage, closingNumber, closingLength}
+use Rattle.recorder.specs.Recorded.{stateOf, recorderOf, made, closeOf}
 use Rattle.recorder.specs.declared.Recorder.{Recorder}
-use Rattle.recorder.specs.declared.Stage.{Stage}
-use Rattle.recorder.specs.declared.Number.{Number}
+use Rattle.stages.specs.declared.Stage.{Stage}
+use Rattle.stages.specs.declared.Number.{Number}
 use Rattle.recorder.specs.declared.Piece.the-variants.{Given, Refused}
-use Rattle.recorder.proofs.Answers.{refused-made, accepted-made}
+use Rattle.recorder.proofs.Answers.{number-is, refused-made, accepted-made}
 use Rattle.layout.proofs.Outputs.{filled-is, write-is}
-use Rattle.recorder.proofs.Limits.{or-left, sound}
+use Rattle.recorder.proofs.Limits.{recorder-sound}
 
 -- ── Lines 12 and 9 ──
 
@@ -81,13 +84,15 @@ module _ (r : Recorder) (notes : List ℕ) (room : ℕ) where
   unfolding closeLines pieceBytes short notesShort stateOf
   close-lines = refl
 
-  pub close-stage : (t : Bool) → t ≡ takesClose (stageOf (r .stage)) → t ≡ false → 12 ≡ firstOf (closeLines (stateOf r) notes room)
+  pub close-stage : (t : Bool) → t ≡ takesClose (stageOf (r .stage)) → t ≡ false → plain 12 ≡ plain (firstOf (closeLines (stateOf r) notes room))
   close-stage t e h =
-      sym (line-holds 12 stopped (line 9 (ltb room pieceBytes || short) ∷ []) (or-left (not (takesClose (stageOf (r .stage)))) (brokenState (stateOf r)) (rw (sym e ∙ h)))) ∙ close-lines
+      ap plain
+      (sym (line-holds 12 stopped (line 9 (ltb room pieceBytes || short) ∷ []) (or-left (not (takesClose (stageOf (r .stage)))) (brokenState (stateOf r)) (rw (sym e ∙ h)))) ∙ close-lines)
 
-  pub close-broken : (b : Bool) → b ≡ brokenState (stateOf r) → b ≡ true → 12 ≡ firstOf (closeLines (stateOf r) notes room)
+  pub close-broken : (b : Bool) → b ≡ brokenState (stateOf r) → b ≡ true → plain 12 ≡ plain (firstOf (closeLines (stateOf r) notes room))
   close-broken b e h =
-      sym (line-holds 12 stopped (line 9 (ltb room pieceBytes || short) ∷ []) (or-right (not (takesClose (stageOf (r .stage)))) (brokenState (stateOf r)) (sym e ∙ h))) ∙ close-lines
+      ap plain
+      (sym (line-holds 12 stopped (line 9 (ltb room pieceBytes || short) ∷ []) (or-right (not (takesClose (stageOf (r .stage)))) (brokenState (stateOf r)) (sym e ∙ h))) ∙ close-lines)
 
   -- what is left when neither test of 12 holds
   close-onward : (t b : Bool) → t ≡ takesClose (stageOf (r .stage)) → t ≡ true → b ≡ brokenState (stateOf r) → b ≡ false → firstOf (line 9 (ltb room pieceBytes || short) ∷ []) ≡ firstOf (closeLines (stateOf r) notes room)
@@ -98,48 +103,49 @@ module _ (r : Recorder) (notes : List ℕ) (room : ℕ) where
 
   enough : brokenState (stateOf r) ≡ false → (next ≡ 0 → index ≤ length notes) → pieceBytes ≡ closingLength next index
   unfolding pieceBytes stateOf
-  enough h k = length-enough (stateOf r) notes (sound r h .aPiece) k
+  enough h k = length-enough (stateOf r) notes (recorder-sound r h .aPiece) k
 
-  close-nine : (t b : Bool) → t ≡ takesClose (stageOf (r .stage)) → t ≡ true → b ≡ brokenState (stateOf r) → b ≡ false → ltb room pieceBytes || short ≡ true → 9 ≡ firstOf (closeLines (stateOf r) notes room)
-  close-nine t b e h f k n = sym (line-holds 9 (ltb room pieceBytes || short) [] n) ∙ close-onward t b e h f k
+  close-nine : (t b : Bool) → t ≡ takesClose (stageOf (r .stage)) → t ≡ true → b ≡ brokenState (stateOf r) → b ≡ false → ltb room pieceBytes || short ≡ true → plain 9 ≡ plain (firstOf (closeLines (stateOf r) notes room))
+  close-nine t b e h f k n = ap plain (sym (line-holds 9 (ltb room pieceBytes || short) [] n) ∙ close-onward t b e h f k)
 
-  pub close-notes : (t b : Bool) (p i : ℕ) → t ≡ takesClose (stageOf (r .stage)) → t ≡ true → b ≡ brokenState (stateOf r) → b ≡ false → p ≡ next → i ≡ index → p ≡ 0 → length notes < i → 9 ≡ firstOf (closeLines (stateOf r) notes room)
+  pub close-notes : (t b : Bool) (p i : ℕ) → t ≡ takesClose (stageOf (r .stage)) → t ≡ true → b ≡ brokenState (stateOf r) → b ≡ false → p ≡ next → i ≡ index → p ≡ 0 → length notes < i → plain 9 ≡ plain (firstOf (closeLines (stateOf r) notes room))
   unfolding short
   close-notes t b p i e h f k a c z l =
       close-nine t b e h f k (or-right (ltb room pieceBytes) short (and-true (eqb next 0) (ltb (length notes) index) (eq-eqb next 0 (omega arith)) (lt-ltb (length notes) index (omega arith))))
 
-  pub close-room : (t b : Bool) (p i n : ℕ) → t ≡ takesClose (stageOf (r .stage)) → t ≡ true → b ≡ brokenState (stateOf r) → b ≡ false → p ≡ next → i ≡ index → n ≡ closingLength p i → room < n → 9 ≡ firstOf (closeLines (stateOf r) notes room)
+  pub close-room : (t b : Bool) (p i n : ℕ) → t ≡ takesClose (stageOf (r .stage)) → t ≡ true → b ≡ brokenState (stateOf r) → b ≡ false → p ≡ next → i ≡ index → n ≡ closingLength p i → room < n → plain 9 ≡ plain (firstOf (closeLines (stateOf r) notes room))
   unfolding short
   close-room t b p i n e h f k a c g l = go (ltb (length notes) index) refl (eqb next 0) refl
     where
-      full : (next ≡ 0 → index ≤ length notes) → 9 ≡ firstOf (closeLines (stateOf r) notes room)
+      full : (next ≡ 0 → index ≤ length notes) → plain 9 ≡ plain (firstOf (closeLines (stateOf r) notes room))
       full m =
           let q : pieceBytes ≡ n = enough (sym f ∙ k) m ∙ cc in
           close-nine t b e h f k (or-left (ltb room pieceBytes) short (lt-ltb room pieceBytes (omega arith)))
 
-      go : (x : Bool) → ltb (length notes) index ≡ x → (y : Bool) → eqb next 0 ≡ y → 9 ≡ firstOf (closeLines (stateOf r) notes room)
+      go : (x : Bool) → ltb (length notes) index ≡ x → (y : Bool) → eqb next 0 ≡ y → plain 9 ≡ plain (firstOf (closeLines (stateOf r) notes room))
       go false u y v = full (λ z. ltb-false (length notes) index u)
       go true u false v = full (λ z. absurd (eqb-false next 0 v z))
       go true u true v = close-notes t b next index e h f k refl refl (eqb-true next 0 v) (ltb-true (length notes) index u)
 
-  close-none : (t b : Bool) (p i n : ℕ) → t ≡ takesClose (stageOf (r .stage)) → t ≡ true → b ≡ brokenState (stateOf r) → b ≡ false → p ≡ next → i ≡ index → n ≡ closingLength p i → n ≤ room → (next ≡ 0 → index ≤ length notes) → short ≡ false → 0 ≡ firstOf (closeLines (stateOf r) notes room)
+  close-none : (t b : Bool) (p i n : ℕ) → t ≡ takesClose (stageOf (r .stage)) → t ≡ true → b ≡ brokenState (stateOf r) → b ≡ false → p ≡ next → i ≡ index → n ≡ closingLength p i → n ≤ room → (next ≡ 0 → index ≤ length notes) → short ≡ false → plain 0 ≡ plain (firstOf (closeLines (stateOf r) notes room))
   close-none t b p i n e h f k a c g l m s =
       let q : pieceBytes ≡ n = enough (sym f ∙ k) m ∙ cc in
-      sym (line-pass 9 (ltb room pieceBytes || short) [] (not-or (ltb room pieceBytes) short (le-ltb room pieceBytes (omega arith)) s) ∙ no-lines) ∙ close-onward t b e h f k
+      ap plain
+      (sym (line-pass 9 (ltb room pieceBytes || short) [] (not-or (ltb room pieceBytes) short (le-ltb room pieceBytes (omega arith)) s) ∙ no-lines) ∙ close-onward t b e h f k)
 
-  pub close-index : (t b : Bool) (p i n : ℕ) → t ≡ takesClose (stageOf (r .stage)) → t ≡ true → b ≡ brokenState (stateOf r) → b ≡ false → p ≡ next → i ≡ index → n ≡ closingLength p i → n ≤ room → p ≡ 0 → i ≤ length notes → 0 ≡ firstOf (closeLines (stateOf r) notes room)
+  pub close-index : (t b : Bool) (p i n : ℕ) → t ≡ takesClose (stageOf (r .stage)) → t ≡ true → b ≡ brokenState (stateOf r) → b ≡ false → p ≡ next → i ≡ index → n ≡ closingLength p i → n ≤ room → p ≡ 0 → i ≤ length notes → plain 0 ≡ plain (firstOf (closeLines (stateOf r) notes room))
   unfolding short
   close-index t b p i n e h f k a c g l z m =
       close-none t b p i n e h f k a c g l (λ x. omega arith) (rw (eq-eqb next 0 (omega arith), le-ltb (length notes) index (omega arith)))
 
-  pub close-number : (t b : Bool) (p i n : ℕ) → t ≡ takesClose (stageOf (r .stage)) → t ≡ true → b ≡ brokenState (stateOf r) → b ≡ false → p ≡ next → i ≡ index → n ≡ closingLength p i → n ≤ room → (p ≡ 0 → ⊥) → 0 ≡ firstOf (closeLines (stateOf r) notes room)
+  pub close-number : (t b : Bool) (p i n : ℕ) → t ≡ takesClose (stageOf (r .stage)) → t ≡ true → b ≡ brokenState (stateOf r) → b ≡ false → p ≡ next → i ≡ index → n ≡ closingLength p i → n ≤ room → (p ≡ 0 → ⊥) → plain 0 ≡ plain (firstOf (closeLines (stateOf r) notes room))
   unfolding short
   close-number t b p i n e h f k a c g l z =
       close-none t b p i n e h f k a c g l (λ x. absurd (z (a ∙ x))) (rw (ne-eqb next 0 (λ x. z (a ∙ x))))
 
 -- ── What a close call leaves ──
 
-pub refused-close : (r : Recorder) (notes out : List ℕ) (n : ℕ) → n ≡ firstOf (closeLines (stateOf r) notes (length out)) → (n ≡ 0 → ⊥) → made (record { state = r; piece = Refused n }) notes out ≡ closeOf r notes out
+pub refused-close : (r : Recorder) (notes out : List ℕ) (n : Refusal) → n ≡ plain (firstOf (closeLines (stateOf r) notes (length out))) → (n .number ≡ 0 → ⊥) → made (record { state = r; piece = Refused n }) notes out ≡ closeOf r notes out
 unfolding closeOf layout.close
 refused-close r notes out n e h = refused-made r (stateOf r) notes out n _ _ e h
 
@@ -149,10 +155,10 @@ pub record Closable (r : Recorder) (notes : List ℕ) (room : ℕ) : Type 0 wher
   pub fits : length (closingPiece (stateOf r) notes .bytes) ≤ room
   pub notesFit : pieceNumber (stageOf (r .stage)) ≡ 0 → indexLength (r .frames) ≤ length notes
 
-pub closable : (r : Recorder) (notes : List ℕ) (room n : ℕ) → n ≡ firstOf (closeLines (stateOf r) notes room) → n ≡ 0 → Closable r notes room
+pub closable : (r : Recorder) (notes : List ℕ) (room : ℕ) (n : Refusal) → n ≡ plain (firstOf (closeLines (stateOf r) notes room)) → n .number ≡ 0 → Closable r notes room
 unfolding pieceBytes short
 closable r notes room n e h =
-    let a = line-clear 11 (stopped r notes room) (line 9 (ltb room (pieceBytes r notes room) || short r notes room) ∷ []) (close-lines r notes room ∙ sym e ∙ h) in
+    let a = line-clear 11 (stopped r notes room) (line 9 (ltb room (pieceBytes r notes room) || short r notes room) ∷ []) (close-lines r notes room ∙ sym (number-is n (firstOf (closeLines (stateOf r) notes room)) e) ∙ h) in
     let b = or-false (not (takesClose (stageOf (r .stage)))) (brokenState (stateOf r)) (a .0) in
     let c = line-clear 8 (ltb room (pieceBytes r notes room) || short r notes room) [] (a .1) in
     let d = or-false (ltb room (pieceBytes r notes room)) (short r notes room) (c .0) in
@@ -166,11 +172,11 @@ closable r notes room n e h =
     rest true y p q = q
     rest false y p q = let z : _≡_ {A = ℕ} 0 1 = cc in absurd (omega arith)
 
-pub close-sound : (r : Recorder) (notes : List ℕ) (room n : ℕ) → n ≡ firstOf (closeLines (stateOf r) notes room) → n ≡ 0 → brokenState (stateOf r) ≡ false
+pub close-sound : (r : Recorder) (notes : List ℕ) (room : ℕ) (n : Refusal) → n ≡ plain (firstOf (closeLines (stateOf r) notes room)) → n .number ≡ 0 → brokenState (stateOf r) ≡ false
 close-sound r notes room n e h = closable r notes room n e h .whole
 
-pub user-fits : (r : Recorder) (notes : List ℕ) (room n i : ℕ) → n ≡ firstOf (closeLines (stateOf r) notes room) → n ≡ 0 → i ≡ indexLength (r .frames) → Fits w64 (r .end + i)
-user-fits r notes room n i e h f = let s = sound r (close-sound r notes room n e h) in record { fits = omega arith }
+pub user-fits : (r : Recorder) (notes : List ℕ) (room i : ℕ) (n : Refusal) → n ≡ plain (firstOf (closeLines (stateOf r) notes room)) → n .number ≡ 0 → i ≡ indexLength (r .frames) → Fits w64 (r .end + i)
+user-fits r notes room i n e h f = let s = recorder-sound r (close-sound r notes room n e h) in record { fits = omega arith }
 
 -- the closing piece, at its number
 piece-at : (st : State) (notes : List ℕ) (p : ℕ) → (p ≡ 0 → ⊥) → p ≤ 4 → let k = closingNumber p (st .frames) (st .end) (st .end + indexLength (st .frames)) in getD (closingPieces st notes) p (piece 0 []) ≡ piece (k .place) (bytesOf (k .width) (k .value))
@@ -183,7 +189,7 @@ piece-at st notes (suc (suc (suc (suc zero)))) h l = refl
 piece-at st notes (suc (suc (suc (suc (suc p))))) h l = absurd (omega arith)
 
 -- an accepted close call, its piece said in other words
-closed-made : (r : Recorder) (notes out x : List ℕ) (n p at len : ℕ) (s : Stage) (k : layout.Piece) → n ≡ firstOf (closeLines (stateOf r) notes (length out)) → n ≡ 0 → p ≡ pieceNumber (stageOf (r .stage)) → s ≡ toStage (stageAfter p) → closingPiece (stateOf r) notes ≡ k → at ≡ k .place → len ≡ length (k .bytes) → x ≡ sets out 0 (k .bytes) → made (record { state = record { stage = s; sections = r .sections; frames = r .frames; first = toZ w64 (ofZ w64 (r .first)); last = toZ w64 (ofZ w64 (r .last)); end = r .end }; piece = Given at len }) notes x ≡ closeOf r notes out
+closed-made : (r : Recorder) (notes out x : List ℕ) (n : Refusal) (p at len : ℕ) (s : Stage) (k : layout.Piece) → n ≡ plain (firstOf (closeLines (stateOf r) notes (length out))) → n .number ≡ 0 → p ≡ pieceNumber (stageOf (r .stage)) → s ≡ toStage (stageAfter p) → closingPiece (stateOf r) notes ≡ k → at ≡ k .place → len ≡ length (k .bytes) → x ≡ sets out 0 (k .bytes) → made (record { state = record { stage = s; sections = r .sections; frames = r .frames; first = toZ w64 (ofZ w64 (r .first)); last = toZ w64 (ofZ w64 (r .last)); end = r .end }; piece = Given at len }) notes x ≡ closeOf r notes out
 unfolding closeOf layout.close closedBy recorderOf stateOf
 closed-made r notes out x n p at len s k e h q t f a b d =
     let g : s ≡ toStage (stageAfter (pieceNumber (stageOf (r .stage)))) = t ∙ ap (λ (x : ℕ). toStage (stageAfter x)) q in
@@ -191,7 +197,7 @@ closed-made r notes out x n p at len s k e h q t f a b d =
     let y : x ≡ filled out (k .bytes) = d ∙ filled-is out (k .bytes) c in
     rw (a, b, y, ← f, g) (accepted-made r (stateOf r) notes out n (firstOf (closeLines (stateOf r) notes (length out))) (record { refused = 0; state = closedBy (stateOf r); piece = closingPiece (stateOf r) notes; notes = notes }) e h refl)
 
-pub closed-index : (r : Recorder) (notes out x : List ℕ) (s : Stage) (n p i : ℕ) → n ≡ firstOf (closeLines (stateOf r) notes (length out)) → n ≡ 0 → p ≡ pieceNumber (stageOf (r .stage)) → s ≡ toStage (stageAfter p) → i ≡ indexLength (r .frames) → p ≡ 0 → x ≡ copied notes 0 out 0 i → made (record { state = record { stage = s; sections = r .sections; frames = r .frames; first = toZ w64 (ofZ w64 (r .first)); last = toZ w64 (ofZ w64 (r .last)); end = r .end }; piece = Given (r .end) i }) notes x ≡ closeOf r notes out
+pub closed-index : (r : Recorder) (notes out x : List ℕ) (s : Stage) (n : Refusal) (p i : ℕ) → n ≡ plain (firstOf (closeLines (stateOf r) notes (length out))) → n .number ≡ 0 → p ≡ pieceNumber (stageOf (r .stage)) → s ≡ toStage (stageAfter p) → i ≡ indexLength (r .frames) → p ≡ 0 → x ≡ copied notes 0 out 0 i → made (record { state = record { stage = s; sections = r .sections; frames = r .frames; first = toZ w64 (ofZ w64 (r .first)); last = toZ w64 (ofZ w64 (r .last)); end = r .end }; piece = Given (r .end) i }) notes x ≡ closeOf r notes out
 unfolding closingPiece closingPieces stateOf
 closed-index r notes out x s n p i e h q t f z g =
     let c = closable r notes (length out) n e h in
@@ -202,12 +208,12 @@ closed-index r notes out x s n p i e h q t f z g =
     let w : x ≡ sets out 0 (take (indexLength (r .frames)) notes) = g ∙ rw f (copied-there notes out 0 0 (indexLength (r .frames)) (omega (arith, c .notesFit y)) (omega arith)) in
     closed-made r notes out x n p (r .end) i s (piece (r .end) (take (indexLength (r .frames)) notes)) e h q t m refl (f ∙ sym l) w
 
-pub closed-number : (r : Recorder) (notes out x : List ℕ) (s : Stage) (k : Number) (n p i : ℕ) → n ≡ firstOf (closeLines (stateOf r) notes (length out)) → n ≡ 0 → p ≡ pieceNumber (stageOf (r .stage)) → s ≡ toStage (stageAfter p) → i ≡ indexLength (r .frames) → (p ≡ 0 → ⊥) → k ≡ closingNumber p (r .frames) (r .end) (r .end + i) → x ≡ writeAt out 0 (k .width) (k .value) → made (record { state = record { stage = s; sections = r .sections; frames = r .frames; first = toZ w64 (ofZ w64 (r .first)); last = toZ w64 (ofZ w64 (r .last)); end = r .end }; piece = Given (k .place) (k .width) }) notes x ≡ closeOf r notes out
+pub closed-number : (r : Recorder) (notes out x : List ℕ) (s : Stage) (k : Number) (n : Refusal) (p i : ℕ) → n ≡ plain (firstOf (closeLines (stateOf r) notes (length out))) → n .number ≡ 0 → p ≡ pieceNumber (stageOf (r .stage)) → s ≡ toStage (stageAfter p) → i ≡ indexLength (r .frames) → (p ≡ 0 → ⊥) → k ≡ closingNumber p (r .frames) (r .end) (r .end + i) → x ≡ writeAt out 0 (k .width) (k .value) → made (record { state = record { stage = s; sections = r .sections; frames = r .frames; first = toZ w64 (ofZ w64 (r .first)); last = toZ w64 (ofZ w64 (r .last)); end = r .end }; piece = Given (k .place) (k .width) }) notes x ≡ closeOf r notes out
 unfolding closingPiece stateOf
 closed-number r notes out x s k n p i e h q t f z g w =
     let c = closable r notes (length out) n e h in
     let u : k ≡ closingNumber p (r .frames) (r .end) (r .end + indexLength (r .frames)) = g ∙ ap (λ (j : ℕ). closingNumber p (r .frames) (r .end) (r .end + j)) f in
-    let a : p ≤ 4 = omega (arith, sound r (c .whole) .aPiece) in
+    let a : p ≤ 4 = omega (arith, recorder-sound r (c .whole) .aPiece) in
     let m : closingPiece (stateOf r) notes ≡ piece (k .place) (bytesOf (k .width) (k .value)) = rw (← q, u) (piece-at (stateOf r) notes p z a) in
     let l : length (bytesOf (k .width) (k .value)) ≡ k .width = length-bytesOf (k .width) (k .value) in
     let o : k .width ≤ length out = rw (m, l) at (c .fits) in

@@ -1,13 +1,9 @@
-pub mod Stages
 pub mod Limits
-pub mod Output
 pub mod Answers
-pub mod Exactly
 pub mod Closing
 pub mod Adding
-pub mod SetUp
-pub mod Front
 pub mod Beginning
 pub mod Laws
 pub mod Bridge
+pub mod Chained
 pub mod Outcomes

@@ -9,16 +9,12 @@ use prog.Memory.{Memory}
 use prog.Routine.{Routine}
 use prog.Wp.{Heap}
 use Rattle.outcome.specs.Outcome.{Determines, agree}
-use Rattle.recorder.proofs.too_long
 use Rattle.recorder.proofs.Recorder.new
 use Rattle.recorder.proofs.Recorder.begin
 use Rattle.recorder.proofs.Recorder.add
 use Rattle.recorder.proofs.Recorder.close
 
 module _ {M : Type 1} (𝓤 : URA M) (H : Heap 𝓤) (A : Atoms 𝓤) (mem : Memory → SProp 𝓤) (run : Routine → Fun 𝓤) where
-  pub too-long-one : Determines 𝓤 «too_long».ended («too_long».clauses 𝓤 H A mem run)
-  too-long-one κs a g x y v w = agree 𝓤 (λ p q. (p ∙ sym q, refl))
-
   pub new-one : Determines 𝓤 new.ended (new.clauses 𝓤 H A mem run)
   new-one κs a g x y v w = agree 𝓤 (λ p q. (p ∙ sym q, refl))
 

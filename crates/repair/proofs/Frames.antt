@@ -21,9 +21,11 @@ use Rattle.layout.specs.Recorder.{tooLong, noRoom, filled}
 use Rattle.layout.specs.Repair.{Repair, repairAnswer}
 use Rattle.layout.proofs.Lists.{bytes-drop}
 use Rattle.layout.proofs.Lines.{line-pass, line-holds}
+use Rattle.layout.proofs.Orders.{no-lines}
 use Rattle.layout.proofs.Outputs.{sets-append, filled-is}
 use Rattle.layout.proofs.Walks.{Walked, walk-gives, took, walk-exactly}
-use Rattle.opening.proofs.Index.{walk-first, by-first, length-index}
+use Rattle.frames.proofs.Walks.{walk-first, by-first, length-index}
+use Rattle.refusal.specs.Refusal.{plain}
 use Rattle.repair.specs.Repaired.{made, answerOf, madeOf, commonWith, commonBehind, walkedAll, walkedIn, framesIn, alike, alikeIn, entriesIn, indexIn, tailed, tailOf, walkLines, keeping, walkRepaired, framesRepaired}
 use Rattle.repair.specs.declared.Repaired.the-variants.{Kept, Refused}
 use Rattle.repair.specs.declared.Walked as declared
@@ -50,19 +52,19 @@ walked-ill w start e = go (inOrder (w .frames)) e
 -- ── Refused ──
 
 -- a refused call answers its number and leaves the output
-pub refused-made : (out : List ℕ) (refused n : ℕ) (r : Repair) → refused ≡ suc n → made (Refused (suc n)) out ≡ madeOf out (repairAnswer refused r)
+pub refused-made : (out : List ℕ) (refused n : ℕ) (r : Repair) → refused ≡ suc n → made (Refused (plain (suc n))) out ≡ madeOf out (repairAnswer refused r)
 unfolding madeOf repairAnswer answerOf filled
 refused-made out refused n r e = rw e
 
-refused-walk : (w : Walk) (start n : ℕ) (out : List ℕ) → firstOf (walkLines w start (length out)) ≡ suc n → made (Refused (suc n)) out ≡ walkRepaired w start out
+refused-walk : (w : Walk) (start n : ℕ) (out : List ℕ) → firstOf (walkLines w start (length out)) ≡ suc n → made (Refused (plain (suc n))) out ≡ walkRepaired w start out
 unfolding walkRepaired
 refused-walk w start n out e = refused-made out (firstOf (walkLines w start (length out))) n (keeping w start) e
 
-clock-made : (w : Walk) (start : ℕ) (out : List ℕ) → walkedAll w start ≡ OutOfOrder → made (Refused 13) out ≡ walkRepaired w start out
+clock-made : (w : Walk) (start : ℕ) (out : List ℕ) → walkedAll w start ≡ OutOfOrder → made (Refused (plain 13)) out ≡ walkRepaired w start out
 unfolding walkLines
 clock-made w start out e = refused-walk w start 12 out (line-holds 13 _ _ (walked-ill w start e))
 
-pub frames-clock : (f out : List ℕ) (k start : ℕ) (r : declared.Walked) → r ≡ walkedIn f k start → r ≡ OutOfOrder → made (Refused 13) out ≡ framesRepaired f k start out
+pub frames-clock : (f out : List ℕ) (k start : ℕ) (r : declared.Walked) → r ≡ walkedIn f k start → r ≡ OutOfOrder → made (Refused (plain 13)) out ≡ framesRepaired f k start out
 unfolding walkedIn framesRepaired
 frames-clock f out k start r p q = clock-made (walk 1000000 k (drop start f)) start out (sym p ∙ q)
 
@@ -81,14 +83,14 @@ not-long : (end count : ℕ) → end + (4 + 16 * count) ≤ 1099511115772 → to
 unfolding tooLong
 not-long end count h = le-ltb (2 ^ 40) (end + (4 + 16 * count) + 512004) (omega arith)
 
-long-made : (w : Walk) (start count end common : ℕ) (out : List ℕ) → walkedAll w start ≡ InOrder count end common → 1099511115772 < end + (4 + 16 * count) → made (Refused 15) out ≡ walkRepaired w start out
+long-made : (w : Walk) (start count end common : ℕ) (out : List ℕ) → walkedAll w start ≡ InOrder count end common → 1099511115772 < end + (4 + 16 * count) → made (Refused (plain 15)) out ≡ walkRepaired w start out
 long-made w start count end common out e h = refused-walk w start 14 out (pass-clock w start (length out) count end common e ∙ line-holds 15 _ _ (is-long end count h))
 
-pub frames-far : (f out : List ℕ) (k start count end common : ℕ) (r : declared.Walked) → r ≡ walkedIn f k start → r ≡ InOrder count end common → 1099511115772 < end → made (Refused 15) out ≡ framesRepaired f k start out
+pub frames-far : (f out : List ℕ) (k start count end common : ℕ) (r : declared.Walked) → r ≡ walkedIn f k start → r ≡ InOrder count end common → 1099511115772 < end → made (Refused (plain 15)) out ≡ framesRepaired f k start out
 unfolding walkedIn framesRepaired
 frames-far f out k start count end common r p q h = long-made (walk 1000000 k (drop start f)) start count end common out (sym p ∙ q) (omega arith)
 
-pub frames-long : (f out : List ℕ) (k start count end common : ℕ) (r : declared.Walked) → r ≡ walkedIn f k start → r ≡ InOrder count end common → 1099511115772 < end + (4 + 16 * count) → made (Refused 15) out ≡ framesRepaired f k start out
+pub frames-long : (f out : List ℕ) (k start count end common : ℕ) (r : declared.Walked) → r ≡ walkedIn f k start → r ≡ InOrder count end common → 1099511115772 < end + (4 + 16 * count) → made (Refused (plain 15)) out ≡ framesRepaired f k start out
 unfolding walkedIn framesRepaired
 frames-long f out k start count end common r p q h = long-made (walk 1000000 k (drop start f)) start count end common out (sym p ∙ q) h
 
@@ -100,10 +102,10 @@ length-tail w start count end common e =
 pass-long : (w : Walk) (start room count end common : ℕ) → walkedAll w start ≡ InOrder count end common → end + (4 + 16 * count) ≤ 1099511115772 → firstOf (walkLines w start room) ≡ firstOf (line 9 (noRoom room (4 + 16 * count + 4)) ∷ [])
 pass-long w start room count end common e h = pass-clock w start room count end common e ∙ line-pass 15 _ _ (not-long end count h) ∙ rw (length-tail w start count end common e)
 
-room-made : (w : Walk) (start count end common : ℕ) (out : List ℕ) → walkedAll w start ≡ InOrder count end common → end + (4 + 16 * count) ≤ 1099511115772 → length out < 4 + 16 * count + 4 → made (Refused 9) out ≡ walkRepaired w start out
+room-made : (w : Walk) (start count end common : ℕ) (out : List ℕ) → walkedAll w start ≡ InOrder count end common → end + (4 + 16 * count) ≤ 1099511115772 → length out < 4 + 16 * count + 4 → made (Refused (plain 9)) out ≡ walkRepaired w start out
 room-made w start count end common out e h l = refused-walk w start 8 out (pass-long w start (length out) count end common e h ∙ line-holds 9 _ _ (lt-ltb (length out) (4 + 16 * count + 4) l))
 
-pub frames-room : (f out : List ℕ) (k start count end common : ℕ) (r : declared.Walked) → r ≡ walkedIn f k start → r ≡ InOrder count end common → end + (4 + 16 * count) ≤ 1099511115772 → length out < 4 + 16 * count + 4 → made (Refused 9) out ≡ framesRepaired f k start out
+pub frames-room : (f out : List ℕ) (k start count end common : ℕ) (r : declared.Walked) → r ≡ walkedIn f k start → r ≡ InOrder count end common → end + (4 + 16 * count) ≤ 1099511115772 → length out < 4 + 16 * count + 4 → made (Refused (plain 9)) out ≡ framesRepaired f k start out
 unfolding walkedIn framesRepaired
 frames-room f out k start count end common r p q h l = room-made (walk 1000000 k (drop start f)) start count end common out (sym p ∙ q) h l
 
@@ -176,16 +178,12 @@ tail-is f out b most k start count end common h e p =
     let l : 0 + length (indexBytes start (walk most k (drop start f) .frames)) ≡ 4 + 16 * count = omega (arith, length-index start (walk most k (drop start f) .frames)) in
     rw (sets-append out 0 (indexBytes start (walk most k (drop start f) .frames)) (tableBytes []), l, ← index-is f most k start count h c) p
 
-no-line : firstOf [] ≡ 0
-unfolding firstOf
-no-line = refl
-
 kept-made : (w : Walk) (start count end common : ℕ) (out b : List ℕ) → walkedAll w start ≡ InOrder count end common → end + (4 + 16 * count) ≤ 1099511115772 → 4 + 16 * count + 4 ≤ length out → b ≡ sets out 0 (tailOf w start) → made (Kept end count end (end + (4 + 16 * count)) (4 + 16 * count + 4)) b ≡ walkRepaired w start out
 unfolding walkRepaired madeOf repairAnswer answerOf keeping
 kept-made w start count end common out b e h l p =
     let (o, c, d, m) = walked-well w start count end common e in
     let t = length-tail w start count end common e in
-    let n : firstOf (walkLines w start (length out)) ≡ 0 = pass-long w start (length out) count end common e h ∙ line-pass 9 _ _ (le-ltb (length out) (4 + 16 * count + 4) l) ∙ no-line in
+    let n : firstOf (walkLines w start (length out)) ≡ 0 = pass-long w start (length out) count end common e h ∙ line-pass 9 _ _ (le-ltb (length out) (4 + 16 * count + 4) l) ∙ no-lines in
     rw (n, ← filled-is out (tailOf w start) (omega arith), ← p, c, d, t)
 
 pub frames-kept : (f out b : List ℕ) (k start count end common : ℕ) (r : declared.Walked) → ((i : ℕ) → Fits w8 (getD f i 0)) → r ≡ walkedIn f k start → r ≡ InOrder count end common → end + (4 + 16 * count) ≤ 1099511115772 → 4 + 16 * count + 4 ≤ length out → b ≡ tailed f k start count out → made (Kept end count end (end + (4 + 16 * count)) (4 + 16 * count + 4)) b ≡ framesRepaired f k start out

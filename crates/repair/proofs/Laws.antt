@@ -2,9 +2,10 @@
 -- Assumes nothing.
 use borrow.Author.Needs.{needs}
 use Rattle.repair.proofs.Walks.{common-first, common-same, common-none, walk-start, walk-most, walk-end, walk-breaks, walk-goes}
-use Rattle.opening.proofs.Frames.{time-fits, end-behind}
+use borrow.Author.Tests.{not-true, not-false}
+use Rattle.frames.proofs.Laws.{time-fits, end-behind}
 use Rattle.repair.proofs.Frames.{frames}
 use Rattle.repair.proofs.Order.{order}
-use Rattle.repair.proofs.Tails.{entry-filled, entry-written, entry-part, part-read, sizes-done, size-there, size-end-fits, size-fits, sizes-step, sections-known, end-known, next-common, next-fits, next-known, alike-left, head-there, head-fits, known-time-fits, known-behind, known-left, entries-done, entries-step, stored-length, room-left, index-written, table-written, tail-written, table-room}
+use Rattle.repair.proofs.Tails.{entry-filled, entry-written, entry-part, next-ended, next-there, next-common, next-fits, next-known, alike-left, head-there, known-time-fits, known-behind, known-left, entries-done, entries-step, stored-length, room-left, index-written, table-written, tail-written, table-room}
 
-pub ruleset laws = (needs, common-first, common-same, common-none, walk-start, walk-most, walk-end, walk-breaks, walk-goes, time-fits, end-behind, entry-filled, entry-written, entry-part, part-read, sizes-done, size-there, size-end-fits, size-fits, sizes-step, sections-known, end-known, next-common, next-fits, next-known, alike-left, head-there, head-fits, known-time-fits, known-behind, known-left, entries-done, entries-step, stored-length, room-left, index-written, table-written, tail-written, table-room, frames, order)
+pub ruleset laws = (needs, not-true, not-false, common-first, common-same, common-none, walk-start, walk-most, walk-end, walk-breaks, walk-goes, time-fits, end-behind, entry-filled, entry-written, entry-part, next-ended, next-there, next-common, next-fits, next-known, alike-left, head-there, known-time-fits, known-behind, known-left, entries-done, entries-step, stored-length, room-left, index-written, table-written, tail-written, table-room, frames, order)

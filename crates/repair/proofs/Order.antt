@@ -14,15 +14,19 @@ use Rattle.number.proofs.Bytes.{slice-bytes}
 use Rattle.layout.specs.Opening.{definedIn, walkStart, walkOf, firstOf, frontLines, refusal}
 use Rattle.layout.specs.Repair.{walked, keptLength, keptCount, tail, repairLines, repairRefusal, repair}
 use Rattle.layout.proofs.Lines.{line-pass, line-holds, FrontPasses, front-pass, lines-first}
-use Rattle.opening.specs.Opened.{frontHeld, frontOf, frontRefusal, openOf}
-use Rattle.opening.specs.declared.FrontHeld.{FrontHeld}
-use Rattle.opening.specs.declared.Front.{Front}
-use Rattle.opening.specs.declared.Front.the-variants as frontAs
+use Rattle.front.specs.Front.{frontHeld, frontOf, frontRefusal}
+use Rattle.opening.specs.Opened.{openOf}
+use Rattle.front.specs.declared.FrontHeld.{FrontHeld}
+use Rattle.front.specs.declared.Front.{Front}
+use Rattle.front.specs.declared.Front.the-variants as frontAs
 use Rattle.opening.specs.declared.Held.{Held}
 use Rattle.opening.specs.declared.Opening.{Opening}
 use Rattle.opening.specs.declared.Opening.the-variants as openingAs
-use Rattle.opening.proofs.Lines.{front-passes, front-refuses, start-within, open-opens, open-refuses}
+use Rattle.front.proofs.Passed.{front-passes, front-refuses, start-within}
+use Rattle.opening.proofs.Lines.{open-opens, open-refuses}
 use Rattle.repair.proofs.Frames.{refused-made}
+use Rattle.refusal.specs.Refusal.{plain}
+use Rattle.refusal.specs.declared.Refusal.{Refusal}
 use Rattle.repair.specs.Repaired.{made, repairOf, tailOf, walkLines, keeping, walkRepaired, framesRepaired}
 use Rattle.repair.specs.declared.Repaired.{Repaired}
 use Rattle.repair.specs.declared.Repaired.the-variants.{Refused}
@@ -32,23 +36,23 @@ use Rattle.repair.specs.declared.Repaired.the-variants.{Refused}
 pub opens-whole : (f : List ℕ) (r : Opening) (h : Held) → r ≡ openOf f → r ≡ openingAs.Opened h → true ≡ eqb (refusal f) 0
 opens-whole f r h p q = sym (eq-eqb (refusal f) 0 (open-opens f h (sym p ∙ q) .0))
 
-pub opens-not : (f : List ℕ) (r : Opening) (n : ℕ) → r ≡ openOf f → r ≡ openingAs.Refused n → false ≡ eqb (refusal f) 0
+pub opens-not : (f : List ℕ) (r : Opening) (n : Refusal) → r ≡ openOf f → r ≡ openingAs.Refused n → false ≡ eqb (refusal f) 0
 opens-not f r n p q = go (open-refuses f n (sym p ∙ q))
   where
-    go : ((m : ℕ) × (n ≡ suc m) × (refusal f ≡ suc m)) → false ≡ eqb (refusal f) 0
+    go : ((m : ℕ) × (n ≡ plain (suc m)) × (refusal f ≡ suc m)) → false ≡ eqb (refusal f) 0
     go (m, k, e) = sym (ne-eqb (refusal f) 0 (λ z. omega arith))
 
 -- ── Each way out ──
 
-refused-repair : (f out : List ℕ) (n : ℕ) → repairRefusal f (length out) ≡ suc n → made (Refused (suc n)) out ≡ repairOf f out
+refused-repair : (f out : List ℕ) (n : ℕ) → repairRefusal f (length out) ≡ suc n → made (Refused (plain (suc n))) out ≡ repairOf f out
 unfolding repairOf repair
 refused-repair f out n e = refused-made out (repairRefusal f (length out)) n _ e
 
-pub repair-front : (f out : List ℕ) (r : Front) (n m : ℕ) → r ≡ frontOf f → r ≡ frontAs.Refused n → m ≡ frontRefusal r → made (Refused m) out ≡ repairOf f out
+pub repair-front : (f out : List ℕ) (r : Front) (n m : Refusal) → r ≡ frontOf f → r ≡ frontAs.Refused n → m ≡ frontRefusal r → made (Refused m) out ≡ repairOf f out
 unfolding repairRefusal repairLines
 repair-front f out r n m p q s = go (front-refuses f n (sym p ∙ q)) (s ∙ ap frontRefusal q)
   where
-    go : ((j : ℕ) × (n ≡ suc j) × (firstOf (frontLines f) ≡ suc j)) → m ≡ n → made (Refused m) out ≡ repairOf f out
+    go : ((j : ℕ) × (n ≡ plain (suc j)) × (firstOf (frontLines f) ≡ suc j)) → m ≡ n → made (Refused m) out ≡ repairOf f out
     go (j, k, e) l = rw (l, k) (refused-repair f out j (lines-first (frontLines f) _ j e))
 
 module _ (f out : List ℕ) (r : Front) (held : FrontHeld) (p : r ≡ frontOf f) (q : r ≡ frontAs.Whole held) where
@@ -58,7 +62,7 @@ module _ (f out : List ℕ) (r : Front) (held : FrontHeld) (p : r ≡ frontOf f)
   held-is : held ≡ frontHeld f
   held-is = front-passes f held (sym p ∙ q) .1
 
-  pub repair-whole : (b : Bool) → b ≡ eqb (refusal f) 0 → b ≡ true → made (Refused 16) out ≡ repairOf f out
+  pub repair-whole : (b : Bool) → b ≡ eqb (refusal f) 0 → b ≡ true → made (Refused (plain 16)) out ≡ repairOf f out
   unfolding repairRefusal repairLines
   repair-whole b s t = refused-repair f out 15 (front-pass f _ passes ∙ line-holds 16 _ _ (sym s ∙ t))
 

@@ -13,7 +13,6 @@ use mir.Syntax.{w8, w64}
 use mir.Val.{Fits}
 use Rattle.number.specs.Number.{bytesOf, numberOf, readAt, writeAt}
 use Rattle.number.proofs.Bytes.{both-true, length-bytesOf, slice-bytes}
-use Rattle.number.proofs.Laws.{read-is}
 use Rattle.layout.specs.Recording.{Frame, frameBytes, entryBytes, entriesBytes, tableBytes}
 use Rattle.layout.specs.Reading.{Parsed, bad, good, frame, Walk, stopped, longer, walk}
 use Rattle.layout.specs.Recorder.{filled}
@@ -22,11 +21,12 @@ use Rattle.layout.proofs.Outputs.{sets-append, filled-is, write-is}
 use Rattle.layout.proofs.Walks.{walk-none, walk-stop}
 use Rattle.layout.proofs.Exact.{frame-exact}
 use Rattle.layout.proofs.Sizes.{length-entry}
-use Rattle.text.specs.Rows.{endOf}
-use Rattle.text.specs.declared.Place.the-variants.{End}
-use Rattle.opening.specs.Opened.{sectionsAt, frameEnd, sinceFirst}
-use Rattle.opening.proofs.Frames.{sections-done, sections-first, ended, sections-ended, end-behind, end-within}
-use Rattle.opening.proofs.Index.{walk-cons}
+use Rattle.parts.specs.Parts.{endOf}
+use Rattle.parts.specs.declared.Place.{Place}
+use Rattle.parts.specs.declared.Place.the-variants.{End, Broken}
+use Rattle.frames.specs.Frames.{frameEnd, sinceFirst}
+use Rattle.frames.proofs.Laws.{ended, end-behind, end-within}
+use Rattle.frames.proofs.Walks.{walk-cons}
 use Rattle.repair.specs.Repaired.{endIn, nextBy, framesIn, alike, alikeIn, entriesIn, indexIn, tailed}
 
 -- ── An entry ──
@@ -62,31 +62,6 @@ entry-part out at h =
 
 -- ── A frame that is known to stand ──
 
--- a number that is read from a part of just its bytes
-pub part-read : (f : List ℕ) (at w n : ℕ) → w ≤ 8 → at + w ≤ length f → n ≡ readAt (take (at + w - at) (drop at f)) 0 w → n ≡ readAt f at w
-part-read f at w n h l e =
-    let d : at + w - at ≡ w = omega arith in
-    let m : length (take w (drop at f)) ≡ w = length-take-le w (drop at f) (omega (arith, length-drop at f)) in
-    e ∙ rw d (read-is (take w (drop at f)) 0 w h (omega arith) ∙ ap numberOf (take-all w (take w (drop at f)) (omega arith)) ∙ sym (read-is f at w h l))
-
-pub sizes-done : (f : List ℕ) (place left end : ℕ) → left ≤ 0 → sectionsAt f place left ≡ End end → place ≡ end
-sizes-done f place left end h e = place-end place end (sections-done f place left (End end) h e)
-  where
-    place-end : (a b : ℕ) → End a ≡ End b → a ≡ b
-    place-end a b q = cc
-
-pub size-there : (f : List ℕ) (place left end : ℕ) → 0 < left → sectionsAt f place left ≡ End end → place + 4 ≤ length f
-size-there f place left end h e = omega (arith, sections-first f place left end h e .0)
-
-pub size-end-fits : (f : List ℕ) (place left end : ℕ) → 0 < left → sectionsAt f place left ≡ End end → length f < 2 ^ 64 → Fits w64 (place + 4)
-size-end-fits f place left end h e l = let s = size-there f place left end h e in record { fits = omega arith }
-
-pub size-fits : (f : List ℕ) (place left end n : ℕ) → 0 < left → sectionsAt f place left ≡ End end → n ≡ readAt f place 4 → length f < 2 ^ 64 → Fits w64 (place + 4 + n)
-size-fits f place left end n h e p l = let s = sections-first f place left end h e .0 in record { fits = omega arith }
-
-pub sizes-step : (f : List ℕ) (place left end n : ℕ) → 0 < left → sectionsAt f place left ≡ End end → n ≡ readAt f place 4 → sectionsAt f (place + 4 + n) (left - 1) ≡ End end
-sizes-step f place left end n h e p = rw p (sections-first f place left end h e .1)
-
 -- the frame that stands where some are left, and as many as are left behind it
 stands : (f : List ℕ) (k left place : ℕ) → 0 < left → framesIn f k left place ≡ left → (next : ℕ) × (frameEnd f place k ≡ End next) × (framesIn f k (left - 1) next ≡ left - 1)
 unfolding framesIn frameEnd endOf stopped longer
@@ -108,14 +83,16 @@ known f k left place next h e p =
     let q : next ≡ m = p ∙ ap endIn a in
     (rw q a, rw q b)
 
--- the sections of a frame say where it ends
-pub sections-known : (f : List ℕ) (k place end : ℕ) → frameEnd f place k ≡ End end → sectionsAt f (place + 16) k ≡ End (endIn (sectionsAt f (place + 16) k))
+-- a step from a frame that is known to be whole
+pub next-ended : (f : List ℕ) (k place next : ℕ) (r : Place) → r ≡ frameEnd f place k → r ≡ End next → next ≡ endIn (frameEnd f place k)
 unfolding endIn
-sections-known f k place end e = rw (sections-ended f place k end e)
+next-ended f k place next r p q = rw (sym p ∙ q)
 
-pub end-known : (f : List ℕ) (k place end r : ℕ) → frameEnd f place k ≡ End end → r ≡ endIn (sectionsAt f (place + 16) k) → r ≡ endIn (frameEnd f place k)
-unfolding endIn
-end-known f k place end r e p = p ∙ ap endIn (sections-ended f place k end e ∙ sym e)
+pub next-there : (f : List ℕ) (k place end : ℕ) (r : Place) → r ≡ frameEnd f place k → r ≡ Broken → frameEnd f place k ≡ End end → place ≡ endIn (frameEnd f place k)
+next-there f k place end r p q e =
+    let z : Broken ≡ End end = sym q ∙ p ∙ e in
+    let w : _≡_ {A = ℕ} 0 1 = cc in
+    absurd (omega arith)
 
 pub next-common : (f : List ℕ) (k place common : ℕ) → (common ≡ 0 → ⊥) → frameEnd f place k ≡ End (nextBy f place k common) → place + common ≡ endIn (frameEnd f place k)
 unfolding nextBy endIn
@@ -170,9 +147,6 @@ pub head-there : (f : List ℕ) (k left place : ℕ) → 0 < left → framesIn f
 head-there f k left place h e =
     let (m, a, b) = stands f k left place h e in
     omega (arith, end-within f place k m (End m) (sym a) refl)
-
-pub head-fits : (f : List ℕ) (k place end : ℕ) → frameEnd f place k ≡ End end → length f < 2 ^ 64 → Fits w64 (place + 16)
-head-fits f k place end e l = let w = end-within f place k end (End end) (sym e) refl in record { fits = omega arith }
 
 pub known-time-fits : (f : List ℕ) (k left place : ℕ) → 0 < left → framesIn f k left place ≡ left → length f < 2 ^ 64 → Fits w64 (place + 4)
 known-time-fits f k left place h e l = let w = head-there f k left place h e in record { fits = omega arith }

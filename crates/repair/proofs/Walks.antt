@@ -16,11 +16,11 @@ use Rattle.layout.specs.Reading.{good, frame, Walk, stopped, longer, walk}
 use Rattle.layout.proofs.Lists.{bytes-drop}
 use Rattle.layout.proofs.Exact.{frame-exact}
 use Rattle.layout.proofs.Walks.{walk-none, walk-stop}
-use Rattle.text.specs.declared.Place.{Place}
-use Rattle.text.specs.declared.Place.the-variants.{End, Broken}
-use Rattle.opening.specs.Opened.{frameEnd}
-use Rattle.opening.proofs.Frames.{ended, not-ended}
-use Rattle.opening.proofs.Index.{walk-cons, walk-first, by-first}
+use Rattle.parts.specs.declared.Place.{Place}
+use Rattle.parts.specs.declared.Place.the-variants.{End, Broken}
+use Rattle.frames.specs.Frames.{frameEnd}
+use Rattle.frames.proofs.Laws.{ended, not-ended}
+use Rattle.frames.proofs.Walks.{walk-cons, walk-first, by-first}
 use Rattle.repair.specs.Repaired.{commonWith, commonBehind, walkedBehind, walkedFrom, walkedAll, walkedIn}
 use Rattle.repair.specs.declared.Walked.{Walked}
 use Rattle.repair.specs.declared.Walked.the-variants.{InOrder, OutOfOrder}

@@ -11,9 +11,10 @@ use Rattle.layout.specs.Reading.{Walk, walk}
 use Rattle.layout.specs.Opening.{Line, line, firstOf}
 use Rattle.layout.specs.Recorder.{tooLong, noRoom, filled}
 use Rattle.layout.specs.Repair.{Repair, repairAnswer, repair}
-use Rattle.opening.specs.Opened.{frameEnd}
-use Rattle.text.specs.declared.Place.{Place}
-use Rattle.text.specs.declared.Place.the-variants.{End, Broken}
+use Rattle.frames.specs.Frames.{frameEnd}
+use Rattle.parts.specs.declared.Place.{Place}
+use Rattle.parts.specs.declared.Place.the-variants.{End, Broken}
+use Rattle.refusal.specs.Refusal.{plain}
 use Rattle.repair.specs.declared.Repaired.{Repaired}
 use Rattle.repair.specs.declared.Repaired.the-variants.{Kept, Refused}
 use Rattle.repair.specs.declared.Walked.{Walked}
@@ -32,7 +33,7 @@ made answer out = record { answer = answer; out = out }
 -- the kept length, the three header fields and the tail's length; or the refusal number
 unfoldable pub answerOf : (refused : ℕ) → Repair → Repaired
 answerOf zero r = Kept (r .kept) (r .count) (r .index) (r .user) (length (r .tail))
-answerOf (suc n) r = Refused (suc n)
+answerOf (suc n) r = Refused (plain (suc n))
 
 -- "An accepted call fills a lent output from its start and keeps the bytes after the answer"; a refused one has no tail
 unfoldable pub madeOf : (out : List ℕ) → Repair → Made

@@ -1,20 +1,20 @@
 // Repair of a recording that was cut: its frames are walked, and the index and the empty user table that it lacks are written.
 // Nothing is written before all is accepted.
+use front::Front;
 use header::Header;
-use opening::Front;
 use opening::Opening;
-use text::Place;
+use parts::Place;
+use refusal::Refusal;
 ghost use mathlib.Core.Path.{_≡_};
 ghost use mathlib.Core.Bool.{true};
 ghost use mathlib.Core.List.{[]};
 ghost use Prim.Native.Nat.{_+_, _*_, _≤_};
 ghost use lib.ListN.{length};
 ghost use lib.Seq.{sets};
-ghost use Rattle.number.specs.Number.{readAt};
 ghost use Rattle.layout.specs.Recording.{entryBytes, tableBytes};
 ghost use Rattle.layout.specs.Repair.{whole};
-ghost use Rattle.text.specs.declared.Place.the-variants.{End};
-ghost use Rattle.opening.specs.Opened.{sectionsAt, frameEnd};
+ghost use Rattle.parts.specs.declared.Place.the-variants.{End};
+ghost use Rattle.frames.specs.Frames.{frameEnd};
 ghost use Rattle.repair.specs.Repaired.{endIn, nextBy, commonWith, framesIn, alikeIn, walkedIn, entriesIn, indexIn, tailed, made, framesRepaired, repairOf};
 
 // The kept length, the three header fields, and the length of the tail, which stands at the start of the lent output; or the refusal number.
@@ -26,7 +26,7 @@ pub enum Repaired {
         user: usize,
         tail: usize,
     },
-    Refused(u8),
+    Refused(Refusal),
 }
 
 // What the walk found: how many frames there are, where the last one ends and the length that they have in common; or that their times break the rule.
@@ -66,7 +66,7 @@ fn walk(file: &[u8], sections: usize, start: usize) -> Walked
     let mut common = 0;
     let mut left = Header::MOST_FRAMES;
     while 0 < left {
-        let end = opening::frame_end(file, place, sections);
+        let end = frames::frame_end(file, place, sections);
         let Place::End(next) = end else {
             return Walked::InOrder {
                 count,
@@ -75,7 +75,7 @@ fn walk(file: &[u8], sections: usize, start: usize) -> Walked
             };
         };
         let time = number::read(file, place + 4, 8);
-        if opening::follows_last(first, last, time) {} else {
+        if !frames::follows_last(first, last, time) {
             return Walked::OutOfOrder;
         }
         common = common_length(count, common, next - place);
@@ -91,30 +91,6 @@ fn walk(file: &[u8], sections: usize, start: usize) -> Walked
     }
 }
 
-// A number whose bytes are known to be there: in a part of just these bytes it is read with no test.
-fn read_known(file: &[u8], at: usize, w: usize) -> u64
-    requires { ⌜ (w ≤ 8) × (at + w ≤ length (now file)) ⌝ }
-    ensures { λ r. ⌜ r ≡ readAt (now (file .entry)) at w ⌝ }
-{
-    let end = at + w;
-    number::read(&file[at..end], 0, w)
-}
-
-// Where sections that are known to be whole end: their sizes are read and not tested again.
-fn known_end(file: &[u8], at: usize, sections: usize) -> usize
-    requires { ⌜ sectionsAt (now file) at sections ≡ End (endIn (sectionsAt (now file) at sections)) ⌝ }
-    ensures { λ r. ⌜ r ≡ endIn (sectionsAt (now (file .entry)) at sections) ⌝ }
-{
-    let mut place = at;
-    let mut left = sections;
-    while 0 < left {
-        let size = read_known(file, place, 4) as usize;
-        place = place + 4 + size;
-        left -= 1;
-    }
-    place
-}
-
 // Where a frame that is known to be whole ends. Frames that have a length in common need no size read: the place of one does not wait for the bytes of
 // the one ahead of it.
 fn next_place(file: &[u8], place: usize, sections: usize, common: usize) -> usize
@@ -122,7 +98,11 @@ fn next_place(file: &[u8], place: usize, sections: usize, common: usize) -> usiz
     ensures { λ r. ⌜ r ≡ endIn (frameEnd (now (file .entry)) place sections) ⌝ }
 {
     if common == 0 {
-        return known_end(file, place + Header::FRAME_HEAD, sections);
+        let end = frames::frame_end(file, place, sections);
+        let Place::End(next) = end else {
+            return place;
+        };
+        return next;
     }
     place + common
 }
@@ -132,7 +112,7 @@ fn fill_entry(entry: &mut [u8], first: u64, time: u64, offset: usize, size: usiz
     requires { ⌜ length (now entry) ≡ 16 ⌝ }
     ensures { λ r. ⌜ now (entry .exit) ≡ entryBytes first time offset size ⌝ }
 {
-    number::write(entry, 0, 4, opening::since(first, time));
+    number::write(entry, 0, 4, frames::since(first, time));
     number::write(entry, 4, 8, offset as u64);
     number::write(entry, 12, 4, size as u64);
 }
@@ -164,7 +144,7 @@ fn write_entries(
     let mut left = count;
     while 0 < left {
         let next = next_place(file, place, sections, common);
-        let time = read_known(file, place + 4, 8);
+        let time = number::read(file, place + 4, 8);
         write_entry(out, entry, first, time, place, next - place);
         place = next;
         entry += Header::INDEX_ENTRY;
@@ -220,20 +200,20 @@ fn repair_frames(file: &[u8], sections: usize, start: usize, out: &mut [u8]) -> 
 {
     let walked = walk(file, sections, start);
     let Walked::InOrder { count, end, common } = walked else {
-        return Repaired::Refused(13);
+        return Repaired::Refused(Refusal::CLOCK);
     };
     // the end alone is compared first, so that no sum passes a usize
     if Header::LARGEST_USER_OFFSET < end {
-        return Repaired::Refused(15);
+        return Repaired::Refused(Refusal::FULL);
     }
     let index_length = 4 + Header::INDEX_ENTRY * count;
     let user = end + index_length;
     if Header::LARGEST_USER_OFFSET < user {
-        return Repaired::Refused(15);
+        return Repaired::Refused(Refusal::FULL);
     }
     let tail = index_length + 4;
     if out.len() < tail {
-        return Repaired::Refused(9);
+        return Repaired::Refused(Refusal::NO_ROOM);
     }
     write_tail(file, sections, start, count, common, out);
     Repaired::Kept {
@@ -260,12 +240,12 @@ fn opens(file: &[u8]) -> bool
 pub fn repair(file: &[u8], out: &mut [u8]) -> Repaired
     ensures { λ r. ⌜ made r (now (out .exit)) ≡ repairOf (now (file .entry)) (now (out .entry)) ⌝ }
 {
-    let front = opening::open_front(file);
+    let front = front::open_front(file);
     let Front::Whole(held) = front else {
-        return Repaired::Refused(opening::front_refusal(front));
+        return Repaired::Refused(front::front_refusal(front));
     };
     if opens(file) {
-        return Repaired::Refused(16);
+        return Repaired::Refused(Refusal::WHOLE);
     }
     repair_frames(file, held.sections, held.start, out)
 }

@@ -1,12 +1,3 @@
-pub mod Sheets
-pub mod Values
-pub mod Looks
-pub mod Parts
-pub mod Sizes
-pub mod Places
-pub mod Walks
-pub mod Searches
-pub mod Legal
-pub mod Applies
+pub mod ByPlaces
 pub mod Saves
 pub mod Outcomes

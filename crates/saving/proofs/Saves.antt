@@ -4,11 +4,12 @@ use Prim.Native.Nat.{ℕ, zero, suc, _+_, _^_, _<_, _≤_}
 use native.Mathlib.Omega.{arith}
 use mathlib.Core.Path.{_≡_, refl, ap, sym, _∙_}
 use mathlib.Core.Bool.{Bool, true, false, cond}
-use mathlib.Core.List.{List, [], _∷_, map, append-nil}
-use lib.ListN.{length, drop}
+use mathlib.Core.List.{List, [], _∷_, append-nil}
+use lib.ListN.{length, take, drop, replicate, length-replicate, getD-replicate}
+use lib.Seq.{length-take-le, getD-take}
 use lib.Dec.{ltb, leb}
 use borrow.Author.Needs.{needs}
-use borrow.Author.Tests.{leb-true, ne-eqb}
+use borrow.Author.Tests.{leb-true, ne-eqb, le-ltb}
 use mir.Syntax.{w64}
 use mir.Val.{Fits}
 use Rattle.number.proofs.Bytes.{both-true}
@@ -20,39 +21,46 @@ use Rattle.layout.specs.Saving.{Change, change, changeNames, mostChanges, sheet
 use Rattle.layout.proofs.Readers.{exactly-good, number-good}
 use Rattle.layout.proofs.Lines.{line-pass, line-holds, opening-pass, opens-passes, lines-first}
 use Rattle.layout.proofs.Orders.{without, lines-other}
-use Rattle.text.specs.Rows.{rowName, distinctNames}
-use Rattle.text.specs.declared.Row.the-variants as row
-use Rattle.text.proofs.Readers.{then-parts, only-parts, change-row, names-times, distinct-changes}
-use Rattle.text.proofs.Places.{table-read}
-use Rattle.text.proofs.Times.{times-length, times-led}
+use Rattle.names.specs.Names.{distinctNames}
+use Rattle.rows.specs.declared.Row.the-variants as row
+use Rattle.parts.proofs.Taken.{then-parts, only-parts}
+use Rattle.names.proofs.Readers.{distinct-changes}
+use Rattle.tables.proofs.Places.{table-read}
+use Rattle.parts.proofs.Times.{times-length}
 use Rattle.opening.specs.Opened.{openOf, openRefusal, heldOf}
 use Rattle.opening.specs.declared.Held.{Held}
 use Rattle.opening.specs.declared.Opening.{Opening}
 use Rattle.opening.specs.declared.Opening.the-variants as openingAs
 use Rattle.opening.proofs.Lines.{open-opens, open-refuses}
-use Rattle.saving.specs.Sheet.{sheetOf}
-use Rattle.saving.specs.Rows.{tagsAt, changesAt, lookedAt}
-use Rattle.saving.specs.Places.{changeNamesAt, beside, lookedBy, Placed}
-use Rattle.saving.specs.Save.{outcome, appliedTo, appliedIn, afterLook, savedIn, savedBy, savedAs, saveOf}
-use Rattle.saving.specs.declared.Sheet.{Sheet}
-use Rattle.saving.specs.declared.Sheet.the-variants as sheet
-use Rattle.saving.specs.declared.Looked.{Looked}
-use Rattle.saving.specs.declared.Looked.the-variants as looked
+use Rattle.sheet.specs.Sheet.{sheetOf}
+use Rattle.sheet.specs.Rows.{tagsAt, changesAt}
+use Rattle.refusal.specs.Refusal.{placed, plain}
+use Rattle.refusal.specs.declared.Refusal.{Refusal}
+use Rattle.saving.specs.Save.{lookedAt, outcome, answerOf, answered, appliedIn, afterLook, savedIn, savedBy, savedAs, saveOf, Begun}
+use Rattle.places.specs.Places.{Named, Placed, placing, placedBy}
+use Rattle.look.specs.Look.{lookOf}
+use Rattle.apply.specs.Applied.{applying, appliedTo, applyOf}
+use Rattle.apply.specs.declared.Applied.{Applied}
+use Rattle.apply.specs.declared.Applied.the-variants as applied
+use Rattle.layout.specs.Saving as Layout
+use Rattle.sheet.specs.declared.Sheet.{Sheet}
+use Rattle.sheet.specs.declared.Sheet.the-variants as sheet
+use Rattle.look.specs.declared.Looked.{Looked}
+use Rattle.look.specs.declared.Looked.the-variants as looked
 use Rattle.saving.specs.declared.Saved.{Saved}
 use Rattle.saving.specs.declared.Saved.the-variants as saved
-use Rattle.saving.proofs.Looks.{looked-is}
-use Rattle.saving.proofs.Places.{looks}
-use Rattle.saving.proofs.Walks.{tags-named, tags-placed}
-use Rattle.saving.proofs.Legal.{tags-are, changes-are}
+use Rattle.saving.proofs.ByPlaces.{looked-is, looks-by, tags-by}
+use Rattle.places.proofs.Walks.{tags-named, tags-placed, named-long, places-long}
+use Rattle.sheet.proofs.Legal.{tags-are, changes-are}
 
 -- ── A save's answer ──
 
-answer-refused : (n place : ℕ) (ts : List Tag) (out : List ℕ) → (n ≡ 0 → ⊥) → (n ≡ 11 → ⊥) → savedAs (saveAnswer n place ts) out ≡ outcome (saved.Refused n) out
+answer-refused : (n place : ℕ) (ts : List Tag) (out : List ℕ) → (n ≡ 0 → ⊥) → (n ≡ 11 → ⊥) → savedAs (saveAnswer n place ts) out ≡ outcome (saved.Refused (plain n)) out
 unfolding savedAs saveAnswer savedBy filled
 answer-refused zero place ts out z h = absurd (z refl)
 answer-refused (suc n) place ts out z h = rw (ne-eqb (suc n) 11 h)
 
-answer-conflict : (place : ℕ) (ts : List Tag) (out : List ℕ) → savedAs (saveAnswer 11 place ts) out ≡ outcome (saved.Conflict place) out
+answer-conflict : (place : ℕ) (ts : List Tag) (out : List ℕ) → savedAs (saveAnswer 11 place ts) out ≡ outcome (saved.Refused (placed 11 place)) out
 unfolding savedAs saveAnswer savedBy filled
 answer-conflict place ts out = refl
 
@@ -66,11 +74,11 @@ unfolding saveOf save
 answer-by f bytes out r e = ap (λ (z : ℕ). savedAs (saveAnswer z (conflictPlace (userTags f) (changesOf bytes)) (newTable f bytes)) out) e
 
 -- 17, 9, or the new table
-answer-applied : (place : ℕ) (ts : List Tag) (out : List ℕ) → savedAs (saveAnswer (firstOf (line 17 (ltb mostTags (length ts)) ∷ line 9 (noRoom (length out) (length (tableBytes ts))) ∷ [])) place ts) out ≡ appliedTo ts out
-unfolding appliedTo firstOf
+answer-applied : (place : ℕ) (ts : List Tag) (out : List ℕ) → savedAs (saveAnswer (firstOf (line 17 (ltb mostTags (length ts)) ∷ line 9 (noRoom (length out) (length (tableBytes ts))) ∷ [])) place ts) out ≡ answered (appliedTo ts out)
+unfolding answered appliedTo answerOf firstOf
 answer-applied place ts out = go (ltb mostTags (length ts)) (ltb (length out) (length (tableBytes ts)))
   where
-    go : (a b : Bool) → savedAs (saveAnswer (firstOf (line 17 a ∷ line 9 b ∷ [])) place ts) out ≡ cond a (outcome (saved.Refused 17) out) (cond b (outcome (saved.Refused 9) out) (outcome (saved.Table (length (tableBytes ts))) (filled out (tableBytes ts))))
+    go : (a b : Bool) → savedAs (saveAnswer (firstOf (line 17 a ∷ line 9 b ∷ [])) place ts) out ≡ answered (cond a (applying (applied.Refused (plain 17)) out) (cond b (applying (applied.Refused (plain 9)) out) (applying (applied.Table (length (tableBytes ts))) (filled out (tableBytes ts)))))
     go true b = answer-refused 17 place ts out (λ z. omega arith) (λ z. omega arith)
     go false true = answer-refused 9 place ts out (λ z. omega arith) (λ z. omega arith)
     go false false = answer-table place ts out
@@ -84,24 +92,18 @@ not-eleven f e =
     let o : _≡_ {A = ℕ} 0 11 = sym z ∙ e in
     omega arith
 
-pub save-refused : (f bytes out : List ℕ) (o : Opening) (n m : ℕ) → o ≡ openOf f → o ≡ openingAs.Refused n → m ≡ openRefusal o → outcome (saved.Refused m) out ≡ saveOf f bytes out
+pub save-refused : (f bytes out : List ℕ) (o : Opening) (n m : Refusal) → o ≡ openOf f → o ≡ openingAs.Refused n → m ≡ openRefusal o → outcome (saved.Refused m) out ≡ saveOf f bytes out
 unfolding saveRefusal saveLines refusal
 save-refused f bytes out o n m e g h =
     let (j, a, b) = open-refuses f n (sym e ∙ g) in
-    let c : m ≡ suc j = h ∙ ap openRefusal g ∙ a in
+    let c : m ≡ plain (suc j) = h ∙ ap openRefusal g ∙ a in
     sym (answer-by f bytes out (suc j) (lines-first (openingLines f) _ j b)
     ∙ answer-refused (suc j) _ _ out (λ z. omega arith) (λ z. not-eleven f (b ∙ z))
-    ∙ ap (λ (z : ℕ). outcome (saved.Refused z) out) (sym c))
+    ∙ ap (λ (z : Refusal). outcome (saved.Refused z) out) (sym c))
 
 -- ── The sheet ──
 
--- changes that were read are whole rows
-changes-whole : (bytes : List ℕ) (n m : ℕ) (cs : List Change) → times n change (drop 1 bytes) ≡ good cs m → length (changeNamesAt bytes n) ≡ n
-changes-whole bytes n m cs e =
-    let l = times-led change (rowName row.Change) (λ c. c .name) change-row n (drop 1 bytes) cs m e in
-    ap length (names-times n (rowName row.Change) (drop 1 bytes) (map (λ c. c .name) cs) m l) ∙ times-length (rowName row.Change) n (drop 1 bytes) (map (λ c. c .name) cs) m l
-
-sheet-read : (bytes : List ℕ) (cs : List Change) (m : ℕ) → exactly sheet bytes ≡ good cs m → (length cs ≤ 64) × (changesAt bytes 1 (length cs) ≡ cs) × (distinctNames bytes 1 (length cs) row.Change ≡ true) × (length (changeNamesAt bytes (length cs)) ≡ length cs)
+sheet-read : (bytes : List ℕ) (cs : List Change) (m : ℕ) → exactly sheet bytes ≡ good cs m → (length cs ≤ 64) × (changesAt bytes 1 (length cs) ≡ cs) × (distinctNames bytes 1 (length cs) row.Change ≡ true)
 unfolding sheet
 sheet-read bytes cs m e =
     let (x, y) = only-parts (λ ds. distinct (changeNames ds)) (only (within 0 mostChanges) (number 1) then λ n. times n change) bytes cs m (exactly-good (only (λ ds. distinct (changeNames ds)) (only (within 0 mostChanges) (number 1) then λ n. times n change)) bytes cs m e .0) in
@@ -110,18 +112,18 @@ sheet-read bytes cs m e =
     let l = leb-true c mostChanges (both-true (leb 0 c) (leb c mostChanges) (p .1) .1) in
     let q : 1 ≡ a = number-good 1 bytes c a (p .0) .2 in
     let o : length cs ≡ c = times-length change c (drop a bytes) cs k g in
-    (omega arith, rw o (changes-are bytes 1 c k cs (rw q g)), rw o (distinct-changes bytes 1 c k cs (rw q g) ∙ y), rw o (changes-whole bytes c k cs (rw q g))))
+    (omega arith, rw o (changes-are bytes 1 c k cs (rw q g)), rw o (distinct-changes bytes 1 c k cs (rw q g) ∙ y)))
 
-sheet-known : (bytes : List ℕ) (s : Sheet) (k : ℕ) → s ≡ sheetOf (exactly sheet bytes) → s ≡ sheet.Whole k → (isBad (exactly sheet bytes) ≡ false) × (k ≤ 64) × (changesAt bytes 1 k ≡ changesOf bytes) × (distinctNames bytes 1 k row.Change ≡ true) × (length (changeNamesAt bytes k) ≡ k)
+sheet-known : (bytes : List ℕ) (s : Sheet) (k : ℕ) → s ≡ sheetOf (exactly sheet bytes) → s ≡ sheet.Whole k → (isBad (exactly sheet bytes) ≡ false) × (k ≤ 64) × (changesAt bytes 1 k ≡ changesOf bytes) × (distinctNames bytes 1 k row.Change ≡ true)
 unfolding changesOf valueOr sheetOf
 sheet-known bytes s k e f = go (exactly sheet bytes) refl (sym e ∙ f)
   where
-    go : (p : Parsed (List Change)) → exactly sheet bytes ≡ p → sheetOf p ≡ sheet.Whole k → (isBad p ≡ false) × (k ≤ 64) × (changesAt bytes 1 k ≡ valueOr [] p) × (distinctNames bytes 1 k row.Change ≡ true) × (length (changeNamesAt bytes k) ≡ k)
+    go : (p : Parsed (List Change)) → exactly sheet bytes ≡ p → sheetOf p ≡ sheet.Whole k → (isBad p ≡ false) × (k ≤ 64) × (changesAt bytes 1 k ≡ valueOr [] p) × (distinctNames bytes 1 k row.Change ≡ true)
     go bad g h = let z : _≡_ {A = ℕ} 0 1 = cc in absurd (omega arith)
     go (good cs m) g h =
-        let (l, p, d, w) = sheet-read bytes cs m g in
+        let (l, p, d) = sheet-read bytes cs m g in
         let q : length cs ≡ k = cc in
-        (refl, omega arith, rw (← q) p, rw (← q) d, rw (← q) w)
+        (refl, omega arith, rw (← q) p, rw (← q) d)
 
 sheet-is-bad : (p : Parsed (List Change)) → sheetOf p ≡ sheet.Broken → isBad p ≡ true
 unfolding sheetOf
@@ -178,7 +180,7 @@ module _ (f : List ℕ) (o : Opening) (held : Held) (e : o ≡ openOf f) (g : o 
   unfolding saveRefusal saveLines
   opened-lines bytes room = opening-pass f _ (opens-passes f (opens .0))
 
-  pub save-bad-sheet : (bytes out : List ℕ) (s : Sheet) → s ≡ sheetOf (exactly sheet bytes) → s ≡ sheet.Broken → outcome (saved.Refused 10) out ≡ saveOf f bytes out
+  pub save-bad-sheet : (bytes out : List ℕ) (s : Sheet) → s ≡ sheetOf (exactly sheet bytes) → s ≡ sheet.Broken → outcome (saved.Refused (plain 10)) out ≡ saveOf f bytes out
   save-bad-sheet bytes out s h i =
       sym (answer-by f bytes out 10 (opened-lines bytes (length out) ∙ line-holds 10 _ _ (sheet-is-bad (exactly sheet bytes) (sym h ∙ i)))
       ∙ answer-refused 10 _ _ out (λ z. omega arith) (λ z. omega arith))
@@ -196,19 +198,16 @@ module _ (f : List ℕ) (o : Opening) (held : Held) (e : o ≡ openOf f) (g : o 
     pub save-apart : distinctNames bytes 1 k row.Change ≡ true
     save-apart = sheet-known bytes s k h i .3
 
-    pub save-whole : length (changeNamesAt bytes k) ≡ k
-    save-whole = sheet-known bytes s k h i .4
-
     look-is : lookedAt f (held .user + 4) (held .«user_tags») bytes k ≡ cond (someConflict (userTags f) (changesOf bytes)) (looked.Conflict (0 + conflictPlace (userTags f) (changesOf bytes))) looked.Agrees
     unfolding lookedAt
     look-is = rw (tags-found .2, sheet-known bytes s k h i .2) (looked-is (userTags f) (changesOf bytes) 0)
 
-    conflict-is : (out : List ℕ) (p : ℕ) → lookedAt f (held .user + 4) (held .«user_tags») bytes k ≡ looked.Conflict p → outcome (saved.Conflict p) out ≡ saveOf f bytes out
+    conflict-is : (out : List ℕ) (p : ℕ) → lookedAt f (held .user + 4) (held .«user_tags») bytes k ≡ looked.Conflict p → outcome (saved.Refused (placed 11 p)) out ≡ saveOf f bytes out
     conflict-is out p b =
         let (c, d) = conflict-some (someConflict (userTags f) (changesOf bytes)) _ p (sym look-is ∙ b) in
         let j : conflictPlace (userTags f) (changesOf bytes) ≡ p = omega arith in
         sym (answer-by f bytes out 11 (opened-lines bytes (length out) ∙ line-pass 10 _ _ (sheet-known bytes s k h i .0) ∙ line-holds 11 _ _ c)
-        ∙ answer-conflict _ _ out ∙ ap (λ (z : ℕ). outcome (saved.Conflict z) out) j)
+        ∙ answer-conflict _ _ out ∙ ap (λ (z : ℕ). outcome (saved.Refused (placed 11 z)) out) j)
 
     applied-is : (out : List ℕ) → lookedAt f (held .user + 4) (held .«user_tags») bytes k ≡ looked.Agrees → appliedIn f (held .user + 4) (held .«user_tags») bytes k out ≡ saveOf f bytes out
     unfolding appliedIn newTable
@@ -228,13 +227,67 @@ module _ (f : List ℕ) (o : Opening) (held : Held) (e : o ≡ openOf f) (g : o 
 
 -- ── The look, and the new table ──
 
-module _ (table : List ℕ) (at n : ℕ) (sheet : List ℕ) (k : ℕ) (ps : List ℕ) (l : Looked) (w : Placed table at n sheet k ps) (e : l ≡ lookedBy table (beside ps (changesAt sheet 1 k)) 0) where
-  pub saved-conflict : (out : List ℕ) (p : ℕ) → l ≡ looked.Conflict p → outcome (saved.Conflict p) out ≡ savedIn table at n sheet k out
-  unfolding savedIn afterLook
-  saved-conflict out p f = sym (rw (← looks table at n sheet k ps w, ← e, f))
+pub answer-of-table : (a : Applied) (n : ℕ) → a ≡ applied.Table n → saved.Table n ≡ answerOf a
+unfolding answerOf
+answer-of-table a n e = rw e
 
-  pub saved-applied : (out o : List ℕ) (r : Saved) → l ≡ looked.Agrees → outcome r o ≡ appliedIn table at n sheet k out → outcome r o ≡ savedIn table at n sheet k out
-  unfolding savedIn afterLook
-  saved-applied out o r f g = g ∙ sym (rw (← looks table at n sheet k ps w, ← e, f))
+pub answer-of-refused : (a : Applied) (n : Refusal) → a ≡ applied.Refused n → saved.Refused n ≡ answerOf a
+unfolding answerOf
+answer-of-refused a n e = rw e
 
-pub ruleset laws = (needs, tags-named, tags-placed, saved-conflict, saved-applied, save-refused, user-fits, save-bad-sheet, save-few, save-behind, save-changes, save-apart, save-whole, save-saved)
+module _ (table : List ℕ) (at : ℕ) (sheet ns₀ ps₀ ns ps : List ℕ) (l : Looked) (b : Begun at sheet ns₀ ps₀) (e : placing ns ps ≡ placedBy table at sheet ns₀ ps₀) (f : l ≡ lookOf table sheet ps) where
+  named : Named table at (length ns₀) sheet (length ps₀) ns
+  named = tags-named table at sheet ns₀ ps₀ ns ps (b .changes) e
+
+  tagsPlaced : Placed table at (length ns₀) sheet (length ps₀) ps
+  tagsPlaced = tags-placed table at sheet ns₀ ps₀ ns ps (b .changes) e (b .behind) (b .blank) (b .apart)
+
+  look-by : l ≡ lookedAt table at (length ns₀) sheet (length ps₀)
+  look-by = f ∙ looks-by table at (length ns₀) sheet (length ps₀) ns ps named tagsPlaced (named-long table at sheet ns₀ ps₀ ns ps (b .changes) e) (places-long table at sheet ns₀ ps₀ ns ps (b .changes) e)
+
+  pub placed-conflict : (out : List ℕ) (p : ℕ) (q : Refusal) → l ≡ looked.Conflict p → q ≡ placed 11 p → outcome (saved.Refused q) out ≡ savedIn table at (length ns₀) sheet (length ps₀) out
+  unfolding savedIn afterLook
+  placed-conflict out p q g e = rw e (sym (rw (← look-by, g)))
+
+  applied-by : (out : List ℕ) → applyOf table at sheet ns ps out ≡ appliedTo (Layout.applied (changesAt sheet 1 (length ps₀)) (tagsAt table at (length ns₀))) out
+  unfolding applyOf
+  applied-by out =
+      let x = named-long table at sheet ns₀ ps₀ ns ps (b .changes) e in
+      let y = places-long table at sheet ns₀ ps₀ ns ps (b .changes) e in
+      let i = b .tags in
+      let j = b .changes in
+      rw (le-ltb mostTags (length ns) (omega arith), le-ltb mostChanges (length ps) (omega arith), tags-by table at (length ns₀) sheet (length ps₀) ns ps named tagsPlaced x y)
+
+  pub placed-applied : (out o : List ℕ) (a : Applied) (r : Saved) → l ≡ looked.Agrees → applying a o ≡ applyOf table at sheet ns ps out → r ≡ answerOf a → outcome r o ≡ savedIn table at (length ns₀) sheet (length ps₀) out
+  unfolding savedIn afterLook appliedIn answered
+  placed-applied out o a r g h k = rw (← look-by, g, k) (ap answered (h ∙ applied-by out))
+
+-- places of no tag and of no change, as many as there are
+tags-long : (n : ℕ) → n ≤ 1000 → length (take n (replicate {A = ℕ} 1000 0)) ≡ n
+tags-long n h = length-take-le n (replicate 1000 0) (rw (length-replicate {A = ℕ} 1000 0) h)
+
+changes-long : (k : ℕ) → k ≤ 64 → length (take k (replicate {A = ℕ} 64 0)) ≡ k
+changes-long k h = length-take-le k (replicate 64 0) (rw (length-replicate {A = ℕ} 64 0) h)
+
+pub tags-count : (n : ℕ) → n ≤ 1000 → n ≡ length (take n (replicate {A = ℕ} 1000 0))
+tags-count n h = sym (tags-long n h)
+
+pub changes-count : (k : ℕ) → k ≤ 64 → k ≡ length (take k (replicate {A = ℕ} 64 0))
+changes-count k h = sym (changes-long k h)
+
+pub begun : (at n : ℕ) (sheet : List ℕ) (k : ℕ) → n ≤ 1000 → k ≤ 64 → 0 < at → distinctNames sheet 1 k row.Change ≡ true → Begun at sheet (take n (replicate 1000 0)) (take k (replicate 64 0))
+begun at n sheet k h j z d =
+    let a = tags-long n h in
+    let b = changes-long k j in
+    record {
+      tags = omega arith;
+      changes = omega arith;
+      behind = z;
+      apart = rw b d;
+      blank = λ c l. getD-take k (replicate 64 0) c 0 (omega arith) ∙ getD-replicate {A = ℕ} 64 c 0 0 (omega arith);
+    }
+
+pub saved-all : (table : List ℕ) (at n : ℕ) (sheet : List ℕ) (k : ℕ) (out o : List ℕ) (r : Saved) → n ≤ 1000 → k ≤ 64 → outcome r o ≡ savedIn table at (length (take n (replicate {A = ℕ} 1000 0))) sheet (length (take k (replicate {A = ℕ} 64 0))) out → outcome r o ≡ savedIn table at n sheet k out
+saved-all table at n sheet k out o r h j e = rw (tags-long n h, changes-long k j) at e
+
+pub ruleset laws = (needs, answer-of-table, answer-of-refused, placed-conflict, placed-applied, tags-count, changes-count, begun, saved-all, save-refused, user-fits, save-bad-sheet, save-few, save-behind, save-changes, save-apart, save-saved)

@@ -4,7 +4,7 @@ use Rattle.browser.proofs.tags_of.Statement.{statement}
 use Rattle.browser.proofs.tags_of.Tie as tie
 use Rattle.browser.proofs.tags_of.Reads as reads
 use Rattle.browser.proofs.tags_of.Lts as lts
-use Rattle.text.proofs.table.Reads as table-reads
+use Rattle.tables.proofs.table.Reads as table-reads
 
 table-requires : tie.Need-table-requires
 table-requires c κs = search needs

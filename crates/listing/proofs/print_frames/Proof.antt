@@ -6,7 +6,7 @@ use Rattle.listing.proofs.print_frames.Reads as reads
 use Rattle.listing.proofs.print_frames.Lts as lts
 use Rattle.listing.proofs.print_frame.Reads as print-frame-reads
 use Rattle.listing.proofs.print_refused.Reads as print-refused-reads
-use Rattle.reading.proofs.frame_of.Reads as frame-of-reads
+use Rattle.items.proofs.frame_of.Reads as frame-of-reads
 
 abbrev Inv-loop : tie.InvT-loop
 Inv-loop file held i₀ i = i ≤ held .frames

@@ -6,7 +6,7 @@ use Rattle.reading.proofs.find.Reads as reads
 use Rattle.reading.proofs.find.Lts as lts
 use Rattle.opening.proofs.open.Reads as open-reads
 use Rattle.opening.proofs.open_refusal.Reads as open-refusal-reads
-use Rattle.reading.proofs.find_of.Reads as find-of-reads
+use Rattle.items.proofs.find_of.Reads as find-of-reads
 
 open-requires : tie.Need-open-requires
 open-requires c κs = search needs

@@ -5,7 +5,7 @@ use Rattle.reading.proofs.frame.Tie as tie
 use Rattle.reading.proofs.frame.Reads as reads
 use Rattle.reading.proofs.frame.Lts as lts
 use Rattle.opening.proofs.open.Reads as open-reads
-use Rattle.reading.proofs.frame_of.Reads as frame-of-reads
+use Rattle.items.proofs.frame_of.Reads as frame-of-reads
 use Rattle.opening.proofs.open_refusal.Reads as open-refusal-reads
 
 open-requires : tie.Need-open-requires

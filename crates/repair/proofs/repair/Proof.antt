@@ -4,8 +4,8 @@ use Rattle.repair.proofs.repair.Statement.{statement}
 use Rattle.repair.proofs.repair.Tie as tie
 use Rattle.repair.proofs.repair.Reads as reads
 use Rattle.repair.proofs.repair.Lts as lts
-use Rattle.opening.proofs.front_refusal.Reads as front-refusal-reads
-use Rattle.opening.proofs.open_front.Reads as open-front-reads
+use Rattle.front.proofs.front_refusal.Reads as front-refusal-reads
+use Rattle.front.proofs.open_front.Reads as open-front-reads
 use Rattle.repair.proofs.opens.Reads as opens-reads
 use Rattle.repair.proofs.repair_frames.Reads as repair-frames-reads
 

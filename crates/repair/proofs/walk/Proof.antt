@@ -4,12 +4,6 @@ use Rattle.repair.specs.Repaired.{walkedFrom, walkedIn}
 use Rattle.repair.proofs.Laws.{laws}
 use Rattle.repair.proofs.walk.Statement.{statement}
 use Rattle.repair.proofs.walk.Tie as tie
-use Rattle.repair.proofs.walk.Reads as reads
-use Rattle.repair.proofs.walk.Lts as lts
-use Rattle.repair.proofs.common_length.Reads as common-length-reads
-use Rattle.number.proofs.read.Reads as read-reads
-use Rattle.opening.proofs.follows_last.Reads as follows-last-reads
-use Rattle.opening.proofs.frame_end.Reads as frame-end-reads
 
 abbrev Inv-loop : tie.InvT-loop
 Inv-loop file sections start first count₀ place₀ last₀ common₀ left₀ count place last common left = (count + left ≤ 1000000) × (walkedFrom file sections first left last count common place ≡ walkedIn file sections start)

@@ -7,11 +7,6 @@ use Rattle.repair.specs.Repaired.{framesIn, alikeIn, entriesIn}
 use Rattle.repair.proofs.Laws.{laws}
 use Rattle.repair.proofs.write_entries.Statement.{statement}
 use Rattle.repair.proofs.write_entries.Tie as tie
-use Rattle.repair.proofs.write_entries.Reads as reads
-use Rattle.repair.proofs.write_entries.Lts as lts
-use Rattle.repair.proofs.next_place.Reads as next-place-reads
-use Rattle.repair.proofs.read_known.Reads as read-known-reads
-use Rattle.repair.proofs.write_entry.Reads as write-entry-reads
 
 abbrev Inv-loop : tie.InvT-loop
 Inv-loop file sections start first count common out₀ place₀ entry₀ left₀ out place entry left = (length out ≡ length out₀) × (entry + 16 * left ≤ length out) × (framesIn file sections left place ≡ left) × (alikeIn file sections common left place ≡ true) × (sets out entry (entriesIn file sections first left place) ≡ sets out₀ 4 (entriesIn file sections first count start))
@@ -25,11 +20,11 @@ loop-holds c = search laws
 next-place-requires : tie.Need-next-place-requires Inv-loop μ-loop
 next-place-requires c κs = search laws
 
-add-read-known : tie.Need-add-read-known Inv-loop μ-loop
-add-read-known c = search laws
+add-read : tie.Need-add-read Inv-loop μ-loop
+add-read c = search laws
 
-read-known-requires : tie.Need-read-known-requires Inv-loop μ-loop
-read-known-requires c κs = search laws
+read-requires : tie.Need-read-requires Inv-loop μ-loop
+read-requires c κs = search laws
 
 sub-write-entry : tie.Need-sub-write-entry Inv-loop μ-loop
 sub-write-entry c = search laws
@@ -63,8 +58,8 @@ write-entries-spec =
     μ-loop
     loop-holds
     next-place-requires
-    add-read-known
-    read-known-requires
+    add-read
+    read-requires
     sub-write-entry
     write-entry-requires
     add-entry

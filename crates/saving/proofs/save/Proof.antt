@@ -6,7 +6,7 @@ use Rattle.saving.proofs.save.Reads as reads
 use Rattle.saving.proofs.save.Lts as lts
 use Rattle.opening.proofs.open.Reads as open-reads
 use Rattle.opening.proofs.open_refusal.Reads as open-refusal-reads
-use Rattle.saving.proofs.changes_of.Reads as changes-of-reads
+use Rattle.sheet.proofs.changes_of.Reads as changes-of-reads
 use Rattle.saving.proofs.save_changes.Reads as save-changes-reads
 
 open-requires : tie.Need-open-requires

@@ -22,7 +22,7 @@ first-after-requires : tie.Need-first-after-requires
 first-after-requires c κs = search needs
 
 write-frame-requires : tie.Need-write-frame-requires
-write-frame-requires c κs = search laws
+write-frame-requires c κs = search needs
 
 since-requires : tie.Need-since-requires
 since-requires c κs = search needs

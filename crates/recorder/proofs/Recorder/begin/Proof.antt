@@ -1,49 +1,56 @@
 use Rattle.recorder.proofs.Laws.{laws}
-use borrow.Author.Needs.{needs}
 use Rattle.recorder.proofs.Recorder.begin.Statement.{statement}
 use Rattle.recorder.proofs.Recorder.begin.Tie as tie
 
-begin-refusal-requires : tie.Need-begin-refusal-requires
-begin-refusal-requires c κs = search needs
+is-fresh-requires : tie.Need-is-fresh-requires
+is-fresh-requires c κs = search laws
 
 returns : tie.Need-returns
 returns c = search laws
 
-system-place-requires : tie.Need-system-place-requires
-system-place-requires c κs = search laws
+first-piece-requires : tie.Need-first-piece-requires
+first-piece-requires c κs = search laws
 
-add-length : tie.Need-add-length
-add-length c = search laws
+enum-known-first : tie.Need-enum-known-first
+enum-known-first c = search laws
 
-write-front-requires : tie.Need-write-front-requires
-write-front-requires c κs = search laws
+enum-told : tie.Need-enum-told
+enum-told c = search laws
 
-write-requires : tie.Need-write-requires
-write-requires c κs = search needs
-
-count-of-requires : tie.Need-count-of-requires
-count-of-requires c κs = search needs
+piece-refusal-requires : tie.Need-piece-refusal-requires
+piece-refusal-requires c κs = search laws
 
 same-length : tie.Need-same-length
-same-length c = search needs
-
-same-length-2 : tie.Need-same-length-2
-same-length-2 c = search needs
+same-length c = search laws
 
 returns-2 : tie.Need-returns-2
 returns-2 c = search laws
+
+write-requires : tie.Need-write-requires
+write-requires c κs = search laws
+
+same-length-2 : tie.Need-same-length-2
+same-length-2 c = search laws
+
+same-length-3 : tie.Need-same-length-3
+same-length-3 c = search laws
+
+returns-3 : tie.Need-returns-3
+returns-3 c = search laws
 
 pub begin-spec : {M : Type 1} → statement M
 begin-spec =
     tie.close
     (tie.spec
-    begin-refusal-requires
+    is-fresh-requires
     returns
-    system-place-requires
-    add-length
-    write-front-requires
-    write-requires
-    count-of-requires
+    first-piece-requires
+    enum-known-first
+    enum-told
+    piece-refusal-requires
     same-length
+    returns-2
+    write-requires
     same-length-2
-    returns-2)
+    same-length-3
+    returns-3)

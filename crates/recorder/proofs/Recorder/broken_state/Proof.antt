@@ -3,51 +3,18 @@ use borrow.Author.Needs.{needs}
 use Rattle.recorder.proofs.Recorder.broken_state.Statement.{statement}
 use Rattle.recorder.proofs.Recorder.broken_state.Tie as tie
 
-returns : tie.Need-returns
-returns c = search laws
-
-returns-2 : tie.Need-returns-2
-returns-2 c = search laws
-
-returns-3 : tie.Need-returns-3
-returns-3 c = search laws
-
-piece-of-requires : tie.Need-piece-of-requires
-piece-of-requires c κs = search needs
-
-returns-4 : tie.Need-returns-4
-returns-4 c = search laws
-
 pattern-of-requires : tie.Need-pattern-of-requires
 pattern-of-requires c κs = search needs
 
 pattern-of-requires-2 : tie.Need-pattern-of-requires-2
 pattern-of-requires-2 c κs = search needs
 
-follows-last-requires : tie.Need-follows-last-requires
-follows-last-requires c κs = search needs
+broken-requires : tie.Need-broken-requires
+broken-requires c κs = search laws
 
-returns-5 : tie.Need-returns-5
-returns-5 c = search laws
-
-too-long-requires : tie.Need-too-long-requires
-too-long-requires c κs = search needs
-
-returns-6 : tie.Need-returns-6
-returns-6 c = search laws
+returns : tie.Need-returns
+returns c = search laws
 
 pub broken-state-spec : {M : Type 1} → statement M
 broken-state-spec =
-    tie.close
-    (tie.spec
-    returns
-    returns-2
-    returns-3
-    piece-of-requires
-    returns-4
-    pattern-of-requires
-    pattern-of-requires-2
-    follows-last-requires
-    returns-5
-    too-long-requires
-    returns-6)
+    tie.close (tie.spec pattern-of-requires pattern-of-requires-2 broken-requires returns)

@@ -1,0 +1,4 @@
+pub mod Sizes
+pub mod Stores
+pub mod Applies
+pub mod Outcomes

@@ -1,0 +1,4 @@
+pub mod Front
+pub mod Pieces
+pub mod Laws
+pub mod Outcomes

@@ -1,0 +1,19 @@
+use Rattle.frames.proofs.Times.{entry-laws}
+use borrow.Author.Needs.{needs}
+use Rattle.frames.proofs.since.Statement.{statement}
+use Rattle.frames.proofs.since.Tie as tie
+
+rank-of-requires : tie.Need-rank-of-requires
+rank-of-requires c κs = search needs
+
+rank-of-requires-2 : tie.Need-rank-of-requires-2
+rank-of-requires-2 c κs = search needs
+
+returns : tie.Need-returns
+returns c = search entry-laws
+
+returns-2 : tie.Need-returns-2
+returns-2 c = search entry-laws
+
+pub since-spec : {M : Type 1} → statement M
+since-spec = tie.close (tie.spec rank-of-requires rank-of-requires-2 returns returns-2)

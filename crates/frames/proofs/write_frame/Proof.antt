@@ -1,0 +1,44 @@
+use Rattle.frames.proofs.Writing.{laws}
+use Rattle.frames.proofs.write_frame.Statement.{statement}
+use Rattle.frames.proofs.write_frame.Tie as tie
+
+returns : tie.Need-returns
+returns c = search laws
+
+sub-if2 : tie.Need-sub-if2
+sub-if2 c = search laws
+
+returns-2 : tie.Need-returns-2
+returns-2 c = search laws
+
+write-requires : tie.Need-write-requires
+write-requires c κs = search laws
+
+write-requires-2 : tie.Need-write-requires-2
+write-requires-2 c κs = search laws
+
+write-requires-3 : tie.Need-write-requires-3
+write-requires-3 c κs = search laws
+
+copy-requires : tie.Need-copy-requires
+copy-requires c κs = search laws
+
+same-length : tie.Need-same-length
+same-length c = search laws
+
+returns-3 : tie.Need-returns-3
+returns-3 c = search laws
+
+pub write-frame-spec : {M : Type 1} → statement M
+write-frame-spec =
+    tie.close
+    (tie.spec
+    returns
+    sub-if2
+    returns-2
+    write-requires
+    write-requires-2
+    write-requires-3
+    copy-requires
+    same-length
+    returns-3)

@@ -1,0 +1,48 @@
+use Rattle.frames.proofs.Writing.{laws}
+use Rattle.frames.proofs.write_note.Statement.{statement}
+use Rattle.frames.proofs.write_note.Tie as tie
+
+mul-entry : tie.Need-mul-entry
+mul-entry c = search laws
+
+sub-entry : tie.Need-sub-entry
+sub-entry c = search laws
+
+write-requires : tie.Need-write-requires
+write-requires c κs = search laws
+
+write-requires-2 : tie.Need-write-requires-2
+write-requires-2 c κs = search laws
+
+add-write : tie.Need-add-write
+add-write c = search laws
+
+write-requires-3 : tie.Need-write-requires-3
+write-requires-3 c κs = search laws
+
+add-write-2 : tie.Need-add-write-2
+add-write-2 c = search laws
+
+write-requires-4 : tie.Need-write-requires-4
+write-requires-4 c κs = search laws
+
+same-length : tie.Need-same-length
+same-length c = search laws
+
+returns : tie.Need-returns
+returns c = search laws
+
+pub write-note-spec : {M : Type 1} → statement M
+write-note-spec =
+    tie.close
+    (tie.spec
+    mul-entry
+    sub-entry
+    write-requires
+    write-requires-2
+    add-write
+    write-requires-3
+    add-write-2
+    write-requires-4
+    same-length
+    returns)

@@ -1,0 +1,6 @@
+pub mod Definitions
+pub mod Line3
+pub mod Fronts
+pub mod Passed
+pub mod Laws
+pub mod Outcomes

@@ -1,0 +1,65 @@
+use Rattle.front.proofs.Fronts.{laws}
+use borrow.Author.Needs.{needs}
+use Rattle.front.proofs.open_front.Statement.{statement}
+use Rattle.front.proofs.open_front.Tie as tie
+
+not-fstf-requires : tie.Need-not-fstf-requires
+not-fstf-requires c κs = search needs
+
+returns : tie.Need-returns
+returns c = search laws
+
+other-revision-requires : tie.Need-other-revision-requires
+other-revision-requires c κs = search needs
+
+returns-2 : tie.Need-returns-2
+returns-2 c = search laws
+
+sections-in-requires : tie.Need-sections-in-requires
+sections-in-requires c κs = search needs
+
+enum-known-defined : tie.Need-enum-known-defined
+enum-known-defined c = search needs
+
+enum-told : tie.Need-enum-told
+enum-told c = search needs
+
+returns-3 : tie.Need-returns-3
+returns-3 c = search laws
+
+parse-requires : tie.Need-parse-requires
+parse-requires c κs = search needs
+
+system-table-requires : tie.Need-system-table-requires
+system-table-requires c κs = search needs
+
+enum-known-table : tie.Need-enum-known-table
+enum-known-table c = search needs
+
+enum-told-2 : tie.Need-enum-told-2
+enum-told-2 c = search needs
+
+returns-4 : tie.Need-returns-4
+returns-4 c = search laws
+
+returns-5 : tie.Need-returns-5
+returns-5 c = search laws
+
+pub open-front-spec : {M : Type 1} → statement M
+open-front-spec =
+    tie.close
+    (tie.spec
+    not-fstf-requires
+    returns
+    other-revision-requires
+    returns-2
+    sections-in-requires
+    enum-known-defined
+    enum-told
+    returns-3
+    parse-requires
+    system-table-requires
+    enum-known-table
+    enum-told-2
+    returns-4
+    returns-5)

@@ -1,0 +1,123 @@
+-- "No lent byte changes and the recorder's state comes back equal": what each refused call leaves, and that it answers nothing but its number.
+-- Assumes nothing.
+use Prim.Native.Nat.{ℕ, zero, suc}
+use native.Mathlib.Omega.{arith}
+use mathlib.Core.Path.{_≡_, refl, ap}
+use mathlib.Core.List.{List, []}
+use lib.ListN.{length}
+use lib.Dec.{eqb}
+use borrow.Author.Tests.{eq-eqb, ne-eqb}
+use Rattle.layout.specs.Recording.{Tag}
+use Rattle.layout.specs.Opening.{firstOf}
+use Rattle.layout.specs.Recorder.{State, piece, Step, filled, answer, beginLines, begin, addLines, add, closeLines, close}
+use Rattle.layout.specs.Repair.{Repair, repairRefusal, repairAnswer, repair}
+use Rattle.layout.specs.Saving.{changesOf, conflictPlace, userTags, saveRefusal, saveAnswer, save}
+use Rattle.layout.proofs.Lists.{cond-true, cond-false}
+
+-- an output into which nothing is filled
+pub filled-none : (out : List ℕ) → filled out [] ≡ out
+unfolding filled
+filled-none out = refl
+
+-- ── The recorder ──
+
+-- what a refused call of the recorder leaves: the state, the notes and the output as they were given, and no piece
+pub record Untouched (step : Step) (st : State) (notes out : List ℕ) : Type 0 where
+  pub sameState : step .state ≡ st
+  pub sameNotes : step .notes ≡ notes
+  pub sameOutput : filled out (step .piece .bytes) ≡ out
+  pub noPiece : step .piece ≡ piece 0 []
+
+-- the number is the order's
+answer-number : (m : ℕ) (st : State) (notes : List ℕ) (step : Step) → step .refused ≡ 0 → answer m st notes step .refused ≡ m
+unfolding answer
+answer-number zero st notes step e = e
+answer-number (suc m) st notes step e = refl
+
+answer-untouched : (m n : ℕ) (st : State) (notes out : List ℕ) (step : Step) → step .refused ≡ 0 → answer m st notes step .refused ≡ suc n → Untouched (answer m st notes step) st notes out
+unfolding answer
+answer-untouched zero n st notes out step e h = absurd (omega (arith, e, h))
+answer-untouched (suc m) n st notes out step e h = record { sameState = refl; sameNotes = refl; sameOutput = filled-none out; noPiece = refl }
+
+-- To begin, to add and to close answer the number of their order,
+pub begin-number : (st : State) (setUp system notes : List ℕ) (room : ℕ)
+    → begin st setUp system notes room .refused ≡ firstOf (beginLines st setUp system notes room)
+unfolding begin
+begin-number st setUp system notes room = answer-number _ st notes _ refl
+
+pub add-number : (st : State) (time exposure : ℕ) (sections notes : List ℕ) (room : ℕ)
+    → add st time exposure sections notes room .refused ≡ firstOf (addLines st time exposure sections notes room)
+unfolding add
+add-number st time exposure sections notes room = answer-number _ st notes _ refl
+
+pub close-number : (st : State) (notes : List ℕ) (room : ℕ) → close st notes room .refused ≡ firstOf (closeLines st notes room)
+unfolding close
+close-number st notes room = answer-number _ st notes _ refl
+
+-- and refused, whatever the number, they leave all as it was.
+pub begin-refused : (st : State) (setUp system notes out : List ℕ) (n : ℕ)
+    → begin st setUp system notes (length out) .refused ≡ suc n
+    → Untouched (begin st setUp system notes (length out)) st notes out
+unfolding begin
+begin-refused st setUp system notes out n h = answer-untouched _ n st notes out _ refl h
+
+pub add-refused : (st : State) (time exposure : ℕ) (sections notes out : List ℕ) (n : ℕ)
+    → add st time exposure sections notes (length out) .refused ≡ suc n
+    → Untouched (add st time exposure sections notes (length out)) st notes out
+unfolding add
+add-refused st time exposure sections notes out n h = answer-untouched _ n st notes out _ refl h
+
+pub close-refused : (st : State) (notes out : List ℕ) (n : ℕ)
+    → close st notes (length out) .refused ≡ suc n
+    → Untouched (close st notes (length out)) st notes out
+unfolding close
+close-refused st notes out n h = answer-untouched _ n st notes out _ refl h
+
+-- ── Repair ──
+
+-- Repair answers the number of its order;
+pub repair-number : (f : List ℕ) (room : ℕ) → repair f room .refused ≡ repairRefusal f room
+unfolding repair repairAnswer
+repair-number f room = go (repairRefusal f room) _ refl
+  where
+    go : (m : ℕ) (r : Repair) → r .refused ≡ 0 → repairAnswer m r .refused ≡ m
+    go zero r e = e
+    go (suc m) r e = refl
+
+-- refused, it names no kept length and no header field, has no tail, and leaves the output as it was.
+pub repair-refused : (f out : List ℕ) (n : ℕ)
+    → repair f (length out) .refused ≡ suc n
+    → (repair f (length out) ≡ record { refused = suc n; kept = 0; count = 0; index = 0; user = 0; tail = [] })
+    × (filled out (repair f (length out) .tail) ≡ out)
+unfolding repair repairAnswer
+repair-refused f out n h = go (repairRefusal f (length out)) _ refl h
+  where
+    go : (m : ℕ) (r : Repair) → r .refused ≡ 0 → repairAnswer m r .refused ≡ suc n → (repairAnswer m r ≡ record { refused = suc n; kept = 0; count = 0; index = 0; user = 0; tail = [] }) × (filled out (repairAnswer m r .tail) ≡ out)
+    go zero r e k = absurd (omega (arith, e, k))
+    go (suc m) r e k = (ap {B = Repair} (λ (i : ℕ). record { refused = i; kept = 0; count = 0; index = 0; user = 0; tail = [] }) k, filled-none out)
+
+-- ── Saving ──
+
+-- A save answers the number of its order;
+pub save-number : (f sheet : List ℕ) (room : ℕ) → save f sheet room .refused ≡ saveRefusal f sheet room
+unfolding save saveAnswer
+save-number f sheet room = go (saveRefusal f sheet room) _ _
+  where
+    go : (m place : ℕ) (ts : List Tag) → saveAnswer m place ts .refused ≡ m
+    go zero place ts = refl
+    go (suc m) place ts = refl
+
+-- refused, it has no table and leaves the output as it was; "11 also its place", any other number none.
+pub save-refused : (f sheet out : List ℕ) (n : ℕ)
+    → save f sheet (length out) .refused ≡ suc n
+    → (save f sheet (length out) .table ≡ [])
+    × (filled out (save f sheet (length out) .table) ≡ out)
+    × (suc n ≡ 11 → save f sheet (length out) .place ≡ conflictPlace (userTags f) (changesOf sheet))
+    × ((suc n ≡ 11 → ⊥) → save f sheet (length out) .place ≡ 0)
+unfolding save saveAnswer
+save-refused f sheet out n h = go (saveRefusal f sheet (length out)) _ _ h
+  where
+    go : (m place : ℕ) (ts : List Tag) → saveAnswer m place ts .refused ≡ suc n → (saveAnswer m place ts .table ≡ []) × (filled out (saveAnswer m place ts .table) ≡ out) × (suc n ≡ 11 → saveAnswer m place ts .place ≡ place) × ((suc n ≡ 11 → ⊥) → saveAnswer m place ts .place ≡ 0)
+    go zero place ts k = absurd (omega (arith, k))
+    go (suc m) place ts k =
+        (refl, filled-none out, λ e. cond-true (eqb (suc m) 11) place 0 (eq-eqb (suc m) 11 (omega (arith, k, e))), λ d. cond-false (eqb (suc m) 11) place 0 (ne-eqb (suc m) 11 (λ e. d (omega (arith, k, e)))))

@@ -1,0 +1,128 @@
+-- The look: what a table has under a name, and whether what was seen agrees with it.
+-- Assumes nothing.
+use Prim.Native.Nat.{ℕ, _+_, _-_, _^_, _<_, _≤_}
+use native.Mathlib.Omega.{arith}
+use mathlib.Core.Path.{_≡_, refl, sym, _∙_}
+use mathlib.Core.Bool.{Bool, true, false, not, cond}
+use mathlib.Core.List.{List}
+use lib.ListN.{length, take, drop, getD}
+use borrow.Author.Needs.{needs}
+use borrow.Author.Tests.{lt-ltb, le-ltb, ne-eqb}
+use mir.Syntax.{w64}
+use mir.Val.{Fits}
+use Rattle.layout.specs.Reading.{good, number, string}
+use Rattle.layout.specs.Saving.{Entry, sameEntry, agrees}
+use Rattle.parts.specs.Parts.{samePart}
+use Rattle.rows.specs.Rows.{entry, rest, rowName, rowOf}
+use Rattle.rows.specs.declared.Row.the-variants as row
+use Rattle.rows.specs.declared.RowPlace.{RowPlace}
+use Rattle.rows.specs.declared.RowPlace.the-variants as rowPlace
+use Rattle.names.proofs.Laws.{name-other, name-same, row-name-place}
+use Rattle.parts.proofs.Taken.{then-parts}
+use Rattle.tables.proofs.Places.{number-parts}
+use Rattle.sheet.specs.Rows.{rowWith, tagWithName, changeWithName, changesAt, tagHolds, beside}
+use Rattle.sheet.specs.Values.{entryValue, valueIn, Stands, Finds}
+use Rattle.look.specs.Look.{isNothing, tagEntry, differs, lookedBy, lookOf}
+use Rattle.sheet.specs.declared.Value.{Value}
+use Rattle.sheet.specs.declared.Value.the-variants as value
+use Rattle.look.specs.declared.Looked.{Looked}
+use Rattle.look.specs.declared.Looked.the-variants as looked
+use Rattle.sheet.proofs.Values.{string-stands, first-of, entry-finds, row-rest, row-fits-2, tag-row-broken, tag-row-value, tag-row-end, tag-fits-3}
+use Rattle.sheet.proofs.Rows.{beside-done, beside-stop, beside-step}
+
+-- ── What a tag holds ──
+
+pub look-none : (s : List ℕ) (tag : ℕ) → tag ≡ 0 → Finds s value.Nothing (tagEntry s tag)
+unfolding tagEntry valueIn Stands
+look-none s tag e = record { found = rw e; there = refl }
+
+pub look-there : (s : List ℕ) (tag : ℕ) (v : Value) → (tag ≡ 0 → ⊥) → Finds s v (tagHolds (rowWith row.Tag tagWithName (drop tag s))) → Finds s v (tagEntry s tag)
+unfolding tagEntry
+look-there s tag v h g = rw (ne-eqb tag 0 h) g
+
+-- ── Equal values ──
+
+pub at-is-something : (v : Value) (p n : ℕ) → v ≡ value.At p n → false ≡ isNothing v
+unfolding isNothing
+at-is-something v p n e = rw e
+
+pub nothing-is-nothing : (v : Value) → v ≡ value.Nothing → true ≡ isNothing v
+unfolding isNothing
+nothing-is-nothing v e = rw e
+
+pub same-nothing : (a b : List ℕ) (one other : Value) (r : Bool) → one ≡ value.Nothing → r ≡ isNothing other → r ≡ sameEntry (valueIn a one) (valueIn b other)
+unfolding isNothing sameEntry valueIn
+same-nothing a b one value.Nothing r e f = rw e f
+same-nothing a b one (value.At q m) r e f = rw e f
+
+pub same-missing : (a b : List ℕ) (one other : Value) (p n : ℕ) → one ≡ value.At p n → other ≡ value.Nothing → false ≡ sameEntry (valueIn a one) (valueIn b other)
+unfolding sameEntry valueIn
+same-missing a b one other p n e f = rw (e, f)
+
+-- a value that stands somewhere is all there
+pub stands-there : (s : List ℕ) (v : Value) (p n : ℕ) → Stands s v → v ≡ value.At p n → p + 1 + n ≤ length s
+unfolding Stands
+stands-there s v p n h e =
+    let k : string (drop p s) ≡ good (take n (drop (p + 1) s)) (1 + n) = rw e at h in
+    string-stands s p (1 + n) (take n (drop (p + 1) s)) k (λ a b c. omega arith)
+
+pub stands-fits : (s : List ℕ) (v : Value) (p n : ℕ) → length s < 2 ^ 64 → Stands s v → v ≡ value.At p n → Fits w64 (p + 1)
+stands-fits s v p n h k e = let l = stands-there s v p n k e in record { fits = omega arith }
+
+pub same-longer : (a b : List ℕ) (one other : Value) (p n q m : ℕ) → Stands a one → Stands b other → one ≡ value.At p n → other ≡ value.At q m → (n ≡ m → ⊥) → false ≡ sameEntry (valueIn a one) (valueIn b other)
+unfolding sameEntry valueIn
+same-longer a b one other p n q m h k e f w =
+    rw (e, f) (name-other a b (p + 1) n (q + 1) m (stands-there a one p n h e) (stands-there b other q m k f) w)
+
+pub same-bytes : (a b : List ℕ) (one other : Value) (p n q m : ℕ) (r : Bool) → Stands a one → Stands b other → one ≡ value.At p n → other ≡ value.At q m → n ≡ m → r ≡ samePart a (p + 1) b (q + 1) n → r ≡ sameEntry (valueIn a one) (valueIn b other)
+unfolding sameEntry valueIn
+same-bytes a b one other p n q m r h k e f w g =
+    rw (e, f) (name-same a b (p + 1) n (q + 1) m r (stands-there a one p n h e) (stands-there b other q m k f) w g)
+
+-- ── One change ──
+
+pub nobody-looked : (had : Entry) (name s : List ℕ) (at : ℕ) → 1 < getD s at 0 → false ≡ differs had (changeWithName name (drop at s))
+unfolding differs changeWithName agrees
+nobody-looked had name s at k = rw (first-of s at, lt-ltb 1 (getD s at 0) k)
+
+pub entry-stands : (s : List ℕ) (at : ℕ) (v : Value) → v ≡ entryValue s at → Stands s v
+entry-stands s at v e = entry-finds s at v e .there
+
+pub looked-at : (had : Entry) (name s table : List ℕ) (at : ℕ) (v o : Value) (r : Bool) → getD s at 0 ≤ 1 → v ≡ entryValue s at → Finds table o had → r ≡ sameEntry (valueIn s v) (valueIn table o) → not r ≡ differs had (changeWithName name (drop at s))
+unfolding differs changeWithName agrees
+looked-at had name s table at v o r k f g e = let w = entry-finds s at v f in rw (first-of s at, le-ltb 1 (getD s at 0) k, ← w .found, ← g .found, ← e)
+
+-- ── All changes ──
+
+-- the kind byte of a change that is there
+pub kind-there : (s : List ℕ) (at len end : ℕ) (r : RowPlace) → r ≡ rowOf at (rowName row.Change (drop at s)) → r ≡ rowPlace.Whole len end → at + 1 + len < length s
+unfolding rest entry
+kind-there s at len end r e f =
+    row-rest row.Change s at len end (sym e ∙ f) (λ x m l p q o.
+    then-parts entry (λ seen. entry) (drop (at + 1 + len) s) x m q (λ y a b g h i.
+    then-parts (number 1) _ (drop (at + 1 + len) s) y a g (λ kind c d j u w.
+    let z = number-parts 1 s (at + 1 + len) kind c (omega arith) (omega arith) j .0 in omega arith)))
+
+pub looked-start : (table sheet ps : List ℕ) → lookedBy table (beside ps (changesAt sheet 1 (length ps))) 0 ≡ lookOf table sheet ps
+unfolding lookOf
+looked-start table sheet ps = refl
+
+pub looked-done : (table ps s : List ℕ) (at left i : ℕ) (all : Looked) → left ≤ 0 → lookedBy table (beside (drop i ps) (changesAt s at left)) i ≡ all → looked.Agrees ≡ all
+unfolding lookedBy
+looked-done table ps s at left i all h e = sym (rw (beside-done (rowWith row.Change changeWithName) ps s i at left h)) ∙ e
+
+pub looked-stop : (table ps s : List ℕ) (at left i : ℕ) (r : RowPlace) (all : Looked) → r ≡ rowOf at (rowName row.Change (drop at s)) → r ≡ rowPlace.Broken → lookedBy table (beside (drop i ps) (changesAt s at left)) i ≡ all → looked.Agrees ≡ all
+unfolding lookedBy
+looked-stop table ps s at left i r all f g e = sym (rw (beside-stop row.Change changeWithName ps s i at left r f g)) ∙ e
+
+looked-one : (table ps s : List ℕ) (at left len end i : ℕ) (r : RowPlace) → 0 < left → i + left ≤ length ps → r ≡ rowOf at (rowName row.Change (drop at s)) → r ≡ rowPlace.Whole len end → lookedBy table (beside (drop i ps) (changesAt s at left)) i ≡ cond (differs (tagEntry table (getD ps i 0)) (changeWithName (take len (drop (at + 1) s)) (drop (at + 1 + len) s))) (looked.Conflict i) (lookedBy table (beside (drop (i + 1) ps) (changesAt s end (left - 1))) (i + 1))
+unfolding lookedBy
+looked-one table ps s at left len end i r h l f g = rw (beside-step row.Change changeWithName ps s i at left len end r h l f g)
+
+pub looked-hit : (table ps s : List ℕ) (at left len end i : ℕ) (r : RowPlace) (d : Bool) (all : Looked) → 0 < left → i + left ≤ length ps → r ≡ rowOf at (rowName row.Change (drop at s)) → r ≡ rowPlace.Whole len end → d ≡ differs (tagEntry table (getD ps i 0)) (changeWithName (take len (drop (at + 1) s)) (drop (at + 1 + len) s)) → d ≡ true → lookedBy table (beside (drop i ps) (changesAt s at left)) i ≡ all → looked.Conflict i ≡ all
+looked-hit table ps s at left len end i r d all h l f g j k e = sym (looked-one table ps s at left len end i r h l f g ∙ rw (← j, k)) ∙ e
+
+pub looked-step : (table ps s : List ℕ) (at left len end i : ℕ) (r : RowPlace) (d : Bool) (all : Looked) → 0 < left → i + left ≤ length ps → r ≡ rowOf at (rowName row.Change (drop at s)) → r ≡ rowPlace.Whole len end → d ≡ differs (tagEntry table (getD ps i 0)) (changeWithName (take len (drop (at + 1) s)) (drop (at + 1 + len) s)) → d ≡ false → lookedBy table (beside (drop i ps) (changesAt s at left)) i ≡ all → lookedBy table (beside (drop (i + 1) ps) (changesAt s end (left - 1))) (i + 1) ≡ all
+looked-step table ps s at left len end i r d all h l f g j k e = sym (looked-one table ps s at left len end i r h l f g ∙ rw (← j, k)) ∙ e
+
+pub ruleset laws = (needs, row-name-place, row-fits-2, tag-row-broken, tag-row-value, tag-row-end, tag-fits-3, look-none, look-there, at-is-something, nothing-is-nothing, same-nothing, same-missing, stands-fits, same-longer, same-bytes, nobody-looked, looked-at, entry-stands, kind-there, looked-start, looked-done, looked-stop, looked-hit, looked-step)

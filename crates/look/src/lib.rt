@@ -1,0 +1,100 @@
+// The look: whether the seen entries of a sheet agree with a table.
+use rows::Row;
+use rows::RowPlace;
+use sheet::Value;
+ghost use mathlib.Core.Path.{_≡_};
+ghost use Prim.Native.Nat.{_+_, _<_};
+ghost use lib.ListN.{length, take, drop};
+ghost use Rattle.layout.specs.Saving.{sameEntry};
+ghost use Rattle.sheet.specs.Rows.{rowWith, tagWithName, changeWithName, tagHolds};
+ghost use Rattle.sheet.specs.Values.{valueIn, Stands, Finds};
+ghost use Rattle.look.specs.Look.{isNothing, tagEntry, differs, lookOf};
+
+// Whether the seen entries agree with the table, or the lowest place that does not, from 0.
+pub enum Looked {
+    Agrees,
+    Conflict(usize),
+}
+
+// The value of the tag at a place.
+fn held_value(table: &[u8], place: usize) -> Value
+    ensures { λ r. ⌜ Finds (now (table .entry)) r (tagHolds (rowWith Row.Tag tagWithName (drop place (now (table .entry))))) ⌝ }
+{
+    let row = rows::row_at(table, place, Row::Tag);
+    let RowPlace::Whole(len, end) = row else {
+        return Value::Nothing;
+    };
+    Value::At(place + 1 + len, end - (place + 1 + len + 1))
+}
+
+// What the tag at a place holds, or nothing for place 0.
+fn look_up(table: &[u8], tag: usize) -> Value
+    ensures { λ r. ⌜ Finds (now (table .entry)) r (tagEntry (now (table .entry)) tag) ⌝ }
+{
+    if tag == 0 {
+        return Value::Nothing;
+    }
+    held_value(table, tag)
+}
+
+// Whether two values are the same, or both are absent.
+fn same_value(a: &[u8], one: Value, b: &[u8], other: Value) -> bool
+    requires { ⌜ Stands (now a) one × Stands (now b) other ⌝ }
+    ensures { λ r. ⌜ r ≡ sameEntry (valueIn (now (a .entry)) one) (valueIn (now (b .entry)) other) ⌝ }
+{
+    let Value::At(here, n) = one else {
+        return is_nothing(other);
+    };
+    let Value::At(there, m) = other else {
+        return false;
+    };
+    if n != m {
+        return false;
+    }
+    parts::equal(a, here + 1, b, there + 1, n)
+}
+
+fn is_nothing(value: Value) -> bool
+    ensures { λ r. ⌜ r ≡ isNothing value ⌝ }
+{
+    match value {
+        Value::At(_, _) => false,
+        Value::Nothing => true,
+    }
+}
+
+// Whether what a change has seen is not what the tag at a place holds.
+fn disagrees(sheet: &[u8], place: usize, len: usize, table: &[u8], tag: usize) -> bool
+    requires { ⌜ place + 1 + len < length (now sheet) ⌝ }
+    ensures { λ r. ⌜ r ≡ differs (tagEntry (now (table .entry)) tag) (changeWithName (take len (drop (place + 1) (now (sheet .entry)))) (drop (place + 1 + len) (now (sheet .entry)))) ⌝ }
+{
+    let seen = place + 1 + len;
+    if 1 < sheet[seen] {
+        return false;
+    }
+    let value = sheet::entry_value(sheet, seen);
+    let old = look_up(table, tag);
+    !same_value(sheet, value, table, old)
+}
+
+// "All seen entries are compared with the table before the save." `places` has for each change where its tag stands, or 0.
+pub fn compare(table: &[u8], sheet: &[u8], places: &[usize]) -> Looked
+    ensures { λ r. ⌜ r ≡ lookOf (now (table .entry)) (now (sheet .entry)) (now (places .entry)) ⌝ }
+{
+    let mut place = 1;
+    let mut passed = 0;
+    let mut left = places.len();
+    while 0 < left {
+        let row = rows::row_at(sheet, place, Row::Change);
+        let RowPlace::Whole(len, end) = row else {
+            return Looked::Agrees;
+        };
+        if disagrees(sheet, place, len, table, places[passed]) {
+            return Looked::Conflict(passed);
+        }
+        place = end;
+        passed += 1;
+        left -= 1;
+    }
+    Looked::Agrees
+}

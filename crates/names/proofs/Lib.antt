@@ -1,0 +1,5 @@
+pub mod Laws
+pub mod Marked
+pub mod Readers
+pub mod Finding
+pub mod Outcomes

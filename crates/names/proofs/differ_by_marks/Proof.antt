@@ -1,0 +1,97 @@
+use Prim.Native.Nat.{_+_}
+use mathlib.Core.Path.{_≡_}
+use lib.ListN.{length}
+use Rattle.names.proofs.Marked.{Passed, laws}
+use Rattle.names.proofs.differ_by_marks.Statement.{statement}
+use Rattle.names.proofs.differ_by_marks.Tie as tie
+use Rattle.names.proofs.differ_by_marks.Reads as reads
+use Rattle.names.proofs.differ_by_marks.Lts as lts
+use Rattle.marks.proofs.mark.Reads as mark-reads
+use Rattle.marks.proofs.mark_of.Reads as mark-of-reads
+use Rattle.rows.proofs.row_at.Reads as row-at-reads
+use Rattle.names.proofs.stands_in.Reads as stands-in-reads
+
+abbrev Inv-loop : tie.InvT-loop
+Inv-loop s at n row marked₀ place₀ passed₀ left₀ marked place passed left = (passed + left ≡ n) × (length marked ≡ 512) × Passed marked s row at passed place
+
+abbrev μ-loop : tie.MeasureT-loop
+μ-loop s at n row marked₀ place₀ passed₀ left₀ marked place passed left = left
+
+loop-holds : tie.Need-loop-holds Inv-loop μ-loop
+loop-holds c = search laws
+
+row-at-requires : tie.Need-row-at-requires Inv-loop μ-loop
+row-at-requires c κs = search laws
+
+enum-known-found : tie.Need-enum-known-found Inv-loop μ-loop
+enum-known-found c = search laws
+
+enum-told : tie.Need-enum-told Inv-loop μ-loop
+enum-told c = search laws
+
+returns : tie.Need-returns Inv-loop μ-loop
+returns c = search laws
+
+add-mark-of : tie.Need-add-mark-of Inv-loop μ-loop
+add-mark-of c = search laws
+
+mark-of-requires : tie.Need-mark-of-requires Inv-loop μ-loop
+mark-of-requires c κs = search laws
+
+add-stands-in : tie.Need-add-stands-in Inv-loop μ-loop
+add-stands-in c = search laws
+
+slice-aggregate-stands-in : tie.Need-slice-aggregate-stands-in Inv-loop μ-loop
+slice-aggregate-stands-in c = search laws
+
+stands-in-requires : tie.Need-stands-in-requires Inv-loop μ-loop
+stands-in-requires c κs = search laws
+
+returns-2 : tie.Need-returns-2 Inv-loop μ-loop
+returns-2 c = search laws
+
+slice-aggregate-mark : tie.Need-slice-aggregate-mark Inv-loop μ-loop
+slice-aggregate-mark c = search laws
+
+mark-requires : tie.Need-mark-requires Inv-loop μ-loop
+mark-requires c κs = search laws
+
+add-passed : tie.Need-add-passed Inv-loop μ-loop
+add-passed c = search laws
+
+sub-left : tie.Need-sub-left Inv-loop μ-loop
+sub-left c = search laws
+
+loop-less : tie.Need-loop-less Inv-loop μ-loop
+loop-less c = search laws
+
+loop-again : tie.Need-loop-again Inv-loop μ-loop
+loop-again c = search laws
+
+returns-3 : tie.Need-returns-3 Inv-loop μ-loop
+returns-3 c = search laws
+
+pub differ-by-marks-spec : {M : Type 1} → statement M
+differ-by-marks-spec =
+    tie.close
+    (tie.spec
+    Inv-loop
+    μ-loop
+    loop-holds
+    row-at-requires
+    enum-known-found
+    enum-told
+    returns
+    add-mark-of
+    mark-of-requires
+    add-stands-in
+    slice-aggregate-stands-in
+    stands-in-requires
+    returns-2
+    slice-aggregate-mark
+    mark-requires
+    add-passed
+    sub-left
+    loop-less
+    loop-again
+    returns-3)

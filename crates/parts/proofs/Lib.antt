@@ -1,0 +1,7 @@
+pub mod Laws
+pub mod Readers
+pub mod Times
+pub mod Taken
+pub mod Exactly
+pub mod Output
+pub mod Outcomes

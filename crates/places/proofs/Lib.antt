@@ -1,0 +1,4 @@
+pub mod Finding
+pub mod Walks
+pub mod Searches
+pub mod Outcomes

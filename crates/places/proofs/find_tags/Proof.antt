@@ -1,0 +1,107 @@
+use mathlib.Core.Path.{_≡_}
+use mathlib.Core.Bool.{true}
+use lib.ListN.{length}
+use Rattle.names.specs.Names.{covers}
+use Rattle.places.specs.Places.{changeNamesAt, Known}
+use Rattle.places.proofs.Walks.{Walking, laws}
+use Rattle.places.proofs.find_tags.Statement.{statement}
+use Rattle.places.proofs.find_tags.Tie as tie
+use Rattle.places.proofs.find_tags.Reads as reads
+use Rattle.places.proofs.find_tags.Lts as lts
+use Rattle.places.proofs.find_change.Reads as find-change-reads
+use Rattle.places.proofs.note.Reads as note-reads
+use Rattle.places.proofs.place_of.Reads as place-of-reads
+use Rattle.rows.proofs.row_at.Reads as row-at-reads
+
+abbrev Inv-loop : tie.InvT-loop
+Inv-loop table at sheet changes filter marks starts named₀ places₀ place₀ passed₀ left₀ named places place passed left = (covers filter (changeNamesAt sheet changes) ≡ true) × Known sheet 1 changes marks starts 0 × Walking table at (length named₀) sheet changes named₀ places₀ named places place passed left
+
+abbrev μ-loop : tie.MeasureT-loop
+μ-loop table at sheet changes filter marks starts named₀ places₀ place₀ passed₀ left₀ named places place passed left = left
+
+loop-holds : tie.Need-loop-holds Inv-loop μ-loop
+loop-holds c = search laws
+
+row-at-requires : tie.Need-row-at-requires Inv-loop μ-loop
+row-at-requires c κs = search laws
+
+enum-known-row : tie.Need-enum-known-row Inv-loop μ-loop
+enum-known-row c = search laws
+
+enum-told : tie.Need-enum-told Inv-loop μ-loop
+enum-told c = search laws
+
+same-length : tie.Need-same-length Inv-loop μ-loop
+same-length c = search laws
+
+same-length-2 : tie.Need-same-length-2 Inv-loop μ-loop
+same-length-2 c = search laws
+
+returns : tie.Need-returns Inv-loop μ-loop
+returns c = search laws
+
+add-find-change : tie.Need-add-find-change Inv-loop μ-loop
+add-find-change c = search laws
+
+find-change-requires : tie.Need-find-change-requires Inv-loop μ-loop
+find-change-requires c κs = search laws
+
+place-of-requires : tie.Need-place-of-requires Inv-loop μ-loop
+place-of-requires c κs = search laws
+
+mul-named : tie.Need-mul-named Inv-loop μ-loop
+mul-named c = search laws
+
+slice-write-named : tie.Need-slice-write-named Inv-loop μ-loop
+slice-write-named c = search laws
+
+add-passed : tie.Need-add-passed Inv-loop μ-loop
+add-passed c = search laws
+
+note-requires : tie.Need-note-requires Inv-loop μ-loop
+note-requires c κs = search laws
+
+sub-left : tie.Need-sub-left Inv-loop μ-loop
+sub-left c = search laws
+
+loop-less : tie.Need-loop-less Inv-loop μ-loop
+loop-less c = search laws
+
+loop-again : tie.Need-loop-again Inv-loop μ-loop
+loop-again c = search laws
+
+same-length-3 : tie.Need-same-length-3 Inv-loop μ-loop
+same-length-3 c = search laws
+
+same-length-4 : tie.Need-same-length-4 Inv-loop μ-loop
+same-length-4 c = search laws
+
+returns-2 : tie.Need-returns-2 Inv-loop μ-loop
+returns-2 c = search laws
+
+pub find-tags-spec : {M : Type 1} → statement M
+find-tags-spec =
+    tie.close
+    (tie.spec
+    Inv-loop
+    μ-loop
+    loop-holds
+    row-at-requires
+    enum-known-row
+    enum-told
+    same-length
+    same-length-2
+    returns
+    add-find-change
+    find-change-requires
+    place-of-requires
+    mul-named
+    slice-write-named
+    add-passed
+    note-requires
+    sub-left
+    loop-less
+    loop-again
+    same-length-3
+    same-length-4
+    returns-2)

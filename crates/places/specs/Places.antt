@@ -1,0 +1,115 @@
+-- Where the tags that a sheet names stand in the table, and where the changes that name a tag stand in the sheet.
+use Prim.Native.Nat.{ℕ, zero, suc, _+_, _<_, _≤_}
+use mathlib.Core.Path.{_≡_}
+use mathlib.Core.Bool.{cond}
+use mathlib.Core.List.{List, [], _∷_}
+use lib.ListN.{length, drop, getD, set}
+use lib.Dec.{eqb, ltb}
+use Rattle.marks.specs.Marks.{markFor, withMark}
+use Rattle.layout.specs.Reading.{bad, good}
+use Rattle.layout.specs.Saving.{mostChanges}
+use Rattle.rows.specs.Rows.{rowName}
+use Rattle.names.specs.Names.{names, found}
+use Rattle.rows.specs.declared.Row.the-variants as row
+use Rattle.names.specs.declared.NameFound.{NameFound}
+use Rattle.names.specs.declared.NameFound.the-variants as found
+
+-- ── Places by names ──
+
+unfoldable pub placeFound : NameFound → ℕ
+placeFound (found.At i p) = p
+placeFound found.Nothing = 0
+
+abbrev pub tagNamesAt : (table : List ℕ) → (at n : ℕ) → List (List ℕ)
+tagNamesAt table at n = names n (rowName row.Tag) (drop at table)
+
+abbrev pub changeNamesAt : (sheet : List ℕ) → (changes : ℕ) → List (List ℕ)
+changeNamesAt sheet k = names k (rowName row.Change) (drop 1 sheet)
+
+-- the change of a name, and its place; the place of the first tag of a name
+abbrev pub changeFound : (sheet : List ℕ) → (changes : ℕ) → (name : List ℕ) → NameFound
+changeFound sheet k name = found name k (rowName row.Change) sheet 0 1
+
+unfoldable pub changePlace : (sheet : List ℕ) → (changes : ℕ) → (name : List ℕ) → ℕ
+changePlace sheet k name = placeFound (changeFound sheet k name)
+
+unfoldable pub tagPlace : (table : List ℕ) → (at n : ℕ) → (name : List ℕ) → ℕ
+tagPlace table at n name = placeFound (found name n (rowName row.Tag) table 0 at)
+
+-- the places from a number on are those of these names
+pub record Lists (place : List ℕ → ℕ) (ps : List ℕ) (i : ℕ) (ns : List (List ℕ)) : Type 0 where
+  pub room : i + length ns ≤ length ps
+  pub known : (c : ℕ) → c < length ns → getD ps (i + c) 0 ≡ place (getD ns c [])
+
+-- for each tag, the place of its change
+pub record Named (table : List ℕ) (at n : ℕ) (sheet : List ℕ) (changes : ℕ) (ps : List ℕ) : Type 0 where
+  pub lists : Lists (changePlace sheet changes) ps 0 (tagNamesAt table at n)
+
+-- for each change, the place of its tag, which is not 0
+pub record Placed (table : List ℕ) (at n : ℕ) (sheet : List ℕ) (changes : ℕ) (ps : List ℕ) : Type 0 where
+  pub behind : 0 < at
+  pub lists : Lists (tagPlace table at n) ps 0 (changeNamesAt sheet changes)
+
+-- ── What the call leaves ──
+
+-- the places of these names, stored from a number on
+unfoldable pub listed : (place : List ℕ → ℕ) → List (List ℕ) → (ps : List ℕ) → ℕ → List ℕ
+listed place [] ps i = ps
+listed place (n ∷ ns) ps i = listed place ns (set ps i (place n)) (i + 1)
+
+-- a tag's place, stored for the change that was found for it, unless that has one
+unfoldable pub noted : (ps : List ℕ) → NameFound → (tag : ℕ) → List ℕ
+noted ps (found.At i p) tag = cond (eqb (getD ps i 0) 0) (set ps i tag) ps
+noted ps found.Nothing tag = ps
+
+-- the places of all tags, each stored for its change
+unfoldable pub walked : (change : List ℕ → NameFound) → ℕ → (table : List ℕ) → (at : ℕ) → (ps : List ℕ) → List ℕ
+walked change zero t at ps = ps
+walked change (suc n) t at ps =
+    elim (rowName row.Tag (drop at t)) [ bad ↦ ps | good name m ↦ walked change n t (at + m) (noted ps (change name) at) ]
+
+-- for each tag the place of its change, for each change the place of its tag, as the walk leaves them
+pub record Placing : Type 0 where
+  pub named : List ℕ
+  pub places : List ℕ
+
+abbrev pub placing : (named places : List ℕ) → Placing
+placing named places = record { named = named; places = places }
+
+-- as many tags and changes as there are places for; of more than 64 changes nothing is stored
+unfoldable pub placedBy : (table : List ℕ) → (at : ℕ) → (sheet named places : List ℕ) → Placing
+placedBy table at sheet named places =
+    cond (ltb mostChanges (length places)) (placing named places)
+    (placing (listed (changePlace sheet (length places)) (tagNamesAt table at (length named)) named 0) (walked (changeFound sheet (length places)) (length named) table at places))
+
+-- ── As the code finds them ──
+
+-- the marks with those of these names
+unfoldable pub allMarked : List (List ℕ) → (marks : List ℕ) → List ℕ
+allMarked [] ms = ms
+allMarked (n ∷ ns) ms = allMarked ns (withMark ms (markFor n))
+
+-- what is stored for each change: the mark of its name, or where it starts
+unfoldable pub changeMark : (name : List ℕ) → (place : ℕ) → ℕ
+changeMark name p = markFor name
+
+unfoldable pub changeStart : (name : List ℕ) → (place : ℕ) → ℕ
+changeStart name p = p
+
+-- so much for each of n changes, stored from a number on
+unfoldable pub stored : (List ℕ → ℕ → ℕ) → ℕ → (sheet : List ℕ) → (at : ℕ) → (ps : List ℕ) → ℕ → List ℕ
+stored f zero s at ps i = ps
+stored f (suc n) s at ps i =
+    elim (rowName row.Change (drop at s)) [ bad ↦ ps | good name m ↦ stored f n s (at + m) (set ps i (f name at)) (i + 1) ]
+
+-- what is stored for n changes from a place on stands from a number on
+pub record Kept (f : List ℕ → ℕ → ℕ) (sheet : List ℕ) (at n : ℕ) (ps : List ℕ) (i : ℕ) : Type 0 where
+  pub before : List ℕ
+  pub room : i + n ≤ length before
+  pub stores : ps ≡ stored f n sheet at before i
+
+-- n changes, which are whole, by their marks and places
+pub record Known (sheet : List ℕ) (at n : ℕ) (known starts : List ℕ) (i : ℕ) : Type 0 where
+  pub whole : length (names n (rowName row.Change) (drop at sheet)) ≡ n
+  pub marks : Kept changeMark sheet at n known i
+  pub places : Kept changeStart sheet at n starts i

@@ -1,0 +1,65 @@
+use Rattle.saving.proofs.Saves.{laws}
+use borrow.Author.Needs.{needs}
+use Rattle.saving.proofs.look_and_apply.Statement.{statement}
+use Rattle.saving.proofs.look_and_apply.Tie as tie
+
+place-tags-requires : tie.Need-place-tags-requires
+place-tags-requires c κs = search needs
+
+compare-requires : tie.Need-compare-requires
+compare-requires c κs = search needs
+
+enum-known-looked : tie.Need-enum-known-looked
+enum-known-looked c = search needs
+
+at-requires : tie.Need-at-requires
+at-requires c κs = search laws
+
+same-length : tie.Need-same-length
+same-length c = search needs
+
+same-length-2 : tie.Need-same-length-2
+same-length-2 c = search needs
+
+returns : tie.Need-returns
+returns c = search laws
+
+enum-told : tie.Need-enum-told
+enum-told c = search needs
+
+apply-requires : tie.Need-apply-requires
+apply-requires c κs = search needs
+
+answer-of-requires : tie.Need-answer-of-requires
+answer-of-requires c κs = search needs
+
+same-length-3 : tie.Need-same-length-3
+same-length-3 c = search needs
+
+same-length-4 : tie.Need-same-length-4
+same-length-4 c = search needs
+
+same-length-5 : tie.Need-same-length-5
+same-length-5 c = search needs
+
+returns-2 : tie.Need-returns-2
+returns-2 c = search laws
+
+pub look-and-apply-spec : {M : Type 1} → statement M
+look-and-apply-spec =
+    tie.close
+    (tie.spec
+    place-tags-requires
+    compare-requires
+    enum-known-looked
+    at-requires
+    same-length
+    same-length-2
+    returns
+    enum-told
+    apply-requires
+    answer-of-requires
+    same-length-3
+    same-length-4
+    same-length-5
+    returns-2)

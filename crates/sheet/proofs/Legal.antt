@@ -1,0 +1,139 @@
+-- Legal tags and legal changes are rows, of which the length and kind bytes make the same tags and changes.
+-- Assumes nothing.
+use Prim.Native.Nat.{ℕ, zero, suc, _+_, _≤_}
+use native.Mathlib.Omega.{arith}
+use mathlib.Core.Path.{_≡_, refl, ap, sym, _∙_}
+use mathlib.Core.Bool.{Bool, true, false, cond}
+use mathlib.Core.List.{List, [], _∷_}
+use lib.ListN.{length, drop, getD}
+use lib.Dec.{eqb, ltb}
+use borrow.Author.Tests.{eqb-true, lt-ltb, le-ltb}
+use Rattle.number.specs.Number.{numberOf}
+use Rattle.layout.specs.Recording.{Tag, shortString, legalTagName, legalTagValue}
+use Rattle.layout.specs.Reading.{Reader, good, onward, _then_, only, give, times, number, string, tag, valueOr}
+use Rattle.layout.specs.Saving.{Entry, Seen, Change, absent, holds, saw, nobodyLooked, change, entryOf, seenOf, tagValue, malformed}
+use Rattle.layout.proofs.Readers.{number-good}
+use Rattle.rows.specs.Rows.{entry, rowName}
+use Rattle.rows.specs.declared.Row.{Row}
+use Rattle.rows.specs.declared.Row.the-variants as row
+use Rattle.parts.proofs.Taken.{then-parts, give-parts, only-parts}
+use Rattle.names.proofs.Readers.{tag-row, change-row, kind-leads, seen-leads}
+use Rattle.tables.proofs.Places.{string-taken}
+use Rattle.parts.proofs.Times.{times-parts}
+use Rattle.sheet.specs.Rows.{rows, rowWith, textEntry, textIn, entryIn, entryBehind, newIn, tagWithName, changeWithName, tagsAt, changesAt}
+use Rattle.sheet.proofs.Rows.{rows-more, no-rows}
+
+-- ── Rows that were read ──
+
+-- where a reader reads, another reads the same
+abbrev Follows : {A : Type 0} → Reader A → Reader A → Type 0
+Follows {A} p q = (t : List ℕ) (x : A) (n : ℕ) → p t ≡ good x n → q t ≡ good x n
+
+none-read : {A : Type 0} (p : Reader A) (t : List ℕ) (xs : List A) (m : ℕ) → times zero p t ≡ good xs m → [] ≡ xs
+unfolding times
+none-read p t xs m e = cc
+
+pub rows-times : {A : Type 0} (p q : Reader A) → Follows p q → (k : ℕ) (t : List ℕ) (xs : List A) (m : ℕ) → times k p t ≡ good xs m → rows k q t ≡ xs
+rows-times p q f zero t xs m e = no-rows q t ∙ none-read p t xs m e
+rows-times {A} p q f (suc k) t xs m e =
+    times-parts p k t xs m e (λ x n ys j a b c d. rows-more k q t x n (f t x n a) ∙ ap (λ (l : List A). x ∷ l) (rows-times p q f k (drop n t) ys j b) ∙ sym c)
+
+-- a row of a name makes what was read, if the bytes behind the name do
+row-follows : {A : Type 0} (k : Row) (make : List ℕ → List ℕ → A) (name : List ℕ) (t : List ℕ) (x : A) (n : ℕ) → rowName k t ≡ good name n → make name (drop (1 + length name) t) ≡ x → rowWith k make t ≡ good x n
+unfolding rowWith onward
+row-follows k make name t x n e f = rw e (ap (λ y. good y n) f)
+
+-- ── A tag ──
+
+tag-same : (t v w : List ℕ) (a b : ℕ) (x : Tag) → string t ≡ good v a → string (drop a t) ≡ good w b → x ≡ record { name = v; value = w } → tagWithName (x .name) (drop (1 + length (x .name)) t) ≡ x
+unfolding tagWithName valueOr shortString
+tag-same t v w a b x e f o =
+    let c : a ≡ suc (length v) = string-taken t v a e in
+    let d : 1 + length v ≡ a = omega arith in
+    rw (o, d, f)
+
+pub tag-follows : Follows tag (rowWith row.Tag tagWithName)
+unfolding tag
+tag-follows t x n e =
+    row-follows row.Tag tagWithName (x .name) t x n (tag-row t x n e)
+    (then-parts (only legalTagName string) (λ v. only legalTagValue string then λ w. give (record { name = v; value = w })) t x n e (λ v a b f g h.
+    give-parts (only legalTagValue string) (λ w. record { name = v; value = w }) (drop a t) x b g (λ w i o.
+    tag-same t v w a b x (only-parts legalTagName string t v a f .0) (only-parts legalTagValue string (drop a t) w b i .0) o)))
+
+-- ── Entries ──
+
+-- a kind byte that was read
+kind-byte : (u : List ℕ) (kind a : ℕ) → number 1 u ≡ good kind a → (getD u 0 0 ≡ kind) × (a ≡ 1)
+unfolding numberOf
+kind-byte [] kind a e = let (l, p, q) = number-good 1 [] kind a e in absurd (omega arith)
+kind-byte (x ∷ u) kind a e =
+    let (l, p, q) = number-good 1 (x ∷ u) kind a e in
+    (omega arith, sym q)
+
+-- the entry that a kind asks for
+abbrev byKind : ℕ → List ℕ → Entry
+byKind kind t = cond (eqb kind 1) (textIn t) absent
+
+entry-of-kind : (kind b : ℕ) (t : List ℕ) (en : Entry) → entryOf kind t ≡ good en b → (byKind kind t ≡ en) × (kind ≤ 1)
+unfolding entryOf malformed give tagValue textIn textEntry
+entry-of-kind kind b t en e = go (eqb kind 0) (eqb kind 1) refl refl e
+  where
+    go : (p q : Bool) → eqb kind 0 ≡ p → eqb kind 1 ≡ q → cond p (give absent) (cond q (tagValue then λ v. give (holds v)) malformed) t ≡ good en b → (cond q (textEntry (string t)) absent ≡ en) × (kind ≤ 1)
+    go true true f g h = let z : _≡_ {A = ℕ} 0 1 = sym (eqb-true kind 0 f) ∙ eqb-true kind 1 g in absurd (omega arith)
+    go true false f g h = let z : kind ≡ 0 = eqb-true kind 0 f in (cc, omega arith)
+    go false true f g h =
+        let z : kind ≡ 1 = eqb-true kind 1 g in
+        give-parts tagValue holds t en b h (λ v i o. (rw (only-parts legalTagValue string t v b i .0) (sym o), omega arith))
+    go false false f g h = let z : _≡_ {A = ℕ} 0 1 = cc in absurd (omega arith)
+
+seen-of-kind : (kind b : ℕ) (t : List ℕ) (s : Seen) → seenOf kind t ≡ good s b → cond (ltb 1 kind) nobodyLooked (saw (byKind kind t)) ≡ s
+unfolding seenOf give
+seen-of-kind kind b t s e = go (eqb kind 2) refl e
+  where
+    go : (p : Bool) → eqb kind 2 ≡ p → cond p (give nobodyLooked) (entryOf kind then λ e. give (saw e)) t ≡ good s b → cond (ltb 1 kind) nobodyLooked (saw (byKind kind t)) ≡ s
+    go true f h = let z : kind ≡ 2 = eqb-true kind 2 f in rw (lt-ltb 1 kind (omega arith)) (cc)
+    go false f h =
+        give-parts (entryOf kind) saw t s b h (λ en i o.
+        let (p, q) = entry-of-kind kind b t en i in
+        rw (le-ltb 1 kind q, p) (sym o))
+
+entry-reads : (u : List ℕ) (en : Entry) (d : ℕ) → (number 1 then entryOf) u ≡ good en d → entryIn u ≡ en
+unfolding entryIn
+entry-reads u en d e =
+    then-parts (number 1) entryOf u en d e (λ kind a b f g h.
+    let (p, q) = kind-byte u kind a f in
+    rw (p) (ap (λ (z : ℕ). byKind kind (drop z u)) (sym q) ∙ entry-of-kind kind b (drop a u) en g .0))
+
+seen-reads : (u : List ℕ) (s : Seen) (d : ℕ) → (number 1 then seenOf) u ≡ good s d → cond (ltb 1 (getD u 0 0)) nobodyLooked (saw (entryIn u)) ≡ s
+unfolding entryIn
+seen-reads u s d e =
+    then-parts (number 1) seenOf u s d e (λ kind a b f g h.
+    let (p, q) = kind-byte u kind a f in
+    rw (p) (ap (λ (z : ℕ). cond (ltb 1 kind) nobodyLooked (saw (byKind kind (drop z u)))) (sym q) ∙ seen-of-kind kind b (drop a u) s g))
+
+-- ── A change ──
+
+change-same : (t v r : List ℕ) (a c : ℕ) (s : Seen) (en : Entry) (x : Change) → string t ≡ good v a → entry (drop a t) ≡ good r c → cond (ltb 1 (getD (drop a t) 0 0)) nobodyLooked (saw (entryIn (drop a t))) ≡ s → entryIn (drop c (drop a t)) ≡ en → x ≡ record { name = v; seen = s; new = en } → changeWithName (x .name) (drop (1 + length (x .name)) t) ≡ x
+unfolding changeWithName newIn entryBehind shortString
+change-same t v r a c s en x e f g h o =
+    let b : a ≡ suc (length v) = string-taken t v a e in
+    let d : 1 + length v ≡ a = omega arith in
+    rw (o, d, f, g, h)
+
+pub change-follows : Follows change (rowWith row.Change changeWithName)
+unfolding change
+change-follows t x n e =
+    row-follows row.Change changeWithName (x .name) t x n (change-row t x n e)
+    (then-parts (only legalTagName string) (λ name. (number 1 then seenOf) then λ s. (number 1 then entryOf) then λ e. give (record { name = name; seen = s; new = e })) t x n e (λ v a b f g h.
+    then-parts (number 1 then seenOf) (λ s. (number 1 then entryOf) then λ e. give (record { name = v; seen = s; new = e })) (drop a t) x b g (λ s c d i j k.
+    give-parts (number 1 then entryOf) (λ e. record { name = v; seen = s; new = e }) (drop c (drop a t)) x d j (λ en l o.
+    let (r, p) = kind-leads seenOf seen-leads (drop a t) s c i in
+    change-same t v r a c s en x (only-parts legalTagName string t v a f .0) p (seen-reads (drop a t) s c i) (entry-reads (drop c (drop a t)) en d l) o))))
+
+-- ── A legal table and a sheet ──
+
+pub tags-are : (s : List ℕ) (at n m : ℕ) (ts : List Tag) → times n tag (drop at s) ≡ good ts m → tagsAt s at n ≡ ts
+tags-are s at n m ts e = rows-times tag (rowWith row.Tag tagWithName) tag-follows n (drop at s) ts m e
+
+pub changes-are : (s : List ℕ) (at n m : ℕ) (cs : List Change) → times n change (drop at s) ≡ good cs m → changesAt s at n ≡ cs
+changes-are s at n m cs e = rows-times change (rowWith row.Change changeWithName) change-follows n (drop at s) cs m e

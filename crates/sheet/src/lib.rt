@@ -1,0 +1,150 @@
+// A change sheet: how many changes it has, and the value that an entry of one names.
+use header::Header;
+use parts::Place;
+use rows::Row;
+use strings::Text;
+ghost use mathlib.Core.Path.{_≡_};
+ghost use lib.ListN.{drop};
+ghost use Rattle.layout.specs.Reading.{_then_, number, times, exactly};
+ghost use Rattle.layout.specs.Saving.{entryOf, seenOf, change, sheet};
+ghost use Rattle.parts.specs.Parts.{endOf};
+ghost use Rattle.sheet.specs.Sheet.{sheetOf};
+ghost use Rattle.sheet.specs.Values.{entryValue, newValue};
+
+// A change sheet: its number of changes.
+pub enum Sheet {
+    Whole(usize),
+    Broken,
+}
+
+// A value that stands in some bytes: the place of its short string, and its number of bytes; or nothing.
+pub enum Value {
+    At(usize, usize),
+    Nothing,
+}
+
+// What a kind byte asks for: "0 absent, 1 a value, which follows".
+fn kind_end(s: &[u8], at: usize, kind: u8) -> Place
+    ensures { λ r. ⌜ r ≡ endOf at (entryOf kind (drop at (now (s .entry)))) ⌝ }
+{
+    if kind == 0 {
+        return Place::End(at);
+    }
+    if kind == 1 {
+        let value = strings::tag_value(s, at);
+        let Text::Whole(n) = value else {
+            return Place::Broken;
+        };
+        return Place::End(at + 1 + n);
+    }
+    Place::Broken
+}
+
+// A seen entry: an entry, or "2 nobody looked".
+fn seen_end(s: &[u8], at: usize) -> Place
+    ensures { λ r. ⌜ r ≡ endOf at ((number 1 then seenOf) (drop at (now (s .entry)))) ⌝ }
+{
+    if s.len() <= at {
+        return Place::Broken;
+    }
+    let kind = s[at];
+    if kind == 2 {
+        return Place::End(at + 1);
+    }
+    kind_end(s, at + 1, kind)
+}
+
+fn new_end(s: &[u8], at: usize) -> Place
+    ensures { λ r. ⌜ r ≡ endOf at ((number 1 then entryOf) (drop at (now (s .entry)))) ⌝ }
+{
+    if s.len() <= at {
+        return Place::Broken;
+    }
+    kind_end(s, at + 1, s[at])
+}
+
+// "per change a name; a seen kind ..; a new kind .."
+fn change_end(s: &[u8], at: usize) -> Place
+    ensures { λ r. ⌜ r ≡ endOf at (change (drop at (now (s .entry)))) ⌝ }
+{
+    let name = strings::tag_name(s, at);
+    let Text::Whole(n) = name else {
+        return Place::Broken;
+    };
+    let seen = seen_end(s, at + 1 + n);
+    let Place::End(next) = seen else {
+        return Place::Broken;
+    };
+    new_end(s, next)
+}
+
+// Where n changes end.
+fn changes_end(s: &[u8], at: usize, n: usize) -> Place
+    ensures { λ r. ⌜ r ≡ endOf at (times n change (drop at (now (s .entry)))) ⌝ }
+{
+    let mut place = at;
+    let mut left = n;
+    while 0 < left {
+        let found = change_end(s, place);
+        let Place::End(next) = found else {
+            return Place::Broken;
+        };
+        place = next;
+        left -= 1;
+    }
+    Place::End(place)
+}
+
+// "UInt8 number of changes, 0 to 64 ..; no name comes twice; nothing follows the last change."
+pub fn changes_of(s: &[u8]) -> Sheet
+    ensures { λ r. ⌜ r ≡ sheetOf (exactly sheet (now (s .entry))) ⌝ }
+{
+    if s.len() < 1 {
+        return Sheet::Broken;
+    }
+    let count = number::read(s, 0, 1);
+    let n = count as usize;
+    if Header::MOST_CHANGES < n {
+        return Sheet::Broken;
+    }
+    let changes = changes_end(s, 1, n);
+    let Place::End(end) = changes else {
+        return Sheet::Broken;
+    };
+    if end != s.len() {
+        return Sheet::Broken;
+    }
+    if names::distinct_names(s, 1, n, Row::Change) {
+        Sheet::Whole(n)
+    } else {
+        Sheet::Broken
+    }
+}
+
+// The value of an entry, by its kind byte.
+pub fn entry_value(s: &[u8], at: usize) -> Value
+    ensures { λ r. ⌜ r ≡ entryValue (now (s .entry)) at ⌝ }
+{
+    if s.len() <= at {
+        return Value::Nothing;
+    }
+    if s[at] == 1 {
+        let text = strings::string(s, at + 1);
+        let Text::Whole(n) = text else {
+            return Value::Nothing;
+        };
+        return Value::At(at + 1, n);
+    }
+    Value::Nothing
+}
+
+// The value of the new entry, which stands behind the seen one.
+pub fn new_value(s: &[u8], seen: usize) -> Value
+    ensures { λ r. ⌜ r ≡ newValue (now (s .entry)) seen ⌝ }
+{
+    let end = rows::entry_end(s, seen);
+    let Place::End(at) = end else {
+        return Value::Nothing;
+    };
+    entry_value(s, at)
+}

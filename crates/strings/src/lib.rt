@@ -1,0 +1,124 @@
+// Short strings over lent bytes, and the classes of bytes that names and values have.
+ghost use mathlib.Core.Path.{_≡_};
+ghost use Prim.Native.Nat.{_+_, _<_, _≤_};
+ghost use lib.ListN.{length, take, drop};
+ghost use Rattle.layout.specs.Recording.{isNameByte, isTagByte, every, legalSectionName, legalTagName, legalTagValue};
+ghost use Rattle.layout.specs.Reading.{only, string};
+ghost use Rattle.strings.specs.Strings.{inClass, legalText, textOf};
+
+// A short string at a place: its number of bytes, which start behind the length byte.
+pub enum Text {
+    Whole(usize),
+    Broken,
+}
+
+// Which bytes a short string may have.
+enum Class {
+    Name,
+    Tag,
+}
+
+// "each a digit, a capital or a small letter"
+fn is_name_byte(b: u8) -> bool
+    ensures { λ r. ⌜ r ≡ isNameByte b ⌝ }
+{
+    match b {
+        48..=57 => true,
+        65..=90 => true,
+        97..=122 => true,
+        _ => false,
+    }
+}
+
+// "Bytes 32 to 126 only"
+fn is_tag_byte(b: u8) -> bool
+    ensures { λ r. ⌜ r ≡ isTagByte b ⌝ }
+{
+    match b {
+        32..=126 => true,
+        _ => false,
+    }
+}
+
+fn in_class(b: u8, class: Class) -> bool
+    ensures { λ r. ⌜ r ≡ inClass class b ⌝ }
+{
+    match class {
+        Class::Name => is_name_byte(b),
+        Class::Tag => is_tag_byte(b),
+    }
+}
+
+// A byte as a number: so that only one place asks that it fits.
+fn wide(byte: u8) -> usize
+    ensures { λ r. ⌜ (r ≡ byte) × (r < 256) ⌝ }
+{
+    byte as usize
+}
+
+// "A short string is one length byte and that many bytes."
+pub fn string(s: &[u8], at: usize) -> Text
+    ensures { λ r. ⌜ r ≡ textOf (string (drop at (now (s .entry)))) ⌝ }
+{
+    if s.len() <= at {
+        return Text::Broken;
+    }
+    let n = wide(s[at]);
+    if s.len() - at <= n {
+        return Text::Broken;
+    }
+    Text::Whole(n)
+}
+
+// Whether n bytes, which are there, are all of a class.
+fn all_in_class(s: &[u8], at: usize, n: usize, class: Class) -> bool
+    requires { ⌜ at + n ≤ length (now s) ⌝ }
+    ensures { λ r. ⌜ r ≡ every (inClass class) (take n (drop at (now (s .entry)))) ⌝ }
+{
+    let mut i = at;
+    let mut left = n;
+    while 0 < left {
+        if !in_class(s[i], class) {
+            return false;
+        }
+        i += 1;
+        left -= 1;
+    }
+    true
+}
+
+// A short string of a class, with at least so many bytes.
+fn text_of(s: &[u8], at: usize, least: usize, class: Class) -> Text
+    ensures { λ r. ⌜ r ≡ textOf (only (legalText least class) string (drop at (now (s .entry)))) ⌝ }
+{
+    let text = string(s, at);
+    let Text::Whole(n) = text else {
+        return Text::Broken;
+    };
+    if n < least {
+        return Text::Broken;
+    }
+    if all_in_class(s, at + 1, n, class) {
+        Text::Whole(n)
+    } else {
+        Text::Broken
+    }
+}
+
+pub fn section_name(s: &[u8], at: usize) -> Text
+    ensures { λ r. ⌜ r ≡ textOf (only legalSectionName string (drop at (now (s .entry)))) ⌝ }
+{
+    text_of(s, at, 1, Class::Name)
+}
+
+pub fn tag_name(s: &[u8], at: usize) -> Text
+    ensures { λ r. ⌜ r ≡ textOf (only legalTagName string (drop at (now (s .entry)))) ⌝ }
+{
+    text_of(s, at, 1, Class::Tag)
+}
+
+pub fn tag_value(s: &[u8], at: usize) -> Text
+    ensures { λ r. ⌜ r ≡ textOf (only legalTagValue string (drop at (now (s .entry)))) ⌝ }
+{
+    text_of(s, at, 0, Class::Tag)
+}

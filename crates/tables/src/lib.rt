@@ -1,0 +1,114 @@
+// Tag tables, over lent bytes.
+use header::Header;
+use parts::Place;
+use rows::Row;
+use strings::Text;
+ghost use mathlib.Core.Path.{_≡_};
+ghost use lib.ListN.{drop};
+ghost use Rattle.layout.specs.Reading.{times, tag, table};
+ghost use Rattle.parts.specs.Parts.{endOf};
+ghost use Rattle.tables.specs.Tables.{tagPlaceOf, tablePlaceOf, tagFound};
+
+// A tag at a place: the numbers of bytes of its name and of its value.
+enum TagPlace {
+    Whole(usize, usize),
+    Broken,
+}
+
+// A table at a place: its number of tags, and where it ends.
+pub enum TablePlace {
+    Whole(usize, usize),
+    Broken,
+}
+
+fn tag(s: &[u8], at: usize) -> TagPlace
+    ensures { λ r. ⌜ r ≡ tagPlaceOf (tag (drop at (now (s .entry)))) ⌝ }
+{
+    let name = strings::tag_name(s, at);
+    let Text::Whole(n) = name else {
+        return TagPlace::Broken;
+    };
+    let value = strings::tag_value(s, at + 1 + n);
+    let Text::Whole(m) = value else {
+        return TagPlace::Broken;
+    };
+    TagPlace::Whole(n, m)
+}
+
+// Where n tags end.
+fn tags_end(s: &[u8], at: usize, n: usize) -> Place
+    ensures { λ r. ⌜ r ≡ endOf at (times n tag (drop at (now (s .entry)))) ⌝ }
+{
+    let mut place = at;
+    let mut left = n;
+    while 0 < left {
+        let found = tag(s, place);
+        let TagPlace::Whole(name, value) = found else {
+            return Place::Broken;
+        };
+        place = place + 1 + name + 1 + value;
+        left -= 1;
+    }
+    Place::End(place)
+}
+
+// A tag table: its number of tags, the tags, and no two names equal.
+pub fn table(s: &[u8], at: usize) -> TablePlace
+    ensures { λ r. ⌜ r ≡ tablePlaceOf at (table (drop at (now (s .entry)))) ⌝ }
+{
+    if s.len() < 4 {
+        return TablePlace::Broken;
+    }
+    if s.len() - 4 < at {
+        return TablePlace::Broken;
+    }
+    let count = number::read(s, at, 4);
+    let n = count as usize;
+    if Header::MOST_TAGS < n {
+        return TablePlace::Broken;
+    }
+    let tags = tags_end(s, at + 4, n);
+    let Place::End(end) = tags else {
+        return TablePlace::Broken;
+    };
+    if names::distinct_names(s, at + 4, n, Row::Tag) {
+        TablePlace::Whole(n, end)
+    } else {
+        TablePlace::Broken
+    }
+}
+
+// Where the name and the value of a tag stand, and their lengths.
+pub enum TagFound {
+    At {
+        name: usize,
+        name_length: usize,
+        value: usize,
+        value_length: usize,
+    },
+    Nothing,
+}
+
+// Tag number i of the table at a place. The length bytes lead there; that the table is legal is for `table` to say.
+pub fn tag_found(s: &[u8], at: usize, i: usize) -> TagFound
+    ensures { λ r. ⌜ r ≡ tagFound (now (s .entry)) at i ⌝ }
+{
+    let count = number::read(s, at, 4);
+    if count as usize <= i {
+        return TagFound::Nothing;
+    }
+    let start = rows::row_start(s, at + 4, i, Row::Tag);
+    let Place::End(place) = start else {
+        return TagFound::Nothing;
+    };
+    let found = tag(s, place);
+    let TagPlace::Whole(n, m) = found else {
+        return TagFound::Nothing;
+    };
+    TagFound::At {
+        name: place + 1,
+        name_length: n,
+        value: place + 1 + n + 1,
+        value_length: m,
+    }
+}
