@@ -9,7 +9,7 @@ use std::io::Cursor;
 use std::path::{Path, PathBuf};
 use std::process::ExitCode;
 
-use suljanko::{files, repair, FileRecorder, Recording, Refusal, Sheet};
+use suljanko::{files, repair, FileRecorder, Reason, Recording, Sheet};
 
 type Step = Result<(), Box<dyn Error>>;
 
@@ -75,7 +75,7 @@ fn record(night: &Path) -> Step {
     }
     let late = recorder.add(0, 40, &[&image(0), b"a clock that was set back"]);
     let refusal = late.err().and_then(|error| error.refusal());
-    check(refusal == Some(Refusal::Clock), "a clock that was set back is refused 13")?;
+    check(refusal.map(|refusal| refusal.reason()) == Some(Reason::Clock), "a clock that was set back is refused 13")?;
     println!("   The clock was set back for one frame: it was refused 13, and the recording goes on.");
     recorder.close_on_disk()?;
     println!("   Closed: {} bytes.", fs::metadata(night)?.len());
@@ -96,8 +96,8 @@ fn list(night: &Path) -> Step {
         println!("   │ user tag {} = {}", tag.name, tag.value);
     }
     for (number, frame) in recording.frames().enumerate() {
-        let status = std::str::from_utf8(frame.section(1)?)?;
-        println!("   │ frame {number} at {} ms, exposure {}: {status}", frame.time(), frame.exposure());
+        let status = std::str::from_utf8(frame.section_named("STATUS").unwrap_or_default())?;
+        println!("   │ frame {number} at {}, exposure {}: {status}", frame.date(), frame.exposure());
         check(frame.section(0)? == image(number as i64), "a frame's image is the one that was recorded")?;
     }
     println!("   └ {} frames", recording.frame_count());
@@ -110,15 +110,17 @@ fn lose_and_repair(night: &Path, cut: &Path) -> Step {
     let last = Recording::open(&file)?.frames().next_back().ok_or("no frame")?;
     fs::write(cut, &file[..last.place() + 100])?;
     let bytes = fs::read(cut)?;
-    let refusal = Recording::open(&bytes).err();
-    check(refusal == Some(Refusal::NotClosed), "a recording that was not closed is refused 5")?;
-    println!("   Opening it: {}", Refusal::NotClosed);
-    let frames = files::repair(cut)?;
-    check(frames as i64 == FRAMES - 1, "all frames but the last are kept")?;
+    let refusal = Recording::open(&bytes).err().ok_or("a recording that was not closed is refused")?;
+    check(refusal.reason() == Reason::NotClosed, "a recording that was not closed is refused 5")?;
+    println!("   Opening it: {refusal}");
+    let done = files::repair(cut)?;
+    check(done.frames as i64 == FRAMES - 1, "all frames but the last are kept")?;
+    check(done.tags_not_kept == 0 && fs::read(&done.old)? == bytes, "the old file is there, and no tag was in it")?;
     let repaired = fs::read(cut)?;
     check(repaired == closed_after(FRAMES - 1)?, "it is what closing after the last whole frame would have given")?;
-    println!("   Repaired: {frames} frames, byte for byte the file that closing after them would have given.");
-    check(repair(&repaired).err() == Some(Refusal::Whole), "a repaired file needs no repair")?;
+    println!("   Repaired: {} frames, byte for byte the file that closing after them would have given.", done.frames);
+    let whole = repair(&repaired).err().map(|refusal| refusal.reason());
+    check(whole == Some(Reason::Whole), "a repaired file needs no repair")?;
     Ok(())
 }
 
@@ -132,14 +134,15 @@ fn closed_after(frames: i64) -> Result<Vec<u8>, Box<dyn Error>> {
     Ok(recorder.into_storage().into_inner())
 }
 
-/// A form: who looks sees OBSERVER and SITE as they are now, and writes what they should be.
+/// A form: who looks sees the tags as they are now, and writes what OBSERVER and SITE should be.
 fn form(night: &Path, observer: &str, site: &str) -> Result<Sheet, Box<dyn Error>> {
-    let file = fs::read(night)?;
-    let seen = Recording::open(&file)?;
-    let mut sheet = Sheet::new();
-    sheet.change("OBSERVER").seen(seen.user_tag("OBSERVER")).set(observer);
-    sheet.change("SITE").seen(seen.user_tag("SITE")).set(site);
-    Ok(sheet)
+    let file = files::open(night)?;
+    let seen: Vec<_> = file.recording().user_tags().map(|tag| (tag.name, tag.value)).collect();
+    let sheet = Sheet::from_form(&seen, &[("OBSERVER", observer), ("SITE", site)]);
+    match sheet.faults().first() {
+        Some(fault) => Err(fault.to_string().into()),
+        None => Ok(sheet),
+    }
 }
 
 fn save_as_two_members(night: &Path) -> Step {
@@ -150,9 +153,9 @@ fn save_as_two_members(night: &Path) -> Step {
     println!("   Aino saves first.");
     let before = fs::read(night)?;
     let error = files::save(night, &veli).err().ok_or("a save over another member's change is refused")?;
-    let place = match error.refusal() {
-        Some(Refusal::Conflict { place }) => place,
-        _ => return Err(error.into()),
+    let place = match error.refusal().and_then(|refusal| refusal.place()) {
+        Some(place) => place as usize,
+        None => return Err(error.into()),
     };
     check(veli.name(place) == Some("OBSERVER"), "the refusal names the first tag that is not as it was seen")?;
     check(fs::read(night)? == before, "a refused save leaves the file as it was")?;

@@ -1,4 +1,6 @@
-//! Lists a recording of any length: list FILE
+//! Lists a recording of any length: list FILE. Ends with 0 for a listing, with 1 where the file is refused, with 2 where it cannot be read.
+use std::process::ExitCode;
+
 use suljanko::{Recording, Refusal};
 
 fn list(file: &[u8]) -> Result<(), Refusal> {
@@ -11,10 +13,20 @@ fn list(file: &[u8]) -> Result<(), Refusal> {
     Ok(())
 }
 
-fn main() -> std::io::Result<()> {
+fn main() -> ExitCode {
     let path = std::env::args_os().nth(1).unwrap_or_default();
-    if let Err(refusal) = list(&std::fs::read(path)?) {
-        println!("refused {}", refusal.number());
+    let file = match std::fs::read(&path) {
+        Ok(file) => file,
+        Err(error) => {
+            eprintln!("{}: {error}", path.to_string_lossy());
+            return ExitCode::from(2);
+        }
+    };
+    match list(&file) {
+        Ok(()) => ExitCode::SUCCESS,
+        Err(refusal) => {
+            println!("refused {}", refusal.number());
+            ExitCode::FAILURE
+        }
     }
-    Ok(())
 }

@@ -103,7 +103,7 @@ pub(crate) fn longer(buffer: &mut Vec<u8>, length: usize) -> Result<(), Refusal>
         return Ok(());
     }
     let more = length.max(buffer.len().saturating_mul(2)) - buffer.len();
-    buffer.try_reserve_exact(more).map_err(|_| Refusal::NoRoom)?;
+    buffer.try_reserve_exact(more).map_err(|_| Refusal::NO_ROOM)?;
     buffer.resize(buffer.len() + more, 0);
     Ok(())
 }

@@ -3,18 +3,19 @@
 //! The work is done by a static library that is proved correct against document 01; this crate gives it Rust's types. It takes any bytes and any
 //! order of calls and does not panic. Bad input gets a [`Refusal`], with the number of document 01.
 //!
-//! - [`Recording`]: a file that opened, with its frames, sections and tags as parts of it.
+//! - [`Recording`]: a file that opened, with its frames, sections and tags as parts of it; [`OwnedRecording`] keeps the bytes too.
 //! - [`Recorder`] and [`FileRecorder`]: frames as they come, in pieces that a crash cannot spoil.
 //! - [`repair()`]: what was stored whole of a recording that was cut off.
 //! - [`Sheet`] and [`save`]: tags, each with what its member saw.
 //! - [`files`]: the same on disk, where a crash leaves the old file or the new one.
 //! - [`calls`]: the library's calls over plain slices, for programs that lend their own buffers.
 //!
-//! Times are milliseconds since 1 January 2010. Numbers of frames, sections and tags count from 0.
+//! Times are milliseconds since 1 January 2010; [`Date`] is the same by the calendar. Numbers of frames, sections and tags count from 0.
 #![deny(missing_docs)]
 #![deny(unsafe_code)]
 
 pub mod calls;
+mod date;
 pub mod files;
 mod form;
 pub mod raw;
@@ -24,8 +25,9 @@ mod refusal;
 mod repair;
 mod sheet;
 
+pub use date::Date;
 pub use recorder::{FileRecorder, Piece, Recorder, Stage, CLOSING_PIECES};
-pub use recording::{Frame, FrameSections, Frames, Recording, Section, Sections, Tag, Tags};
-pub use refusal::{Error, Refusal};
+pub use recording::{Frame, FrameSections, Frames, OwnedRecording, Recording, Section, Sections, Tag, Tags};
+pub use refusal::{Error, Reason, Refusal};
 pub use repair::{repair, Repair};
-pub use sheet::{save, Change, Looked, Saved, Sheet};
+pub use sheet::{save, Change, Fault, Looked, Saved, Seen, Sheet, SheetChange, SheetFault, TagPart};

@@ -4,13 +4,18 @@
 //! nothing else changes the bytes while the call runs, that a length is below 2^63, and that what a call writes (`notes` of begin and add, `out`)
 //! overlaps nothing else that is lent to it. [`crate::calls`] has the same calls over Rust's slices, which are all of this by their type, and
 //! nothing else in the crate comes down here.
+//!
+//! Every answer begins with `refused` and `place`. The place counts for 11 only: the lowest change of the sheet, from 0, whose seen entry is not the
+//! table's.
 
-/// What a file holds, in numbers; refused 1 to 7, and then all other members are 0.
+/// What a file holds, in numbers; refused 1 to 7, and then all members behind `place` are 0.
 #[repr(C)]
 #[derive(Debug, Clone, Copy, PartialEq, Eq)]
 pub struct FstfOpened {
     /// The refusal, or 0.
     pub refused: u64,
+    /// What the refusal's number carries, or 0.
+    pub place: u64,
     /// How many frames the file has.
     pub frames: u64,
     /// How many sections every frame has, 1 to 8.
@@ -29,14 +34,16 @@ pub struct FstfOpened {
     pub user: u64,
 }
 
-/// A frame; refused, all other members are 0.
+/// A frame; refused, all members behind `place` are 0.
 #[repr(C)]
 #[derive(Debug, Clone, Copy, PartialEq, Eq)]
 pub struct FstfFrame {
     /// The refusal, or 0.
     pub refused: u64,
-    /// Where the frame starts in the file.
+    /// What the refusal's number carries, or 0.
     pub place: u64,
+    /// Where the frame starts in the file.
+    pub start: u64,
     /// The number of its bytes.
     pub length: u64,
     /// Its time in milliseconds.
@@ -45,12 +52,14 @@ pub struct FstfFrame {
     pub exposure: u64,
 }
 
-/// Where the bytes of an item stand in the file; refused, all other members are 0.
+/// Where the bytes of an item stand in the file; refused, all members behind `place` are 0.
 #[repr(C)]
 #[derive(Debug, Clone, Copy, PartialEq, Eq)]
 pub struct FstfPart {
     /// The refusal, or 0.
     pub refused: u64,
+    /// What the refusal's number carries, or 0.
+    pub place: u64,
     /// Where the item's bytes start in the file.
     pub start: u64,
     /// How many they are.
@@ -98,20 +107,24 @@ pub struct FstfRecorder {
 pub struct FstfTaken {
     /// The refusal, or 0.
     pub refused: u64,
-    /// Where the piece goes in the file.
+    /// What the refusal's number carries, or 0.
     pub place: u64,
+    /// Where the piece goes in the file.
+    pub start: u64,
     /// How many bytes of `out` are the piece.
     pub length: u64,
     /// The state for the next call.
     pub recorder: FstfRecorder,
 }
 
-/// What a repair answers; refused, all other members are 0.
+/// What a repair answers; refused, all members behind `place` are 0.
 #[repr(C)]
 #[derive(Debug, Clone, Copy, PartialEq, Eq)]
 pub struct FstfRepaired {
     /// The refusal, or 0.
     pub refused: u64,
+    /// What the refusal's number carries, or 0.
+    pub place: u64,
     /// How many bytes of the file are kept.
     pub kept: u64,
     /// The header's frame count.
@@ -130,7 +143,7 @@ pub struct FstfRepaired {
 pub struct FstfSaved {
     /// The refusal, or 0.
     pub refused: u64,
-    /// Refused 11: the lowest change, from 0, whose seen entry is not the table's; else 0.
+    /// What the refusal's number carries, or 0.
     pub place: u64,
     /// How many bytes of `out` are the new table.
     pub length: u64,
@@ -142,6 +155,8 @@ pub struct FstfSaved {
 pub struct FstfTag {
     /// The refusal, or 0.
     pub refused: u64,
+    /// What the refusal's number carries, or 0.
+    pub place: u64,
     /// 1, or 0 where there is no such tag; then the places and lengths are 0.
     pub found: u64,
     /// Where its name's bytes start.

@@ -114,13 +114,13 @@ impl Recorder {
         form::longer(&mut self.notes, form::notes_length(0))?;
         form::longer(&mut self.out, form::front_length(setup, system))?;
         let taken = calls::begin(self.state, setup, system, &mut self.notes, &mut self.out);
-        accepted(taken.refused).map(|()| taken)
+        accepted(taken.refused, taken.place).map(|()| taken)
     }
 
     fn taken_add(&mut self, time: i64, exposure: u32, sections: &[&[u8]]) -> Result<FstfTaken, Refusal> {
         let mut shaped = std::mem::take(&mut self.sections);
         let taken = form::sections(&mut shaped, sections)
-            .ok_or(Refusal::NoRoom)
+            .ok_or(Refusal::NO_ROOM)
             .and_then(|()| self.taken_add_form(time, exposure, &shaped));
         self.sections = shaped;
         taken
@@ -130,17 +130,17 @@ impl Recorder {
         form::longer(&mut self.notes, form::notes_length(self.state.frames.saturating_add(1)))?;
         form::longer(&mut self.out, form::frame_length(sections))?;
         let taken = calls::add(self.state, time, exposure, sections, &mut self.notes, &mut self.out);
-        accepted(taken.refused).map(|()| taken)
+        accepted(taken.refused, taken.place).map(|()| taken)
     }
 
     fn taken_close(&mut self) -> Result<FstfTaken, Refusal> {
         form::longer(&mut self.out, form::notes_length(self.state.frames))?;
         let taken = calls::close(self.state, &self.notes, &mut self.out);
-        accepted(taken.refused).map(|()| taken)
+        accepted(taken.refused, taken.place).map(|()| taken)
     }
 
     fn piece(&self, taken: &FstfTaken) -> Piece<'_> {
-        Piece { place: taken.place, bytes: self.out.get(..taken.length as usize).unwrap_or_default() }
+        Piece { place: taken.start, bytes: self.out.get(..taken.length as usize).unwrap_or_default() }
     }
 
     fn hand_out(&mut self, taken: FstfTaken) -> Piece<'_> {
@@ -230,6 +230,12 @@ impl<S: Write + Seek> FileRecorder<S> {
 }
 
 impl FileRecorder<File> {
+    /// Makes the frames that were added durable. A cut can take those that were added since; the ones ahead are there, and can be repaired.
+    pub fn sync(&mut self) -> Result<(), Error> {
+        self.storage.sync_data()?;
+        Ok(())
+    }
+
     /// Closes a recording on disk so that it is there when this returns: frames, index and user table are on the disk before the header calls
     /// them closed.
     pub fn close_on_disk(&mut self) -> Result<(), Error> {

@@ -4,9 +4,13 @@ use std::iter::FusedIterator;
 use std::ops::Range;
 
 use crate::calls;
+use crate::date::Date;
 use crate::form::between;
 use crate::raw::{self, FstfOpened, FstfPart};
 use crate::refusal::{accepted, Refusal};
+
+/// The most tags that a table has.
+const MOST_TAGS: usize = 1_000;
 
 /// A recording that opened.
 ///
@@ -22,7 +26,7 @@ impl<'a> Recording<'a> {
     /// Opens a file that is lent as bytes. Refused 1 to 7: a file opens exactly when it is one that the layout describes.
     pub fn open(file: &'a [u8]) -> Result<Recording<'a>, Refusal> {
         let opened = calls::open(file);
-        accepted(opened.refused)?;
+        accepted(opened.refused, opened.place)?;
         Ok(Recording { file, opened })
     }
 
@@ -53,11 +57,11 @@ impl<'a> Recording<'a> {
     /// A frame by its number, from 0. Refused 8.
     pub fn frame(&self, number: usize) -> Result<Frame<'a>, Refusal> {
         let found = calls::frame_of(self.file, self.opened, number as u64);
-        accepted(found.refused)?;
+        accepted(found.refused, found.place)?;
         Ok(Frame {
             recording: *self,
             number,
-            place: found.place as usize,
+            place: found.start as usize,
             length: found.length as usize,
             time: found.time,
             exposure: found.exposure as u32,
@@ -68,6 +72,35 @@ impl<'a> Recording<'a> {
     #[must_use]
     pub fn frames(&self) -> Frames<'a> {
         Frames { recording: *self, left: 0..self.frame_count() }
+    }
+
+    /// The frame of a time: the last one that was not taken after it. None where all frames are later, or there is none.
+    ///
+    /// It is found by halves, so that of 1,000,000 frames some 20 are looked at.
+    #[must_use]
+    pub fn frame_at(&self, time: i64) -> Option<Frame<'a>> {
+        let later = self.first_number(|frame| frame.time() > time);
+        self.frame(later.checked_sub(1)?).ok()
+    }
+
+    /// The frames from a time on: those that were not taken before it. The first of them is found by halves.
+    #[must_use]
+    pub fn frames_from(&self, time: i64) -> Frames<'a> {
+        let first = self.first_number(|frame| frame.time() >= time);
+        Frames { recording: *self, left: first..self.frame_count() }
+    }
+
+    // The number of the first frame that is so, or the count where none is; times never fall, so that all frames behind it are so too.
+    fn first_number(&self, so: impl Fn(&Frame<'a>) -> bool) -> usize {
+        let (mut low, mut high) = (0, self.frame_count());
+        while low < high {
+            let middle = low + (high - low) / 2;
+            match self.frame(middle) {
+                Ok(frame) if so(&frame) => high = middle,
+                _ => low = middle + 1,
+            }
+        }
+        low
     }
 
     /// The name of a section, by its number from 0: digits, capitals and small letters. Refused 8.
@@ -84,6 +117,18 @@ impl<'a> Recording<'a> {
     #[must_use]
     pub fn sections(&self) -> Sections<'a> {
         Sections { recording: *self, left: 0..self.section_count() }
+    }
+
+    /// The section of this name, if there is one. Names are equal by their bytes.
+    #[must_use]
+    pub fn section_named(&self, name: &str) -> Option<Section<'a>> {
+        self.sections().find(|section| section.name == name)
+    }
+
+    /// The number of the section of this name, for [`Frame::section`].
+    #[must_use]
+    pub fn section_number(&self, name: &str) -> Option<usize> {
+        self.sections().position(|section| section.name == name)
     }
 
     /// The tags that the camera's program wrote.
@@ -129,9 +174,39 @@ impl<'a> Recording<'a> {
     }
 
     fn part(&self, kind: u64, i: usize, j: usize) -> Result<&'a [u8], Refusal> {
-        let FstfPart { refused, start, length } = calls::part_of(self.file, self.opened, kind, i as u64, j as u64);
-        accepted(refused)?;
+        let FstfPart { refused, place, start, length } =
+            calls::part_of(self.file, self.opened, kind, i as u64, j as u64);
+        accepted(refused, place)?;
         Ok(between(self.file, start, start.saturating_add(length)))
+    }
+}
+
+/// A recording that opened, with the bytes of its file: what [`crate::files::open`] answers.
+///
+/// It is opened once; [`OwnedRecording::recording`] lends it, as often as it is asked.
+#[derive(Debug, Clone)]
+pub struct OwnedRecording {
+    file: Vec<u8>,
+    opened: FstfOpened,
+}
+
+impl OwnedRecording {
+    /// Opens a file's bytes and keeps them. Refused 1 to 7.
+    pub fn open(file: Vec<u8>) -> Result<OwnedRecording, Refusal> {
+        let opened = Recording::open(&file)?.opened;
+        Ok(OwnedRecording { file, opened })
+    }
+
+    /// The recording, to be read.
+    #[must_use]
+    pub fn recording(&self) -> Recording<'_> {
+        Recording { file: &self.file, opened: self.opened }
+    }
+
+    /// The bytes of the whole file.
+    #[must_use]
+    pub fn into_file(self) -> Vec<u8> {
+        self.file
     }
 }
 
@@ -180,6 +255,12 @@ impl<'a> Frame<'a> {
         self.time
     }
 
+    /// Its time as a date of the calendar, in UTC.
+    #[must_use]
+    pub fn date(&self) -> Date {
+        Date::of(self.time)
+    }
+
     /// Its exposure, the plain number that the camera's program gave.
     #[must_use]
     pub fn exposure(&self) -> u32 {
@@ -189,6 +270,12 @@ impl<'a> Frame<'a> {
     /// The bytes of a section, by its number from 0. Refused 8.
     pub fn section(&self, number: usize) -> Result<&'a [u8], Refusal> {
         self.recording.part(raw::FSTF_SECTION, self.number, number)
+    }
+
+    /// The bytes of the section of this name, if there is one.
+    #[must_use]
+    pub fn section_named(&self, name: &str) -> Option<&'a [u8]> {
+        self.section(self.recording.section_number(name)?).ok()
     }
 
     /// The bytes of the sections, in the order of [`Recording::sections`].
@@ -300,7 +387,7 @@ impl FusedIterator for Sections<'_> {}
 ///
 /// The library finds a tag by its number, which walks the table from its start. So that listing a table stays linear, this walks on from the
 /// tag before: the table is legal, since its file opened.
-#[derive(Debug, Clone)]
+#[derive(Debug, Clone, Default)]
 pub struct Tags<'a> {
     rest: &'a [u8],
     left: usize,
@@ -310,6 +397,24 @@ impl<'a> Tags<'a> {
     // The tags stand behind their count.
     fn new(table: &'a [u8], left: usize) -> Tags<'a> {
         Tags { rest: table.get(4..).unwrap_or_default(), left }
+    }
+
+    /// The tags of bytes that are exactly a table; none where they are not. The library says so, and how many tags there are.
+    pub(crate) fn of_table(table: &'a [u8]) -> Option<Tags<'a>> {
+        if calls::tag_at(table, 0).refused != 0 {
+            return None;
+        }
+        // the count, by halves: each number below it is found
+        let (mut low, mut high) = (0, MOST_TAGS);
+        while low < high {
+            let middle = (low + high) / 2;
+            if calls::tag_at(table, middle as u64).found == 1 {
+                low = middle + 1;
+            } else {
+                high = middle;
+            }
+        }
+        Some(Tags::new(table, low))
     }
 
     // "A short string is one length byte and that many bytes."

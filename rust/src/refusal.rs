@@ -5,10 +5,10 @@ use std::fmt;
 use std::io;
 use std::path::PathBuf;
 
-/// Why a call was refused. A refusal is always the first of its call's order, and nothing was changed.
+/// Why a call was refused, a case for each number of document 01.
 #[derive(Debug, Clone, Copy, PartialEq, Eq, Hash)]
 #[non_exhaustive]
-pub enum Refusal {
+pub enum Reason {
     /// 1: under 34 bytes, or it does not begin with `FSTF`.
     NotFstf,
     /// 2: a file of another revision.
@@ -29,11 +29,8 @@ pub enum Refusal {
     NoRoom,
     /// 10: a change sheet or a set-up list is malformed.
     Sheet,
-    /// 11: the file says otherwise than a member saw.
-    Conflict {
-        /// The lowest change of the sheet, from 0, that the file disagrees with.
-        place: usize,
-    },
+    /// 11: the file says otherwise than a member saw. Its place is the lowest change of the sheet, from 0, that the file disagrees with.
+    Conflict,
     /// 12: the recorder does not take this call now.
     Stage,
     /// 13: a frame's time is before the one ahead, or over 4,294,967,295 ms after the first.
@@ -53,116 +50,126 @@ pub enum Refusal {
     },
 }
 
+/// The reasons, from number 1 on.
+const REASONS: [Reason; 17] = [
+    Reason::NotFstf,
+    Reason::Revision,
+    Reason::Sections,
+    Reason::SystemTable,
+    Reason::NotClosed,
+    Reason::Index,
+    Reason::UserTable,
+    Reason::NoSuchItem,
+    Reason::NoRoom,
+    Reason::Sheet,
+    Reason::Conflict,
+    Reason::Stage,
+    Reason::Clock,
+    Reason::FrameShape,
+    Reason::Full,
+    Reason::Whole,
+    Reason::TableFull,
+];
+
+impl Reason {
+    /// Number, name and advice.
+    fn row(self) -> (u64, &'static str, &'static str) {
+        match self {
+            Reason::NotFstf => (1, "not FSTF", "The file is no FSTF recording, or shorter than a header."),
+            Reason::Revision => (2, "revision", "The file is of another revision; this library reads revision 1."),
+            Reason::Sections => (3, "sections", "The section names or their configuration offsets are broken."),
+            Reason::SystemTable => (4, "system table", "The system table is missing, misplaced or malformed."),
+            Reason::NotClosed => (5, "not closed", "The recording was never closed: repair it. Repair empties the user table: keep the old file for its tags."),
+            Reason::Index => (6, "index", "Frames, times and index do not agree: repair it. Repair empties the user table: keep the old file for its tags."),
+            Reason::UserTable => (7, "user table", "The user table is malformed or does not end the file."),
+            Reason::NoSuchItem => (8, "no such item", "Ask for an item number below its count."),
+            Reason::NoRoom => (9, "no room", "Lend a longer output (or longer notes)."),
+            Reason::Sheet => (10, "sheet", "The change sheet, or the set-up list, is malformed."),
+            Reason::Conflict => (
+                11,
+                "conflict",
+                "Somebody changed the tag at this place of the sheet since it was looked at: look again.",
+            ),
+            Reason::Stage => (12, "stage", "The recorder's state does not take this call."),
+            Reason::Clock => (13, "clock", "The frame's time is before the last one's or too far behind the first."),
+            Reason::FrameShape => (
+                14,
+                "frame shape",
+                "The sections given are not what the recording was begun with, or one is too large.",
+            ),
+            Reason::Full => (15, "full", "The recording can hold no more."),
+            Reason::Whole => (16, "whole", "Nothing to repair: the file opens."),
+            Reason::TableFull => (17, "table full", "More than 1,000 tags after the save."),
+            Reason::Unknown { number } => {
+                (number, "unknown", "Link the static library that this crate was written for.")
+            }
+        }
+    }
+
+    /// What the place counts that this number carries.
+    fn counted(self) -> Option<&'static str> {
+        match self {
+            Reason::Conflict => Some("change"),
+            _ => None,
+        }
+    }
+}
+
+/// A refusal: its number, and the place that some numbers carry. It is always the first of its call's order, and nothing was changed.
+#[derive(Debug, Clone, Copy, PartialEq, Eq, Hash)]
+pub struct Refusal {
+    reason: Reason,
+    place: Option<u64>,
+}
+
 impl Refusal {
-    /// The refusal that a flat answer of [`crate::calls`] holds, or none for 0; `place` counts for 11 only.
+    /// There is no memory for what a call is to be lent.
+    pub(crate) const NO_ROOM: Refusal = Refusal { reason: Reason::NoRoom, place: None };
+
+    /// The refusal that a flat answer of [`crate::calls`] holds in `refused` and `place`, or none for 0.
     #[must_use]
     pub fn of(number: u64, place: u64) -> Option<Refusal> {
-        Some(match number {
-            0 => return None,
-            1 => Refusal::NotFstf,
-            2 => Refusal::Revision,
-            3 => Refusal::Sections,
-            4 => Refusal::SystemTable,
-            5 => Refusal::NotClosed,
-            6 => Refusal::Index,
-            7 => Refusal::UserTable,
-            8 => Refusal::NoSuchItem,
-            9 => Refusal::NoRoom,
-            10 => Refusal::Sheet,
-            11 => Refusal::Conflict { place: place as usize },
-            12 => Refusal::Stage,
-            13 => Refusal::Clock,
-            14 => Refusal::FrameShape,
-            15 => Refusal::Full,
-            16 => Refusal::Whole,
-            17 => Refusal::TableFull,
-            _ => Refusal::Unknown { number },
-        })
+        let before = number.checked_sub(1)?;
+        let reason = REASONS.get(before as usize).copied().unwrap_or(Reason::Unknown { number });
+        Some(Refusal { reason, place: reason.counted().map(|_| place) })
+    }
+
+    /// Which one it is.
+    #[must_use]
+    pub fn reason(&self) -> Reason {
+        self.reason
     }
 
     /// The number in document 01.
     #[must_use]
     pub fn number(&self) -> u64 {
-        match self {
-            Refusal::NotFstf => 1,
-            Refusal::Revision => 2,
-            Refusal::Sections => 3,
-            Refusal::SystemTable => 4,
-            Refusal::NotClosed => 5,
-            Refusal::Index => 6,
-            Refusal::UserTable => 7,
-            Refusal::NoSuchItem => 8,
-            Refusal::NoRoom => 9,
-            Refusal::Sheet => 10,
-            Refusal::Conflict { .. } => 11,
-            Refusal::Stage => 12,
-            Refusal::Clock => 13,
-            Refusal::FrameShape => 14,
-            Refusal::Full => 15,
-            Refusal::Whole => 16,
-            Refusal::TableFull => 17,
-            Refusal::Unknown { number } => *number,
-        }
+        self.reason.row().0
+    }
+
+    /// Where, for a number that says it: 11 names the change of the sheet, from 0.
+    #[must_use]
+    pub fn place(&self) -> Option<u64> {
+        self.place
     }
 
     /// The name in document 01.
     #[must_use]
     pub fn name(&self) -> &'static str {
-        match self {
-            Refusal::NotFstf => "not FSTF",
-            Refusal::Revision => "revision",
-            Refusal::Sections => "sections",
-            Refusal::SystemTable => "system table",
-            Refusal::NotClosed => "not closed",
-            Refusal::Index => "index",
-            Refusal::UserTable => "user table",
-            Refusal::NoSuchItem => "no such item",
-            Refusal::NoRoom => "no room",
-            Refusal::Sheet => "sheet",
-            Refusal::Conflict { .. } => "conflict",
-            Refusal::Stage => "stage",
-            Refusal::Clock => "clock",
-            Refusal::FrameShape => "frame shape",
-            Refusal::Full => "full",
-            Refusal::Whole => "whole",
-            Refusal::TableFull => "table full",
-            Refusal::Unknown { .. } => "unknown",
-        }
+        self.reason.row().1
     }
 
     /// What it means and what to do, in a sentence.
     #[must_use]
     pub fn advice(&self) -> &'static str {
-        match self {
-            Refusal::NotFstf => "The file is no FSTF recording, or shorter than a header.",
-            Refusal::Revision => "The file is of another revision; this library reads revision 1.",
-            Refusal::Sections => "The section names or their configuration offsets are broken.",
-            Refusal::SystemTable => "The system table is missing, misplaced or malformed.",
-            Refusal::NotClosed => "The recording was never closed: repair it.",
-            Refusal::Index => "Frames, times and index do not agree: repair it.",
-            Refusal::UserTable => "The user table is malformed or does not end the file.",
-            Refusal::NoSuchItem => "Ask for an item number below its count.",
-            Refusal::NoRoom => "Lend a longer output (or longer notes).",
-            Refusal::Sheet => "The change sheet, or the set-up list, is malformed.",
-            Refusal::Conflict { .. } => {
-                "Somebody changed the tag at this place of the sheet since it was looked at: look again."
-            }
-            Refusal::Stage => "The recorder's state does not take this call.",
-            Refusal::Clock => "The frame's time is before the last one's or too far behind the first.",
-            Refusal::FrameShape => "The sections given are not what the recording was begun with, or one is too large.",
-            Refusal::Full => "The recording can hold no more.",
-            Refusal::Whole => "Nothing to repair: the file opens.",
-            Refusal::TableFull => "More than 1,000 tags after the save.",
-            Refusal::Unknown { .. } => "Link the static library that this crate was written for.",
-        }
+        self.reason.row().2
     }
 }
 
 impl fmt::Display for Refusal {
     fn fmt(&self, f: &mut fmt::Formatter<'_>) -> fmt::Result {
         write!(f, "refused {}, {}", self.number(), self.name())?;
-        if let Refusal::Conflict { place } = self {
-            write!(f, " at change {place}")?;
+        if let (Some(counted), Some(place)) = (self.reason.counted(), self.place) {
+            write!(f, " at {counted} {place}")?;
         }
         write!(f, ": {}", self.advice())
     }
@@ -170,12 +177,9 @@ impl fmt::Display for Refusal {
 
 impl StdError for Refusal {}
 
-/// The answer's refusal as an error; an accepted answer goes on.
-pub(crate) fn accepted(refused: u64) -> Result<(), Refusal> {
-    match Refusal::of(refused, 0) {
-        None => Ok(()),
-        Some(refusal) => Err(refusal),
-    }
+/// The refusal of an answer, by its first two members, as an error; an accepted answer goes on.
+pub(crate) fn accepted(refused: u64, place: u64) -> Result<(), Refusal> {
+    Refusal::of(refused, place).map_or(Ok(()), Err)
 }
 
 /// What can go wrong where files are read and written: the library refuses, or the storage fails.

@@ -1,15 +1,32 @@
 //! Saving tags: what a member saw, and what is to be.
 
+use std::collections::HashMap;
+use std::fmt;
 use std::io::{self, Write};
 
 use crate::calls;
 use crate::form::{self, between, short_string};
 use crate::recording::Recording;
-use crate::refusal::Refusal;
+use crate::refusal::{accepted, Refusal};
+
+/// The most changes of a sheet.
+const MOST_CHANGES: usize = 64;
+
+/// The most bytes of a name or a value.
+const LONGEST_STRING: usize = 255;
+
+/// The refusal of a malformed sheet.
+const SHEET_REFUSED: u64 = 10;
+
+/// The smallest recording: one section `A`, no frame, no tag. The library looks at a sheet alone by saving it there.
+const SMALLEST: [u8; 56] = *b"FSTF\x01\0\0\0\0\
+    \x30\0\0\0\0\0\0\0\x2C\0\0\0\0\0\0\0\x34\0\0\0\0\0\0\0\
+    \x01\x01A\x2C\0\0\0\0\0\0\0\
+    \0\0\0\0\0\0\0\0\0\0\0\0";
 
 /// What a member knows of a tag before a change.
 #[derive(Debug, Clone, PartialEq, Eq)]
-enum Seen {
+enum Known {
     /// There was no such tag, or it had this value.
     Entry(Option<String>),
     NobodyLooked,
@@ -18,8 +35,30 @@ enum Seen {
 #[derive(Debug, Clone, PartialEq, Eq)]
 struct Row {
     name: String,
-    seen: Seen,
+    seen: Known,
     new: Option<String>,
+}
+
+/// What a change says that its member saw.
+#[derive(Debug, Clone, Copy, PartialEq, Eq)]
+pub enum Seen<'s> {
+    /// There was no such tag.
+    Absent,
+    /// The tag had this value.
+    Value(&'s str),
+    /// Nobody looked.
+    NobodyLooked,
+}
+
+/// A change of a sheet, see [`Sheet::changes`].
+#[derive(Debug, Clone, Copy, PartialEq, Eq)]
+pub struct SheetChange<'s> {
+    /// The name of the tag.
+    pub name: &'s str,
+    /// What its member saw.
+    pub seen: Seen<'s>,
+    /// What it is to be: this value, or none where it is to be removed.
+    pub new: Option<&'s str>,
 }
 
 /// A change sheet: changes of user tags, each with what its member saw, or openly that nobody looked.
@@ -54,6 +93,85 @@ impl Sheet {
         Change { sheet: self, name: name.to_string() }
     }
 
+    /// The sheet of a form: what it showed, and what it holds when it is sent, each as names with their values.
+    ///
+    /// A tag that was shown is changed where its value differs, and removed where it is not there any more; one that was not shown is new, and
+    /// its member saw none. A tag with the value that was shown is no change, so that another member's change of it stays. A name that comes
+    /// twice in a list comes twice on the sheet too, where [`Sheet::faults`] tells it.
+    ///
+    /// ```
+    /// let sheet = suljanko::Sheet::from_form(&[("SITE", "Inari"), ("NOTE", "wind")], &[("SITE", "Kuusamo"), ("NOTE", "wind")]);
+    /// assert_eq!((sheet.len(), sheet.name(0)), (1, Some("SITE")));
+    /// ```
+    #[must_use]
+    pub fn from_form(before: &[(&str, &str)], after: &[(&str, &str)]) -> Sheet {
+        let shown = by_name(before);
+        let sent = by_name(after);
+        let mut sheet = Sheet::new();
+        for &(name, value) in before {
+            let new = sent.get(name).map_or(&[][..], Vec::as_slice);
+            let twice = new.len() > 1 || shown.get(name).map_or(0, Vec::len) > 1;
+            if new.is_empty() {
+                sheet.change(name).seen(Some(value)).remove();
+            }
+            for new in new.iter().filter(|new| twice || **new != value) {
+                sheet.change(name).seen(Some(value)).set(new);
+            }
+        }
+        for (name, value) in after.iter().filter(|(name, _)| !shown.contains_key(name)) {
+            sheet.change(name).seen(None).set(value);
+        }
+        sheet
+    }
+
+    /// A sheet of bytes in the form of document 01, as [`Sheet::to_vec`] gives them. Refused 10; the library says whether they are a sheet.
+    pub fn from_bytes(bytes: &[u8]) -> Result<Sheet, Refusal> {
+        let judged = calls::save(&SMALLEST, bytes, &mut []).refused;
+        if judged != SHEET_REFUSED {
+            if let Some(rows) = rows_of(bytes) {
+                return Ok(Sheet { rows });
+            }
+        }
+        accepted(SHEET_REFUSED, 0).map(|()| Sheet::new())
+    }
+
+    /// The changes, in their order: what each tag's member saw, and what it is to be.
+    pub fn changes(&self) -> impl ExactSizeIterator<Item = SheetChange<'_>> + DoubleEndedIterator + Clone {
+        self.rows.iter().map(|row| SheetChange {
+            name: &row.name,
+            seen: match &row.seen {
+                Known::Entry(None) => Seen::Absent,
+                Known::Entry(Some(value)) => Seen::Value(value),
+                Known::NobodyLooked => Seen::NobodyLooked,
+            },
+            new: row.new.as_deref(),
+        })
+    }
+
+    /// What would be refused 10, by tag: the changes that break the rules of a sheet, with what breaks them. None where the sheet is one.
+    ///
+    /// A sheet has at most 64 changes, and no name twice. Names have 1 to 255 characters and values 0 to 255, from the space to `~`.
+    #[must_use]
+    pub fn faults(&self) -> Vec<SheetFault<'_>> {
+        let mut places: HashMap<&str, usize> = HashMap::new();
+        let mut faults = Vec::new();
+        for (place, change) in self.changes().enumerate() {
+            let mut tell = |part, fault: Option<Fault>| {
+                faults.extend(fault.map(|fault| SheetFault { place, name: change.name, part, fault }));
+            };
+            tell(TagPart::Change, (place == MOST_CHANGES).then_some(Fault::TooMany { changes: self.len() }));
+            tell(TagPart::Name, change.name.is_empty().then_some(Fault::Empty));
+            tell(TagPart::Name, string_fault(change.name));
+            let first = *places.entry(change.name).or_insert(place);
+            tell(TagPart::Name, (first != place).then_some(Fault::Twice { first }));
+            if let Seen::Value(value) = change.seen {
+                tell(TagPart::Seen, string_fault(value));
+            }
+            tell(TagPart::New, change.new.and_then(string_fault));
+        }
+        faults
+    }
+
     /// How many changes are on the sheet.
     #[must_use]
     pub fn len(&self) -> usize {
@@ -66,7 +184,7 @@ impl Sheet {
         self.rows.is_empty()
     }
 
-    /// The name of the tag that the change at this place, from 0, is about: what [`Refusal::Conflict`] points at.
+    /// The name of the tag that the change at this place, from 0, is about: what [`Refusal::place`] points at.
     #[must_use]
     pub fn name(&self, place: usize) -> Option<&str> {
         self.rows.get(place).map(|row| row.name.as_str())
@@ -83,8 +201,8 @@ impl Sheet {
         for row in &self.rows {
             short_string(&mut form, &row.name)?;
             match &row.seen {
-                Seen::Entry(value) => entry(&mut form, value.as_deref())?,
-                Seen::NobodyLooked => form.push(2),
+                Known::Entry(value) => entry(&mut form, value.as_deref())?,
+                Known::NobodyLooked => form.push(2),
             }
             entry(&mut form, row.new.as_deref())?;
         }
@@ -106,6 +224,141 @@ fn entry(form: &mut Vec<u8>, value: Option<&str>) -> Option<()> {
     }
 }
 
+/// The values under each name of a list.
+fn by_name<'l>(list: &[(&'l str, &'l str)]) -> HashMap<&'l str, Vec<&'l str>> {
+    let mut values: HashMap<&str, Vec<&str>> = HashMap::new();
+    for (name, value) in list {
+        values.entry(name).or_default().push(value);
+    }
+    values
+}
+
+/// The rows of bytes that the library takes for a sheet.
+fn rows_of(mut bytes: &[u8]) -> Option<Vec<Row>> {
+    let count = byte(&mut bytes)?;
+    (0..count).map(|_| row(&mut bytes)).collect()
+}
+
+fn row(bytes: &mut &[u8]) -> Option<Row> {
+    let name = string(bytes)?;
+    let seen = match byte(bytes)? {
+        2 => Known::NobodyLooked,
+        kind => Known::Entry(value(kind, bytes)?),
+    };
+    let kind = byte(bytes)?;
+    Some(Row { name, seen, new: value(kind, bytes)? })
+}
+
+/// What follows a kind: nothing, or a value.
+fn value(kind: u8, bytes: &mut &[u8]) -> Option<Option<String>> {
+    match kind {
+        0 => Some(None),
+        1 => string(bytes).map(Some),
+        _ => None,
+    }
+}
+
+fn byte(bytes: &mut &[u8]) -> Option<u8> {
+    let (byte, rest) = bytes.split_first()?;
+    *bytes = rest;
+    Some(*byte)
+}
+
+fn string(bytes: &mut &[u8]) -> Option<String> {
+    let length = usize::from(byte(bytes)?);
+    let string = bytes.get(..length)?;
+    *bytes = bytes.get(length..)?;
+    String::from_utf8(string.to_vec()).ok()
+}
+
+/// What of a change a fault is about.
+#[derive(Debug, Clone, Copy, PartialEq, Eq)]
+pub enum TagPart {
+    /// The change itself: there are too many.
+    Change,
+    /// The tag's name.
+    Name,
+    /// The value that was seen.
+    Seen,
+    /// The new value.
+    New,
+}
+
+/// Which rule is broken.
+#[derive(Debug, Clone, Copy, PartialEq, Eq)]
+#[non_exhaustive]
+pub enum Fault {
+    /// A sheet has at most 64 changes: this one is the first too many.
+    TooMany {
+        /// How many there are.
+        changes: usize,
+    },
+    /// A name has at least one character.
+    Empty,
+    /// A name or a value has at most 255 bytes.
+    TooLong {
+        /// How many it has; `ä` has two.
+        bytes: usize,
+    },
+    /// Names and values have the characters from the space to `~` only: no `ä`, no tab, no end of a line.
+    Character {
+        /// The first other one.
+        character: char,
+        /// Its place among the characters, from 0.
+        place: usize,
+    },
+    /// No name comes twice.
+    Twice {
+        /// The place, from 0, of the first change of that name.
+        first: usize,
+    },
+}
+
+/// A change that breaks the rules of a sheet, see [`Sheet::faults`].
+#[derive(Debug, Clone, Copy, PartialEq, Eq)]
+pub struct SheetFault<'s> {
+    /// The change's place on the sheet, from 0.
+    pub place: usize,
+    /// The name of its tag, as it was given.
+    pub name: &'s str,
+    /// What of it breaks the rule.
+    pub part: TagPart,
+    /// How.
+    pub fault: Fault,
+}
+
+impl fmt::Display for SheetFault<'_> {
+    fn fmt(&self, f: &mut fmt::Formatter<'_>) -> fmt::Result {
+        write!(f, "change {}, tag {:?}: ", self.place, self.name)?;
+        f.write_str(match self.part {
+            TagPart::Change => "the sheet",
+            TagPart::Name => "its name",
+            TagPart::Seen => "the value that was seen",
+            TagPart::New => "its new value",
+        })?;
+        match self.fault {
+            Fault::TooMany { changes } => write!(f, " has {changes} changes, more than {MOST_CHANGES}"),
+            Fault::Empty => write!(f, " is empty"),
+            Fault::TooLong { bytes } => write!(f, " has {bytes} bytes, more than {LONGEST_STRING}"),
+            Fault::Character { character, place } => {
+                write!(f, " has {character:?} at {place}, which is not a character from the space to ~")
+            }
+            Fault::Twice { first } => write!(f, " is that of change {first} too"),
+        }
+    }
+}
+
+impl std::error::Error for SheetFault<'_> {}
+
+/// What of a name or a value breaks the rule of both.
+fn string_fault(string: &str) -> Option<Fault> {
+    let other = string.chars().enumerate().find(|(_, character)| !(' '..='~').contains(character));
+    match other {
+        Some((place, character)) => Some(Fault::Character { character, place }),
+        None => (string.len() > LONGEST_STRING).then_some(Fault::TooLong { bytes: string.len() }),
+    }
+}
+
 /// A change of which is not yet said what its member saw.
 #[derive(Debug)]
 #[must_use = "the change is on the sheet when it was said what was seen and what is new"]
@@ -117,12 +370,12 @@ pub struct Change<'s> {
 impl<'s> Change<'s> {
     /// The member looked, and saw this value, or that there was no such tag: as [`Recording::user_tag`] answered then.
     pub fn seen(self, value: Option<&str>) -> Looked<'s> {
-        Looked { seen: Seen::Entry(value.map(str::to_string)), sheet: self.sheet, name: self.name }
+        Looked { seen: Known::Entry(value.map(str::to_string)), sheet: self.sheet, name: self.name }
     }
 
     /// Nobody looked: the change is to be made whatever the file says.
     pub fn nobody_looked(self) -> Looked<'s> {
-        Looked { seen: Seen::NobodyLooked, sheet: self.sheet, name: self.name }
+        Looked { seen: Known::NobodyLooked, sheet: self.sheet, name: self.name }
     }
 }
 
@@ -132,7 +385,7 @@ impl<'s> Change<'s> {
 pub struct Looked<'s> {
     sheet: &'s mut Sheet,
     name: String,
-    seen: Seen,
+    seen: Known,
 }
 
 impl Looked<'_> {
@@ -159,7 +412,7 @@ pub struct Saved<'a> {
     table: Vec<u8>,
 }
 
-/// Makes the new user table of a change sheet. Refused 1 to 7, 10, 11, 17; with [`Refusal::Conflict`], [`Sheet::name`] tells which tag.
+/// Makes the new user table of a change sheet. Refused 1 to 7, 10, 11, 17; with 11, [`Sheet::name`] at [`Refusal::place`] tells which tag.
 ///
 /// It is an answer, not a write: [`crate::files::save`] saves to a file on disk.
 pub fn save<'a>(file: &'a [u8], sheet: &Sheet) -> Result<Saved<'a>, Refusal> {
@@ -168,9 +421,7 @@ pub fn save<'a>(file: &'a [u8], sheet: &Sheet) -> Result<Saved<'a>, Refusal> {
     // no new table is longer than the old one and the sheet together
     let mut table = form::room(recording.user_table().len().saturating_add(sheet.len()))?;
     let saved = calls::save(file, &sheet, &mut table);
-    if let Some(refusal) = Refusal::of(saved.refused, saved.place) {
-        return Err(refusal);
-    }
+    accepted(saved.refused, saved.place)?;
     table.truncate(saved.length as usize);
     Ok(Saved { file, place: recording.user_place(), table })
 }
@@ -186,6 +437,10 @@ impl Saved<'_> {
     #[must_use]
     pub fn table(&self) -> &[u8] {
         &self.table
+    }
+
+    pub(crate) fn into_table(self) -> Vec<u8> {
+        self.table
     }
 
     /// Writes the new file, front to back. Do not write it over the file itself.

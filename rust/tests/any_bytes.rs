@@ -3,7 +3,7 @@
 mod common;
 
 use common::{recorded, tagged};
-use suljanko::{repair, save, Recording, Refusal, Sheet};
+use suljanko::{repair, save, Reason, Recording, Sheet};
 
 /// A small generator (xorshift), so that the run is the same each time.
 struct Random(u64);
@@ -65,7 +65,7 @@ fn any_bytes_are_answered() {
             Ok(recording) => {
                 opened += 1;
                 read_all(recording);
-                assert_eq!(repair(&file).unwrap_err(), Refusal::Whole);
+                assert_eq!(repair(&file).unwrap_err().reason(), Reason::Whole);
                 let saved = save(&file, &sheet).unwrap().to_vec();
                 assert_eq!(Recording::open(&saved).unwrap().user_tag("T1"), Some("new"));
             }

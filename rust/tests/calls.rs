@@ -30,6 +30,7 @@ fn empty_slices() {
 fn refused_answers_hold_nothing_else() {
     let nothing = FstfOpened {
         refused: 7,
+        place: 0,
         frames: 0,
         sections: 0,
         system_tags: 0,
@@ -41,7 +42,7 @@ fn refused_answers_hold_nothing_else() {
     };
     assert_eq!(calls::open(&WHOLE[..97]), nothing);
     let part = calls::part(&WHOLE, raw::FSTF_SECTION, 1, 0);
-    assert_eq!((part.refused, part.start, part.length), (8, 0, 0));
+    assert_eq!((part.refused, part.place, part.start, part.length), (8, 0, 0, 0));
 }
 
 #[test]
@@ -73,6 +74,7 @@ fn made_up_openings_stay_in_the_file() {
             for c in EDGES {
                 let opened = FstfOpened {
                     refused: a,
+                    place: c,
                     frames: b,
                     sections: c,
                     system_tags: b,
@@ -92,20 +94,21 @@ fn made_up_openings_stay_in_the_file() {
 
 fn items_stay_in(file: &[u8], opened: FstfOpened, i: u64) {
     let frame = calls::frame_of(file, opened, i);
-    stays_in(file, opened, frame.refused, frame.place, frame.length);
+    stays_in(file, opened, (frame.refused, frame.place), frame.start, frame.length);
     for kind in 0..8 {
         let part = calls::part_of(file, opened, kind, i, 0);
-        stays_in(file, opened, part.refused, part.start, part.length);
+        stays_in(file, opened, (part.refused, part.place), part.start, part.length);
     }
 }
 
-// A refusal of the opening is passed through; else the item is inside the file, or it is not there.
-fn stays_in(file: &[u8], opened: FstfOpened, refused: u64, start: u64, length: u64) {
+// A refusal of the opening is passed through, number and place; else the item is inside the file, or it is not there.
+fn stays_in(file: &[u8], opened: FstfOpened, refusal: (u64, u64), start: u64, length: u64) {
     if opened.refused != 0 {
-        assert_eq!(refused, opened.refused, "{opened:?}");
+        assert_eq!(refusal, (opened.refused, opened.place), "{opened:?}");
+        return;
     }
-    if refused != 0 {
-        assert!(refused == 8 || refused == opened.refused, "{opened:?}");
+    if refusal != (0, 0) {
+        assert_eq!(refusal, (8, 0), "{opened:?}");
         return;
     }
     let end = start.checked_add(length).unwrap();
@@ -139,7 +142,7 @@ fn made_up_states_are_refused_12_and_handed_back() {
         let added = calls::add(state, 1000, 40, &WHOLE[68..74], &mut notes, &mut out);
         let closed = calls::close(state, &notes, &mut out);
         for taken in [added, closed] {
-            assert_eq!((taken.refused, taken.place, taken.length), (12, 0, 0), "{state:?}");
+            assert_eq!((taken.refused, taken.place, taken.start, taken.length), (12, 0, 0, 0), "{state:?}");
             assert_eq!(taken.recorder, state);
         }
         assert_eq!((notes, out), ([0xA5; 64], [0x5A; 64]));

@@ -5,10 +5,10 @@ mod common;
 use std::io::Cursor;
 
 use common::{before_closing, running, with, WHOLE};
-use suljanko::{repair, save, FileRecorder, Recorder, Recording, Refusal, Sheet, Stage, CLOSING_PIECES};
+use suljanko::{repair, save, FileRecorder, Reason, Recorder, Recording, Refusal, Sheet, Stage, CLOSING_PIECES};
 
-fn refused(file: &[u8]) -> Refusal {
-    Recording::open(file).unwrap_err()
+fn refused(file: &[u8]) -> Reason {
+    Recording::open(file).unwrap_err().reason()
 }
 
 #[test]
@@ -29,18 +29,18 @@ fn p1_the_file_opens() {
 
 #[test]
 fn p2_to_p7_damaged_files() {
-    assert_eq!(refused(&WHOLE[..97]), Refusal::UserTable);
-    assert_eq!(refused(&with(4, 2)), Refusal::Revision);
-    assert_eq!(refused(&with(9, 0)), Refusal::NotClosed);
-    assert_eq!(refused(&with(9, 75)), Refusal::Index);
-    assert_eq!(refused(&with(5, 2)), Refusal::Index);
-    assert_eq!(refused(&WHOLE[..33]), Refusal::NotFstf);
+    assert_eq!(refused(&WHOLE[..97]), Reason::UserTable);
+    assert_eq!(refused(&with(4, 2)), Reason::Revision);
+    assert_eq!(refused(&with(9, 0)), Reason::NotClosed);
+    assert_eq!(refused(&with(9, 75)), Reason::Index);
+    assert_eq!(refused(&with(5, 2)), Reason::Index);
+    assert_eq!(refused(&WHOLE[..33]), Reason::NotFstf);
 }
 
 #[test]
 fn p8_a_torn_frame_is_left_out() {
     let cut = &before_closing()[..73];
-    assert_eq!(refused(cut), Refusal::NotClosed);
+    assert_eq!(refused(cut), Reason::NotClosed);
     let repaired = repair(cut).unwrap();
     assert_eq!((repaired.kept(), repaired.frame_count()), (52, 0));
     assert_eq!((repaired.index(), repaired.user()), (52, 56));
@@ -59,8 +59,8 @@ fn p9_a_whole_frame_is_kept() {
 #[test]
 fn p10_a_cut_system_table() {
     let cut = &before_closing()[..51];
-    assert_eq!(refused(cut), Refusal::SystemTable);
-    assert_eq!(repair(cut).unwrap_err(), Refusal::SystemTable);
+    assert_eq!(refused(cut), Reason::SystemTable);
+    assert_eq!(repair(cut).unwrap_err().reason(), Reason::SystemTable);
 }
 
 #[test]
@@ -74,7 +74,7 @@ fn p11_and_p12_a_save_and_the_same_again() {
     let file = saved.to_vec();
     assert_eq!(file[..94], WHOLE[..94]);
     assert_eq!(Recording::open(&file).unwrap().user_tag("SITE"), Some("A"));
-    assert_eq!(save(&file, &sheet).unwrap_err(), Refusal::Conflict { place: 0 });
+    assert_eq!(save(&file, &sheet).err(), Refusal::of(11, 0));
 }
 
 #[test]
@@ -108,7 +108,7 @@ fn the_pieces_have_their_places() {
 fn the_clock_at_its_edge() {
     let mut recorder = running();
     recorder.add(1000, 40, &[&[0x34, 0x12]]).unwrap();
-    assert_eq!(recorder.add(999, 40, &[&[]]).unwrap_err(), Refusal::Clock);
+    assert_eq!(recorder.add(999, 40, &[&[]]).unwrap_err().reason(), Reason::Clock);
     assert_eq!(recorder.frame_count(), 1);
     assert!(recorder.add(1000, 40, &[&[]]).is_ok());
     assert_eq!(recorder.frame_count(), 2);
@@ -122,5 +122,5 @@ fn a_section_at_its_limit_and_past_it() {
     // 52 bytes ahead of the first frame; 16 of the frame's head, 4 of the size
     assert_eq!((piece.place, piece.bytes.len()), (52, 20 + 16_777_216));
     assert!(piece.bytes[20..] == bytes[1..]);
-    assert_eq!(recorder.add(0, 0, &[&bytes]).unwrap_err(), Refusal::FrameShape);
+    assert_eq!(recorder.add(0, 0, &[&bytes]).unwrap_err().reason(), Reason::FrameShape);
 }

@@ -4,9 +4,10 @@ mod common;
 
 use std::fs;
 use std::path::{Path, PathBuf};
+use std::time::Duration;
 
 use common::{before_closing, WHOLE};
-use suljanko::{files, Error, Recording, Refusal, Sheet};
+use suljanko::{files, Error, Reason, Recording, Refusal, Sheet};
 
 /// A directory of its own for a test, which goes when the test is done.
 struct Place(PathBuf);
@@ -59,7 +60,7 @@ fn two_members_save() {
     assert_eq!(user_tag(&path, "SITE").as_deref(), Some("Kuusamo"));
     let before = fs::read(&path).unwrap();
     let error = files::save(&path, &site(None, "Inari")).unwrap_err();
-    assert_eq!(error.refusal(), Some(Refusal::Conflict { place: 0 }));
+    assert_eq!(error.refusal(), Refusal::of(11, 0));
     assert_eq!(fs::read(&path).unwrap(), before);
     files::save(&path, &site(Some("Kuusamo"), "Inari")).unwrap();
     assert_eq!(user_tag(&path, "SITE").as_deref(), Some("Inari"));
@@ -130,7 +131,7 @@ fn one_of_many_who_saw_the_same_wins() {
                     Ok(()) => return Some(member),
                     Err(Error::Busy { .. }) => std::thread::yield_now(),
                     Err(error) => {
-                        assert_eq!(error.refusal(), Some(Refusal::Conflict { place: 0 }));
+                        assert_eq!(error.refusal(), Refusal::of(11, 0));
                         return None;
                     }
                 }
@@ -166,16 +167,20 @@ fn at_every_moment_the_old_file_or_the_new_one_is_there() {
 fn a_cut_file_is_repaired() {
     let place = Place::new("repair");
     let path = place.file("night.fstf", &before_closing());
-    assert_eq!(files::repair(&path).unwrap(), 1);
+    let done = files::repair(&path).unwrap();
+    assert_eq!((done.frames, done.tags_not_kept), (1, 0));
     assert_eq!(fs::read(&path).unwrap(), WHOLE);
-    assert_eq!(files::repair(&path).unwrap_err().refusal(), Some(Refusal::Whole));
-    assert!(!files::repair_if_needed(&path).unwrap());
+    assert_eq!(fs::read(&done.old).unwrap(), before_closing());
+    assert_eq!(files::repair(&path).unwrap_err().refusal().unwrap().reason(), Reason::Whole);
+    assert_eq!(files::repair_if_needed(&path).unwrap(), None);
     let path = place.file("cut.fstf", &before_closing()[..73]);
-    assert!(files::repair_if_needed(&path).unwrap());
+    let done = files::repair_if_needed(&path).unwrap().unwrap();
+    assert_eq!((done.frames, fs::read(&done.old).unwrap()), (0, before_closing()[..73].to_vec()));
     let path = place.file("none.fstf", b"not a recording");
-    assert_eq!(files::repair_if_needed(&path).unwrap_err().refusal(), Some(Refusal::NotFstf));
+    assert_eq!(files::repair_if_needed(&path).unwrap_err().refusal().unwrap().reason(), Reason::NotFstf);
     assert_eq!(fs::read(&path).unwrap(), b"not a recording");
-    assert_eq!(place.names(), ["cut.fstf", "night.fstf", "none.fstf"]);
+    let names = ["cut.fstf", "cut.fstf.old", "night.fstf", "night.fstf.old", "none.fstf"];
+    assert_eq!(place.names(), names);
 }
 
 #[test]
@@ -184,14 +189,15 @@ fn a_recording_on_disk() {
     let path = place.0.join("night.fstf");
     let mut recorder = files::record(&path, &[("IMAGE", b"")], &[]).unwrap();
     recorder.add(1000, 40, &[&[0x34, 0x12]]).unwrap();
+    recorder.sync().unwrap();
     // not closed yet, it is what repair makes a file of
     assert_eq!(fs::read(&path).unwrap(), before_closing());
     recorder.close_on_disk().unwrap();
-    assert_eq!(recorder.close_on_disk().unwrap_err().refusal(), Some(Refusal::Stage));
+    assert_eq!(recorder.close_on_disk().unwrap_err().refusal().unwrap().reason(), Reason::Stage);
     assert_eq!(fs::read(&path).unwrap(), WHOLE);
     // a recording that is refused leaves no file
     let refused = files::record(place.0.join("none.fstf"), &[], &[]).unwrap_err();
-    assert_eq!(refused.refusal(), Some(Refusal::Sections));
+    assert_eq!(refused.refusal().unwrap().reason(), Reason::Sections);
     assert_eq!(place.names(), ["night.fstf"]);
     // a file that is there is left alone
     assert!(matches!(files::record(&path, &[("IMAGE", b"")], &[]).unwrap_err(), Error::Storage(_)));
@@ -220,4 +226,156 @@ fn links_stay_and_so_do_permissions() {
     assert!(fs::symlink_metadata(&link).unwrap().file_type().is_symlink());
     assert_eq!(user_tag(&path, "SITE").as_deref(), Some("A"));
     assert_eq!(fs::metadata(&path).unwrap().permissions().mode() & 0o777, 0o640);
+}
+
+/// The worked file with these user tags, and one bit of its header's frame count flipped: refused 6.
+fn flipped(tags: &[(&str, &str)]) -> Vec<u8> {
+    let mut file = suljanko::save(&WHOLE, &Sheet::from_form(&[], tags)).unwrap().to_vec();
+    assert_eq!(Recording::open(&file).unwrap().user_tags().len(), tags.len());
+    file[5] ^= 2;
+    assert_eq!(Recording::open(&file).unwrap_err().number(), 6);
+    file
+}
+
+#[test]
+fn a_repair_tells_the_tags_that_it_does_not_keep_and_leaves_the_old_file() {
+    let place = Place::new("flipped");
+    let file = flipped(&[("SITE", "Kuusamo"), ("OBSERVER", "Aino")]);
+    let path = place.file("night.fstf", &file);
+    let done = files::repair(&path).unwrap();
+    assert_eq!((done.frames, done.tags_not_kept), (1, 2));
+    assert_eq!(done.old, place.0.canonicalize().unwrap().join("night.fstf.old"));
+    assert_eq!(fs::read(&done.old).unwrap(), file);
+    assert_eq!(fs::read(&path).unwrap(), WHOLE);
+    // the tags can be had from there, and saved again
+    let old = fs::read(&done.old).unwrap();
+    let tags: Vec<_> = suljanko::repair(&old).unwrap().tags_not_kept().map(|tag| (tag.name, tag.value)).collect();
+    assert_eq!(tags, [("SITE", "Kuusamo"), ("OBSERVER", "Aino")]);
+    files::save(&path, &Sheet::from_form(&[], &tags)).unwrap();
+    assert_eq!(user_tag(&path, "OBSERVER").as_deref(), Some("Aino"));
+}
+
+#[test]
+fn no_old_file_is_overwritten() {
+    let place = Place::new("olds");
+    place.file("night.fstf.old", b"a first one");
+    place.file("night.fstf.old2", b"a second one");
+    let cut = before_closing();
+    let path = place.file("night.fstf", &cut);
+    let done = files::repair(&path).unwrap();
+    assert!(done.old.ends_with("night.fstf.old3"), "{:?}", done.old);
+    assert_eq!(fs::read(&done.old).unwrap(), cut);
+    assert_eq!(fs::read(place.0.join("night.fstf.old")).unwrap(), b"a first one");
+    assert_eq!(fs::read(place.0.join("night.fstf.old2")).unwrap(), b"a second one");
+    // neither a refused repair nor a save leaves one
+    assert_eq!(files::repair(&path).unwrap_err().refusal().map(|refusal| refusal.number()), Some(16));
+    files::save(&path, &site(None, "A")).unwrap();
+    let names = ["night.fstf", "night.fstf.old", "night.fstf.old2", "night.fstf.old3"];
+    assert_eq!(place.names(), names);
+}
+
+#[test]
+fn a_file_is_opened_by_its_path() {
+    let place = Place::new("open");
+    let path = place.file("night.fstf", &WHOLE);
+    let file = files::open(&path).unwrap();
+    // the bytes are its own
+    fs::remove_file(&path).unwrap();
+    assert_eq!(file.recording().frame(0).unwrap().section_named("IMAGE"), Some(&[0x34, 0x12][..]));
+    assert_eq!(file.into_file(), WHOLE);
+    assert!(matches!(files::open(&path).unwrap_err(), Error::Storage(_)));
+    assert!(matches!(files::open(&place.0).unwrap_err(), Error::Storage(_)));
+    let cut = place.file("cut.fstf", &before_closing());
+    assert_eq!(files::open(cut).unwrap_err().refusal().map(|refusal| refusal.number()), Some(5));
+}
+
+#[test]
+fn what_a_crash_left_is_cleared_when_it_is_old() {
+    let place = Place::new("stale");
+    let path = place.file("night.fstf", &WHOLE);
+    let hour = Duration::from_secs(3600);
+    assert!(!files::clear_stale(&path, hour).unwrap());
+    place.file(".night.fstf.new", b"half a fi");
+    assert!(matches!(files::save(&path, &site(None, "A")).unwrap_err(), Error::Busy { .. }));
+    let error = files::clear_stale(&path, hour).unwrap_err();
+    assert!(matches!(&error, Error::Busy { lock } if lock.ends_with(".night.fstf.new")), "{error}");
+    assert_eq!(place.names(), [".night.fstf.new", "night.fstf"]);
+    assert!(files::clear_stale(&path, Duration::ZERO).unwrap());
+    files::save(&path, &site(None, "A")).unwrap();
+    assert_eq!(place.names(), ["night.fstf"]);
+}
+
+// Members save while another clears their new files without waiting: each save is told, or is there.
+#[test]
+fn one_whose_new_file_was_cleared_is_told() {
+    let place = Place::new("cleared");
+    let path = place.file("night.fstf", &WHOLE);
+    let saving = {
+        let path = path.clone();
+        std::thread::spawn(move || {
+            let (mut seen, mut told) = (None, 0);
+            for number in 0..400 {
+                let new = format!("{number}");
+                match files::save(&path, &site(seen.as_deref(), &new)) {
+                    Ok(()) => seen = Some(new),
+                    Err(Error::Busy { .. }) => told += 1,
+                    // between the look whose file it is and the rename
+                    Err(Error::Storage(error)) => assert_eq!(error.kind(), std::io::ErrorKind::NotFound),
+                    Err(error) => panic!("{error}"),
+                }
+            }
+            (seen, told)
+        })
+    };
+    while !saving.is_finished() {
+        let _ = files::clear_stale(&path, Duration::ZERO);
+    }
+    let (seen, told) = saving.join().unwrap();
+    assert_eq!(user_tag(&path, "SITE"), seen, "told {told} times");
+    assert_eq!(place.names(), ["night.fstf"]);
+}
+
+// A slow member's new file is cleared, and another member has begun one: the slow one is told, and touches neither.
+#[test]
+fn one_who_is_too_slow_leaves_the_next_members_file() {
+    let place = Place::new("slow");
+    let path = place.0.join("night.fstf");
+    let mut recorder = files::record(&path, &[("IMAGE", b"")], &[]).unwrap();
+    for number in 0..20 {
+        recorder.add(number, 0, &[&[7; 1_000_000]]).unwrap();
+    }
+    recorder.close_on_disk().unwrap();
+    let before = fs::read(&path).unwrap();
+    let slow = {
+        let path = path.clone();
+        std::thread::spawn(move || files::save(&path, &site(None, "too late")))
+    };
+    // as soon as it is there
+    while !files::clear_stale(&path, Duration::ZERO).unwrap() {
+        assert!(!slow.is_finished(), "20 MB were saved before anybody could look");
+    }
+    place.file(".night.fstf.new", b"the next member's");
+    assert!(matches!(slow.join().unwrap(), Err(Error::Busy { .. })));
+    assert_eq!(fs::read(place.0.join(".night.fstf.new")).unwrap(), b"the next member's");
+    assert!(fs::read(&path).unwrap() == before);
+}
+
+#[test]
+fn a_file_of_many_blocks_is_kept_byte_for_byte() {
+    let place = Place::new("blocks");
+    let path = place.0.join("night.fstf");
+    let mut recorder = files::record(&path, &[("IMAGE", b"")], &[]).unwrap();
+    for number in 0..40_i64 {
+        let pixels: Vec<u8> = (0..200_000).map(|k| (k * 31 + number * 7) as u8).collect();
+        recorder.add(number, 0, &[&pixels]).unwrap();
+    }
+    let cut = fs::read(&path).unwrap();
+    recorder.close_on_disk().unwrap();
+    let whole = fs::read(&path).unwrap();
+    files::save(&path, &site(None, "Kuusamo")).unwrap();
+    let saved = fs::read(&path).unwrap();
+    assert!(saved == suljanko::save(&whole, &site(None, "Kuusamo")).unwrap().to_vec());
+    let path = place.file("cut.fstf", &cut);
+    assert_eq!(files::repair(&path).unwrap().frames, 40);
+    assert!(fs::read(&path).unwrap() == whole);
 }

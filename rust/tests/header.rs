@@ -71,6 +71,11 @@ fn structs() {
         .collect();
     assert_eq!(in_header.len(), 8);
     assert_eq!(in_raw, in_header);
+    // every answer has one head; the recorder's state is no answer
+    for (name, members) in &in_header {
+        let ahead: Vec<&str> = members.iter().take(2).map(|member| member.0.as_str()).collect();
+        assert_eq!(ahead == ["refused", "place"], name != "FstfRecorder", "{name}");
+    }
 }
 
 #[test]

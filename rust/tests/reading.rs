@@ -3,7 +3,7 @@
 mod common;
 
 use common::{recorded, tagged, WHOLE};
-use suljanko::{calls, raw, save, Recording, Refusal, Section, Sheet, Tag};
+use suljanko::{calls, raw, save, Reason, Recording, Section, Sheet, Tag};
 
 /// Two sections, one of them with a configuration, two system tags, three frames.
 fn evening() -> Vec<u8> {
@@ -72,12 +72,12 @@ fn what_is_not_there() {
     let file = evening();
     let recording = Recording::open(&file).unwrap();
     for number in [3, 4, 1_000_000, usize::MAX] {
-        assert_eq!(recording.frame(number).unwrap_err(), Refusal::NoSuchItem);
+        assert_eq!(recording.frame(number).unwrap_err().reason(), Reason::NoSuchItem);
     }
     for number in [2, 8, usize::MAX] {
-        assert_eq!(recording.section_name(number), Err(Refusal::NoSuchItem));
-        assert_eq!(recording.configuration(number), Err(Refusal::NoSuchItem));
-        assert_eq!(recording.frame(0).unwrap().section(number), Err(Refusal::NoSuchItem));
+        assert_eq!(recording.section_name(number).unwrap_err().reason(), Reason::NoSuchItem);
+        assert_eq!(recording.configuration(number).unwrap_err().reason(), Reason::NoSuchItem);
+        assert_eq!(recording.frame(0).unwrap().section(number).unwrap_err().reason(), Reason::NoSuchItem);
     }
 }
 

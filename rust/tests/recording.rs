@@ -5,7 +5,7 @@ mod common;
 use std::io::{self, Cursor, Seek, SeekFrom, Write};
 
 use common::{recorded, WHOLE};
-use suljanko::{repair, Error, FileRecorder, Recorder, Recording, Refusal, Stage};
+use suljanko::{repair, Error, FileRecorder, Reason, Recorder, Recording, Stage};
 
 /// The bytes of a file that pieces are stored in.
 fn store(file: &mut Vec<u8>, place: u64, bytes: &[u8]) {
@@ -123,7 +123,7 @@ fn a_call_whose_storing_failed_can_be_made_again() {
         failed += 1;
     }
     assert!(failed > 5, "{failed}");
-    assert_eq!(file.close().unwrap_err().refusal(), Some(Refusal::Stage));
+    assert_eq!(file.close().unwrap_err().refusal().unwrap().reason(), Reason::Stage);
     assert_eq!(file.into_storage().stored.into_inner(), WHOLE);
 }
 

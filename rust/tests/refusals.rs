@@ -3,7 +3,7 @@
 mod common;
 
 use common::{before_closing, recorded, running, tagged, with, WHOLE};
-use suljanko::{calls, repair, save, Recorder, Recording, Refusal, Sheet};
+use suljanko::{calls, repair, save, Reason, Recorder, Recording, Refusal, Sheet};
 
 /// The table of document 01, and a refusal of each number from the safe face.
 fn table() -> Vec<(u64, &'static str, Refusal)> {
@@ -63,6 +63,7 @@ fn each_number_is_reached_and_has_its_name_and_advice() {
     let header = include_str!("../../include/fstf.h");
     for (number, name, refusal) in table() {
         assert_eq!((refusal.number(), refusal.name()), (number, name));
+        assert_eq!(refusal.place().is_some(), number == 11, "{name}");
         let said = refusal.to_string();
         assert!(said.starts_with(&format!("refused {number}, {name}")), "{said}");
         assert!(said.ends_with(refusal.advice()), "{said}");
@@ -80,8 +81,8 @@ fn a_conflict_says_where() {
     sheet.change("B").nobody_looked().set("2");
     sheet.change("C").seen(Some("3")).remove();
     let refusal = save(&WHOLE, &sheet).unwrap_err();
-    assert_eq!(refusal, Refusal::Conflict { place: 2 });
-    assert!(refusal.to_string().contains("at change 2"));
+    assert_eq!((refusal.reason(), refusal.place()), (Reason::Conflict, Some(2)));
+    assert!(refusal.to_string().starts_with("refused 11, conflict at change 2: "));
     assert_eq!(sheet.name(2), Some("C"));
     assert_eq!(sheet.name(3), None);
 }
@@ -111,22 +112,27 @@ fn beginning_is_refused_in_its_order() {
     let twice: Vec<(&str, &[u8])> = vec![("A", b""); 2];
     let lists = [vec![], vec![("", &b""[..])], vec![("A B", b"")], twice, nine.clone(), many, vec![(&long, b"")]];
     for given in lists {
-        assert_eq!(Recorder::new().begin(&given, &[]).unwrap_err(), Refusal::Sections, "{} sections", given.len());
-        assert_eq!(running().begin(&given, &[]).unwrap_err(), Refusal::Stage);
+        assert_eq!(
+            Recorder::new().begin(&given, &[]).unwrap_err().reason(),
+            Reason::Sections,
+            "{} sections",
+            given.len()
+        );
+        assert_eq!(running().begin(&given, &[]).unwrap_err().reason(), Reason::Stage);
     }
-    assert_eq!(Recorder::new().begin(&[("A", &wide)], &[]).unwrap_err(), Refusal::Sections);
+    assert_eq!(Recorder::new().begin(&[("A", &wide)], &[]).unwrap_err().reason(), Reason::Sections);
     assert!(Recorder::new().begin(&[("A", &wide[1..])], &[]).is_ok());
     assert!(Recorder::new().begin(&nine[..8], &[]).is_ok());
     let tables = [vec![("", "")], vec![("A", "\u{7f}")], vec![("A", ""); 2], vec![("A", &long)], vec![(&long, "")]];
     for given in tables {
-        assert_eq!(Recorder::new().begin(&[("A", b"")], &given).unwrap_err(), Refusal::SystemTable);
-        assert_eq!(Recorder::new().begin(&[], &given).unwrap_err(), Refusal::Sections);
+        assert_eq!(Recorder::new().begin(&[("A", b"")], &given).unwrap_err().reason(), Reason::SystemTable);
+        assert_eq!(Recorder::new().begin(&[], &given).unwrap_err().reason(), Reason::Sections);
     }
     let tags = vec![("A", ""); 1001];
-    assert_eq!(Recorder::new().begin(&[("A", b"")], &tags).unwrap_err(), Refusal::SystemTable);
+    assert_eq!(Recorder::new().begin(&[("A", b"")], &tags).unwrap_err().reason(), Reason::SystemTable);
     // "a set-up list runs out of bytes or has bytes left over"
     for list in [&b""[..], &[1], &[1, 1, b'A', 0], &[1, 1, b'A', 0, 0, 0]] {
-        assert_eq!(Recorder::new().begin_in_file_form(list, &[0; 4]).unwrap_err(), Refusal::Sheet);
+        assert_eq!(Recorder::new().begin_in_file_form(list, &[0; 4]).unwrap_err().reason(), Reason::Sheet);
     }
 }
 
@@ -137,10 +143,10 @@ fn frames_of_another_shape() {
     let huge = vec![0; 16_777_217];
     let shapes: Vec<Vec<&[u8]>> = vec![vec![], vec![b""], vec![b""; 3], vec![b""; 100_000], vec![b"", &huge]];
     for shape in shapes {
-        assert_eq!(recorder.add(0, 0, &shape).unwrap_err(), Refusal::FrameShape, "{} sections", shape.len());
+        assert_eq!(recorder.add(0, 0, &shape).unwrap_err().reason(), Reason::FrameShape, "{} sections", shape.len());
     }
-    assert_eq!(recorder.add_in_file_form(0, 0, &[0; 7]).unwrap_err(), Refusal::FrameShape);
-    assert_eq!(recorder.add_in_file_form(0, 0, &[0; 9]).unwrap_err(), Refusal::FrameShape);
+    assert_eq!(recorder.add_in_file_form(0, 0, &[0; 7]).unwrap_err().reason(), Reason::FrameShape);
+    assert_eq!(recorder.add_in_file_form(0, 0, &[0; 9]).unwrap_err().reason(), Reason::FrameShape);
     assert!(recorder.add_in_file_form(0, 0, &[0; 8]).is_ok());
     assert!(recorder.add(0, 0, &[b"", b"ab"]).is_ok());
 }
@@ -149,24 +155,24 @@ fn frames_of_another_shape() {
 fn times_at_their_edges() {
     let mut recorder = running();
     recorder.add(i64::MIN, 0, &[b""]).unwrap();
-    assert_eq!(recorder.add(i64::MAX, 0, &[b""]).unwrap_err(), Refusal::Clock);
-    assert_eq!(recorder.add(i64::MIN + 4_294_967_296, 0, &[b""]).unwrap_err(), Refusal::Clock);
+    assert_eq!(recorder.add(i64::MAX, 0, &[b""]).unwrap_err().reason(), Reason::Clock);
+    assert_eq!(recorder.add(i64::MIN + 4_294_967_296, 0, &[b""]).unwrap_err().reason(), Reason::Clock);
     assert!(recorder.add(i64::MIN + 4_294_967_295, 0, &[b""]).is_ok());
 }
 
 #[test]
 fn stages_take_their_calls_only() {
     let mut recorder = Recorder::new();
-    assert_eq!(recorder.add(0, 0, &[]).unwrap_err(), Refusal::Stage);
-    assert_eq!(recorder.close().unwrap_err(), Refusal::Stage);
+    assert_eq!(recorder.add(0, 0, &[]).unwrap_err().reason(), Reason::Stage);
+    assert_eq!(recorder.close().unwrap_err().reason(), Reason::Stage);
     recorder.begin(&[("A", b"")], &[]).unwrap();
-    assert_eq!(recorder.begin(&[("A", b"")], &[]).unwrap_err(), Refusal::Stage);
+    assert_eq!(recorder.begin(&[("A", b"")], &[]).unwrap_err().reason(), Reason::Stage);
     recorder.close().unwrap();
-    assert_eq!(recorder.add(0, 0, &[b""]).unwrap_err(), Refusal::Stage);
+    assert_eq!(recorder.add(0, 0, &[b""]).unwrap_err().reason(), Reason::Stage);
     for _ in 1..5 {
         recorder.close().unwrap();
     }
-    assert_eq!(recorder.close().unwrap_err(), Refusal::Stage);
+    assert_eq!(recorder.close().unwrap_err().reason(), Reason::Stage);
 }
 
 #[test]
@@ -191,22 +197,22 @@ fn sheets_that_are_none() {
         sheets.push(sheet);
     }
     for sheet in sheets {
-        assert_eq!(save(&WHOLE, &sheet).unwrap_err(), Refusal::Sheet, "{sheet:?}");
+        assert_eq!(save(&WHOLE, &sheet).unwrap_err().reason(), Reason::Sheet, "{sheet:?}");
         // 1 to 7 are ahead of 10
-        assert_eq!(save(&WHOLE[..97], &sheet).unwrap_err(), Refusal::UserTable);
+        assert_eq!(save(&WHOLE[..97], &sheet).unwrap_err().reason(), Reason::UserTable);
     }
 }
 
 #[test]
 fn repairs_that_are_refused() {
-    assert_eq!(repair(b"").unwrap_err(), Refusal::NotFstf);
-    assert_eq!(repair(&with(4, 9)).unwrap_err(), Refusal::Revision);
-    assert_eq!(repair(&with(33, 9)).unwrap_err(), Refusal::Sections);
+    assert_eq!(repair(b"").unwrap_err().reason(), Reason::NotFstf);
+    assert_eq!(repair(&with(4, 9)).unwrap_err().reason(), Reason::Revision);
+    assert_eq!(repair(&with(33, 9)).unwrap_err().reason(), Reason::Sections);
     let mut file = recorded(&[("A", b"")], &[], &[(7, 0, vec![b""]), (8, 0, vec![b""])]);
-    assert_eq!(repair(&file).unwrap_err(), Refusal::Whole);
+    assert_eq!(repair(&file).unwrap_err().reason(), Reason::Whole);
     // The first frame stands behind 33 + 1 + 1 + 1 + 8 + 4 = 48 bytes; its time, behind the mark, becomes 9: the second is before it.
     assert_eq!(file[52], 7);
     file[52] = 9;
-    assert_eq!(Recording::open(&file).unwrap_err(), Refusal::Index);
-    assert_eq!(repair(&file).unwrap_err(), Refusal::Clock);
+    assert_eq!(Recording::open(&file).unwrap_err().reason(), Reason::Index);
+    assert_eq!(repair(&file).unwrap_err().reason(), Reason::Clock);
 }

@@ -1,0 +1,70 @@
+//! What `include/fstf.h` says beside its declarations: places, limits, rooms, names, its version; and the file for pkg-config.
+
+const HEADER: &str = include_str!("../../include/fstf.h");
+
+/// The number of a constant of the header.
+fn constant(name: &str) -> u64 {
+    let line = HEADER.lines().find(|line| line.trim_start().starts_with(&format!("{name} ="))).expect(name);
+    let number = line.split('=').nth(1).unwrap().trim();
+    number.split(|c: char| !c.is_ascii_digit()).next().unwrap().parse().expect(name)
+}
+
+fn defined(name: &str) -> &'static str {
+    HEADER.lines().find_map(|line| line.strip_prefix(&format!("#define {name} "))).expect(name)
+}
+
+#[test]
+fn places_and_limits_are_those_of_the_definitions() {
+    let definitions = include_str!("../../crates/layout/specs/Recording.antt");
+    let pairs = [
+        ("FSTF_COUNT_PLACE", "countPlace"),
+        ("FSTF_INDEX_PLACE", "indexPlace"),
+        ("FSTF_SYSTEM_PLACE", "systemPlace"),
+        ("FSTF_USER_PLACE", "userPlace"),
+        ("FSTF_HEADER_LENGTH", "headerLength"),
+        ("FSTF_MOST_SECTIONS", "mostSections"),
+        ("FSTF_LONGEST_CONFIGURATION", "longestConfiguration"),
+        ("FSTF_LONGEST_SECTION", "longestSection"),
+        ("FSTF_MOST_FRAMES", "mostFrames"),
+        ("FSTF_MOST_TAGS", "mostTags"),
+        ("FSTF_LARGEST_TABLE", "largestTable"),
+    ];
+    for (name, definition) in pairs {
+        assert!(definitions.contains(&format!("\n{definition} = {}\n", constant(name))), "{name}");
+    }
+    let saving = include_str!("../../crates/layout/specs/Saving.antt");
+    assert!(saving.contains(&format!("\nmostChanges = {}\n", constant("FSTF_MOST_CHANGES"))));
+    assert!(definitions.contains("\nlongestSpan = 4294967295\n"));
+    assert!(defined("FSTF_LONGEST_SPAN").starts_with("UINT64_C(4294967295) "));
+    assert!(definitions.contains("\nlargestUserOffset = 2 ^ 40 - largestTable\n"));
+    assert!(defined("FSTF_LARGEST_FILE").starts_with("(UINT64_C(1) << 40) "));
+    assert_eq!((constant("FSTF_LONGEST_NAME"), constant("FSTF_LONGEST_VALUE")), (255, 255));
+    assert_eq!(constant("FSTF_CLOSING_PIECES"), suljanko::CLOSING_PIECES as u64);
+}
+
+#[test]
+fn each_refusal_has_its_name() {
+    let mut names = 0;
+    for line in HEADER.lines().filter(|line| line.trim_start().starts_with("FSTF_") && line.contains("/* ")) {
+        let (constant, comment) = line.trim().split_once(" = ").unwrap();
+        let name = comment.split_once("/* ").unwrap().1.split(": ").next().unwrap();
+        if HEADER.contains(&format!("    case {constant}: return \"{name}\";\n")) {
+            names += 1;
+        }
+    }
+    // 1 to 17; 0 is no refusal, and is named too
+    assert_eq!(names, 17);
+    assert_eq!(HEADER.matches("    case FSTF_").count(), 18);
+    assert!(HEADER.contains("    case FSTF_TAKEN: return \"taken\";\n"));
+}
+
+#[test]
+fn one_version_for_all() {
+    let cargo = include_str!("../Cargo.toml");
+    let version = cargo.lines().find_map(|line| line.strip_prefix("version = ")).unwrap().trim_matches('"');
+    assert_eq!(defined("FSTF_VERSION"), format!("\"{version}\""));
+    let parts = ["MAJOR", "MINOR", "PATCH"].map(|part| defined(&format!("FSTF_VERSION_{part}")));
+    assert_eq!(parts.join("."), version);
+    let package = include_str!("../../pkgconfig/fstf.pc");
+    assert!(package.lines().any(|line| line == format!("Version: {version}")));
+}

@@ -1,0 +1,101 @@
+//! docs/FORMAT.md, where a machine can hold it to something: its worked file, its definitions, its refusals and orders.
+
+mod common;
+
+use common::WHOLE;
+use suljanko::{repair, save, Recording, Sheet};
+
+const FORMAT: &str = include_str!("../../docs/FORMAT.md");
+const WORKED: &[u8] = include_bytes!("../../examples/worked.fstf");
+const HEADER: &str = include_str!("../../include/fstf.h");
+
+/// The cells of the table rows that stand under a heading.
+fn rows(heading: &str) -> Vec<Vec<&'static str>> {
+    let part = FORMAT.split(&format!("\n## {heading}\n")).nth(1).unwrap().split("\n## ").next().unwrap();
+    let lines = part.lines().filter(|line| line.starts_with("| ") && !line.starts_with("| At"));
+    lines.map(|line| line.trim_matches('|').split(" | ").map(str::trim).collect()).collect()
+}
+
+fn hex(text: &str) -> Vec<u8> {
+    text.trim_matches('`').split(' ').map(|byte| u8::from_str_radix(byte, 16).unwrap()).collect()
+}
+
+#[test]
+fn the_worked_file() {
+    assert_eq!(WORKED, WHOLE);
+    assert_eq!(WORKED, include_bytes!("../../crates/listing/stdin"));
+    let mut bytes = Vec::new();
+    for row in rows("The worked file") {
+        assert_eq!(row[0].parse::<usize>().unwrap(), bytes.len());
+        bytes.extend(hex(row[1]));
+    }
+    assert_eq!(bytes, WORKED);
+}
+
+#[test]
+fn each_definition_that_it_names_is_there() {
+    let specs = [
+        ("Recording", include_str!("../../crates/layout/specs/Recording.antt")),
+        ("Reading", include_str!("../../crates/layout/specs/Reading.antt")),
+        ("Opening", include_str!("../../crates/layout/specs/Opening.antt")),
+        ("Items", include_str!("../../crates/layout/specs/Items.antt")),
+        ("Browser", include_str!("../../crates/layout/specs/Browser.antt")),
+        ("Recorder", include_str!("../../crates/layout/specs/Recorder.antt")),
+        ("Repair", include_str!("../../crates/layout/specs/Repair.antt")),
+        ("Saving", include_str!("../../crates/layout/specs/Saving.antt")),
+        ("Storage", include_str!("../../crates/layout/specs/Storage.antt")),
+    ];
+    let mut named = 0;
+    for quoted in FORMAT.split('`').skip(1).step_by(2) {
+        let (file, definition) = quoted.split_once('.').unwrap_or_default();
+        for (_, spec) in specs.iter().filter(|(name, _)| *name == file) {
+            let stands = ["", "data ", "record "].map(|kind| format!("pub {kind}{definition} "));
+            assert!(stands.iter().any(|start| spec.contains(start)), "{quoted}");
+            named += 1;
+        }
+    }
+    assert!(named > 80, "{named} definitions");
+}
+
+#[test]
+fn each_refusal_has_its_row() {
+    let rows: Vec<_> = rows("Refusals").into_iter().filter(|row| row[0].parse::<u64>().is_ok()).collect();
+    assert_eq!(rows.len(), 17);
+    for (row, number) in rows.iter().zip(1..) {
+        assert_eq!(row[0], number.to_string());
+        let comma = if number < 17 { "," } else { "" };
+        assert!(HEADER.contains(&format!("= {number}{comma} /* {}: ", row[1])), "{}", row[1]);
+    }
+}
+
+#[test]
+fn the_twelve_examples() {
+    let rows = rows("Twelve examples");
+    let numbers: Vec<_> = (1..=12).map(|number| format!("P{number}")).collect();
+    assert!(rows.iter().skip(1).map(|row| row[0]).eq(numbers.iter().map(String::as_str)));
+    let answer = |number: usize| rows[number][2];
+    let set = |place: usize, byte: u8| {
+        let mut file = WORKED.to_vec();
+        file[place] = byte;
+        Recording::open(&file).unwrap_err().number().to_string()
+    };
+    let cut = |length: usize| Recording::open(&WORKED[..length]).unwrap_err().number().to_string();
+    assert_eq!(answer(2), cut(97));
+    assert_eq!(answer(3), set(4, 2));
+    assert_eq!(answer(4), set(9, 0));
+    assert_eq!(answer(5), set(9, 75));
+    assert_eq!(answer(6), set(5, 2));
+    assert_eq!(answer(7), cut(33));
+    let open = common::before_closing();
+    let repaired = repair(&open[..73]).unwrap();
+    assert_eq!((repaired.kept(), repaired.index(), repaired.user()), (52, 52, 56));
+    assert_eq!(repaired.tail(), [0; 8]);
+    assert!(answer(8).starts_with("52 bytes are kept; the index offset is 52, the user offset 56;"));
+    assert_eq!((answer(9), repair(&open).unwrap().to_vec()), ("the worked file", WORKED.to_vec()));
+    assert_eq!(answer(10), repair(&open[..51]).unwrap_err().number().to_string());
+    let sheet = Sheet::from_bytes(&hex(rows[11][1].split('`').nth(1).unwrap())).unwrap();
+    let saved = save(WORKED, &sheet).unwrap();
+    assert_eq!(saved.table(), hex(answer(11).split('`').nth(1).unwrap()));
+    let again = save(&saved.to_vec(), &sheet).unwrap_err();
+    assert_eq!((answer(12), again.number()), ("11, place 0", 11));
+}
