@@ -1,0 +1,240 @@
+/* An evening at the box: record a file, lose its end, repair it, and tag it.
+ *
+ * evening DIRECTORY: the files stay in the directory. Every step is checked; the program ends with 1 where one is not as it should be. */
+#define _POSIX_C_SOURCE 200809L
+#include <fcntl.h>
+#include <stdio.h>
+#include <stdlib.h>
+#include <string.h>
+#include <sys/stat.h>
+#include <unistd.h>
+#include "fstf.h"
+
+enum { FRAMES = 3, PIXELS = 8 };
+
+static void check(int holds, const char *what) {
+    if (!holds) {
+        printf("NOT as it should be: %s\n", what);
+        exit(1);
+    }
+}
+
+static void taken(uint64_t refused, const char *what) {
+    if (refused != FSTF_TAKEN) {
+        printf("%s: refused %u, %s\n", what, (unsigned)refused, fstf_refusal_name(refused));
+        exit(1);
+    }
+}
+
+/* A number of so many bytes, low byte first. */
+static void put(uint8_t *at, uint64_t number, int bytes) {
+    for (int k = 0; k < bytes; k++) at[k] = (uint8_t)(number >> (8 * k));
+}
+
+/* ── Files ── */
+
+static void write_at(int file, uint64_t place, const uint8_t *bytes, uint64_t length) {
+    while (length > 0) {
+        ssize_t written = pwrite(file, bytes, length, (off_t)place);
+        check(written > 0, "the storage takes what is written");
+        place += (uint64_t)written, bytes += written, length -= (uint64_t)written;
+    }
+}
+
+static uint8_t *read_whole(const char *path, size_t *length) {
+    struct stat met;
+    int file = open(path, O_RDONLY);
+    check(file >= 0 && fstat(file, &met) == 0, path);
+    uint8_t *bytes = malloc((size_t)met.st_size + 1);
+    check(bytes != NULL, "memory");
+    *length = 0;
+    for (ssize_t got; (got = read(file, bytes + *length, (size_t)met.st_size - *length)) > 0;) *length += (size_t)got;
+    check(*length == (size_t)met.st_size, "the file is read to its end");
+    close(file);
+    return bytes;
+}
+
+/* A new file beside the old one: so many bytes of the old one and a tail. It is not renamed yet. */
+static int begin_new(const char *path, const uint8_t *kept, uint64_t kept_length, const uint8_t *tail, uint64_t tail_length) {
+    int file = open(path, O_WRONLY | O_CREAT | O_EXCL, 0644);
+    check(file >= 0, "the new file is made");
+    write_at(file, 0, kept, kept_length);
+    write_at(file, kept_length, tail, tail_length);
+    return file;
+}
+
+/* Flushed, renamed, and its directory flushed. */
+static void end_new(int file, const char *from, const char *to) {
+    check(fsync(file) == 0 && close(file) == 0 && rename(from, to) == 0, "the new file takes the old one's name");
+    int directory = open(".", O_RDONLY);
+    check(directory >= 0 && fsync(directory) == 0, "the new name is stored");
+    close(directory);
+}
+
+/* ── Recording ── */
+
+static void record(const char *path) {
+    /* the section IMAGE with a configuration of 3 bytes; one system tag, CAMERA = QHY */
+    static const uint8_t setup[] = {1, 5, 'I', 'M', 'A', 'G', 'E', 3, 0, '2', 'x', '2'};
+    static const uint8_t system[] = {1, 0, 0, 0, 6, 'C', 'A', 'M', 'E', 'R', 'A', 3, 'Q', 'H', 'Y'};
+    uint8_t notes[FSTF_NOTES_ROOM(FRAMES)], sections[4 + PIXELS];
+    uint8_t first[FSTF_BEGIN_ROOM(sizeof setup, sizeof system)], frame[FSTF_ADD_ROOM(sizeof sections)], out[sizeof notes];
+    int file = open(path, O_WRONLY | O_CREAT | O_EXCL, 0644);
+    check(file >= 0, path);
+
+    FstfTaken piece = fstf_begin(fstf_new(), setup, sizeof setup, system, sizeof system, notes, sizeof notes, first, sizeof first);
+    taken(piece.refused, "begin");
+    write_at(file, piece.start, first, piece.length);
+    check(fsync(file) == 0, "from here on, what is stored can be repaired");
+
+    put(sections, PIXELS, 4);
+    for (int number = 0; number < FRAMES; number++) {
+        memset(sections + 4, 0x10 * (number + 1), PIXELS);
+        piece = fstf_add(piece.recorder, 1000 + 40 * number, 40, sections, sizeof sections, notes, sizeof notes, frame, sizeof frame);
+        taken(piece.refused, "add");
+        write_at(file, piece.start, frame, piece.length);
+    }
+    FstfTaken late = fstf_add(piece.recorder, 999, 40, sections, sizeof sections, notes, sizeof notes, frame, sizeof frame);
+    check(late.refused == FSTF_CLOCK, "a clock that was set back is refused, and the recording goes on");
+
+    for (int number = 0; number < FSTF_CLOSING_PIECES; number++) {
+        /* frames, index and user table are stored before the header says that the recording is closed */
+        if (number == 2) check(fsync(file) == 0, "flushed ahead of the last three pieces");
+        piece = fstf_close(piece.recorder, notes, sizeof notes, out, sizeof out);
+        taken(piece.refused, "close");
+        write_at(file, piece.start, out, piece.length);
+    }
+    check(fsync(file) == 0 && close(file) == 0, "closed on the disk");
+}
+
+static void list(const char *path, uint64_t frames) {
+    size_t length;
+    uint8_t *file = read_whole(path, &length);
+    FstfOpened opened = fstf_open(file, length);
+    taken(opened.refused, path);
+    printf("%s: %u frames, %u user tags\n", path, (unsigned)opened.frames, (unsigned)opened.user_tags);
+    check(opened.frames == frames, "so many frames");
+    for (uint64_t number = 0; number < opened.frames; number++) {
+        FstfFrame frame = fstf_frame_of(file, length, opened, number);
+        FstfPart pixels = fstf_part_of(file, length, opened, FSTF_SECTION, number, 0);
+        taken(frame.refused, "frame");
+        taken(pixels.refused, "section");
+        printf("  frame %u at %lld ms\n", (unsigned)number, (long long)frame.time);
+        check(pixels.length == PIXELS && file[pixels.start] == 0x10 * (number + 1), "the pixels that were recorded");
+    }
+    for (uint64_t number = 0; number < opened.user_tags; number++) {
+        FstfPart name = fstf_part_of(file, length, opened, FSTF_USER_NAME, number, 0);
+        FstfPart value = fstf_part_of(file, length, opened, FSTF_USER_VALUE, number, 0);
+        printf("  %.*s = %.*s\n", (int)name.length, file + name.start, (int)value.length, file + value.start);
+    }
+    free(file);
+}
+
+/* ── Repair ── the old file stays, since a repair writes the user table empty. */
+
+/* How many tags stand from a place up to the file's end, if these bytes are a table. */
+static uint64_t tags_from(const uint8_t *file, size_t length, uint64_t place) {
+    uint64_t tags = 0;
+    if (place > length) return 0;
+    while (tags < FSTF_MOST_TAGS && fstf_tag_at(file + place, length - place, tags).found == 1) tags++;
+    return tags;
+}
+
+/* Answers how many tags were not kept. */
+static uint64_t repair(const char *path, const char *old, uint64_t expected) {
+    size_t length;
+    uint8_t *file = read_whole(path, &length);
+    uint64_t refused = fstf_open(file, length).refused;
+    printf("%s: refused %u, %s\n", path, (unsigned)refused, fstf_refusal_name(refused));
+    check(refused == expected, "the refusal that sends to a repair");
+
+    uint64_t room = FSTF_REPAIR_ROOM(length);
+    uint8_t *tail = malloc(room);
+    check(tail != NULL, "memory");
+    FstfRepaired repaired = fstf_repair(file, length, tail, room);
+    taken(repaired.refused, "repair");
+    uint64_t tags = tags_from(file, length, repaired.user);
+    printf("  repaired: %u frames, %u tags not kept; the old file is %s\n", (unsigned)repaired.count, (unsigned)tags, old);
+
+    int new = begin_new("new.fstf", file, repaired.kept, tail, repaired.tail);
+    uint8_t field[8];
+    put(field, repaired.count, 4);
+    write_at(new, FSTF_COUNT_PLACE, field, 4);
+    put(field, repaired.index, 8);
+    write_at(new, FSTF_INDEX_PLACE, field, 8);
+    put(field, repaired.user, 8);
+    write_at(new, FSTF_USER_PLACE, field, 8);
+    check(link(path, old) == 0, "the old file has a second name");
+    end_new(new, "new.fstf", path);
+    free(tail);
+    free(file);
+    return tags;
+}
+
+/* ── Tags ── SITE becomes a value; `seen` is what the member saw, or NULL where there was no such tag. */
+
+static uint64_t tag(const char *path, const char *seen, const char *value) {
+    uint8_t sheet[64] = {1, 4, 'S', 'I', 'T', 'E'};
+    size_t end = 6;
+    sheet[end++] = seen != NULL;
+    if (seen != NULL) {
+        sheet[end++] = (uint8_t)strlen(seen);
+        memcpy(sheet + end, seen, strlen(seen)), end += strlen(seen);
+    }
+    sheet[end++] = 1;
+    sheet[end++] = (uint8_t)strlen(value);
+    memcpy(sheet + end, value, strlen(value)), end += strlen(value);
+
+    size_t length;
+    uint8_t *file = read_whole(path, &length);
+    FstfOpened opened = fstf_open(file, length);
+    taken(opened.refused, path);
+    uint64_t room = FSTF_SAVE_ROOM(length - opened.user, end);
+    uint8_t *table = malloc(room);
+    check(table != NULL, "memory");
+    FstfSaved saved = fstf_save(file, length, sheet, end, table, room);
+    if (saved.refused == FSTF_TAKEN) end_new(begin_new("new.fstf", file, opened.user, table, saved.length), "new.fstf", path);
+    free(table);
+    free(file);
+    return saved.refused;
+}
+
+int main(int count, char **arguments) {
+    if (count != 2 || chdir(arguments[1]) != 0) {
+        fprintf(stderr, "usage: evening DIRECTORY\n");
+        return 2;
+    }
+    printf("fstf %s\n", FSTF_VERSION);
+    record("night.fstf");
+    list("night.fstf", FRAMES);
+
+    size_t length;
+    uint8_t *file = read_whole("night.fstf", &length);
+    FstfFrame last = fstf_frame(file, length, FRAMES - 1);
+    taken(last.refused, "the last frame");
+    /* what a cut inside the last frame leaves: the header does not say yet that the recording is closed */
+    memset(file + FSTF_COUNT_PLACE, 0, 4);
+    memset(file + FSTF_INDEX_PLACE, 0, 8);
+    memset(file + FSTF_USER_PLACE, 0, 8);
+    int cut = begin_new("cut.fstf", file, last.start + 20, NULL, 0);
+    check(close(cut) == 0, "the cut file");
+    free(file);
+    check(repair("cut.fstf", "cut.fstf.old", FSTF_NOT_CLOSED) == 0, "no tag was there");
+    list("cut.fstf", FRAMES - 1);
+
+    taken(tag("cut.fstf", NULL, "Kuusamo"), "a tag that nobody had");
+    check(tag("cut.fstf", NULL, "Inari") == FSTF_CONFLICT, "one who did not see it is told");
+    taken(tag("cut.fstf", "Kuusamo", "Inari"), "one who saw it changes it");
+    list("cut.fstf", FRAMES - 1);
+
+    /* one flipped bit of the frame count: a repair brings the frames back, and the tag is in the old file only */
+    uint8_t bit = (FRAMES - 1) ^ 4;
+    int damaged = open("cut.fstf", O_WRONLY);
+    check(damaged >= 0, "the file is there");
+    write_at(damaged, FSTF_COUNT_PLACE, &bit, 1);
+    check(close(damaged) == 0, "the damage is done");
+    check(repair("cut.fstf", "cut.fstf.old2", FSTF_INDEX) == 1, "one tag was there");
+    list("cut.fstf", FRAMES - 1);
+    printf("All is as it should be.\n");
+    return 0;
+}
