@@ -14,6 +14,8 @@
  *   - `refused` is the number of the refusal, or 0; refused, all members behind `place` are 0, but for a recorder's state;
  *   - `place` is what the number carries beside it, and 0 for all others:
  *       11: the lowest change of the sheet, from 0, whose seen entry is not the table's.
+ * Where a frame or a piece stands in the file is `start`. Headers without FSTF_VERSION called that `place`: a program written for one of them still compiles,
+ * and would store every piece at 0. Write `start` there.
  */
 #ifndef FSTF_H
 #define FSTF_H
