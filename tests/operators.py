@@ -1,6 +1,7 @@
 """Changes single operators, numbers and truth values of the proved code and asks the prover what it makes of each change.
 
-    python3 tests/operators.py [CRATE ...]
+    python3 tests/operators.py [CRATE ...]           each change, in these crates or in all
+    python3 tests/operators.py --edits [CRATE ...]   only the changes that stand as edits in must-fail/operators
 
 It works on a copy in target/operators and needs `rt` only. In each round one change is made in every function of a crate, and what counts is what is
 said of that function's own proof; where nothing is, the change is tried alone. A change can
@@ -9,8 +10,12 @@ said of that function's own proof; where nothing is, the change is tried alone. 
     contract: the change may even answer the same;
   - pass.
 The last two are printed, and a line for each crate counts. docs/ACCEPTANCE.md says what was found.
+
+The edits of must-fail/operators have the form of the gate's, and docs/CALLS.md names them beside those: each changes one operator, number or named
+refusal. The gate would prove a whole crate again for each; here a round serves many. With --edits the status is 1 where one does not fail at a fact.
 """
 
+import collections
 import pathlib
 import re
 import shutil
@@ -24,6 +29,7 @@ CODE = [
     for path in sorted((ROOT / "crates").glob("*/src/lib.rt"))
     if re.search(r"\bfn \w+", path.read_text())
 ]
+WITH_EDITS = sorted({path.parts[-4] for path in (ROOT / "crates").glob("*/must-fail/operators/*.edit")})
 
 CHANGES = [
     (" <= ", [" < ", " == "]),
@@ -136,6 +142,69 @@ class Crate:
         return counts
 
 
+    def tried_edits(self):
+        """As `tried`, for the edits of must-fail/operators."""
+        counts = dict.fromkeys((FACT, SHAPE, PASSED), 0)
+        inside, alone = {}, []
+        for edit in edits_of(self.name):
+            function, change = self.placed(edit)
+            if function:
+                inside.setdefault(function, []).append((edit, change))
+            else:
+                alone.append(edit)
+        for turn in range(max(map(len, inside.values()), default=0)):
+            made = {function: own[turn] for function, own in inside.items() if turn < len(own)}
+            said, _ = self.ask([change for _, change in made.values()])
+            for function, (edit, change) in made.items():
+                kind = self.kind(function, said)
+                if kind is None:
+                    own, proved = self.ask([change])
+                    kind = PASSED if proved else self.kind(function, own) or SHAPE
+                self.count(counts, kind, edit)
+        for edit in alone:
+            self.count(counts, self.ask_page(edit), edit)
+        return counts
+
+    def count(self, counts, kind, edit):
+        counts[kind] += 1
+        if kind != FACT:
+            print(f"{kind}: {self.name}/{edit.label}", flush=True)
+
+    def placed(self, edit):
+        """The function that an edit changes, with the number of its line and the changed line; nothing where it is in no function of this page."""
+        if edit.page == "src/lib.rt":
+            number = next(n for n, line in enumerate(self.lines) if edit.old in line)
+            for function, body in bodies(self.lines):
+                if number in body:
+                    return function, (number, self.lines[number].replace(edit.old, edit.new))
+        return None, None
+
+    def ask_page(self, edit):
+        """FACT, SHAPE or PASSED, of an edit that is tried alone: a definition fails at a fact where a proof over it does."""
+        page = COPY / "crates" / self.name / edit.page
+        text = page.read_text()
+        page.write_text(text.replace(edit.old, edit.new))
+        run = subprocess.run(["rt", "dev", self.name], cwd=COPY, capture_output=True, text=True)
+        page.write_text(text)
+        if run.returncode == 0:
+            return PASSED
+        return FACT if re.search(r"/proofs/\S+\.antt:\d+:\d+: error", run.stdout + run.stderr) else SHAPE
+
+
+Edit = collections.namedtuple("Edit", "label page old new")
+
+
+def edits_of(name):
+    found = []
+    for path in sorted((ROOT / "crates" / name / "must-fail" / "operators").glob("*.edit")):
+        says = dict(line.split(": ", 1) for line in path.read_text().splitlines() if re.match(r"(file|old|new): ", line))
+        edit = Edit(path.stem, says["file"], says["old"], says["new"])
+        if (ROOT / "crates" / name / edit.page).read_text().count(edit.old) != 1:
+            sys.exit(f"{path.relative_to(ROOT)}: its old text does not stand once in {edit.page}")
+        found.append(edit)
+    return found
+
+
 def copied():
     """A copy of the crates, with what is proved already."""
     shutil.rmtree(COPY, ignore_errors=True)
@@ -148,12 +217,17 @@ def copied():
 
 
 def main():
+    only_edits = "--edits" in sys.argv
+    named = [word for word in sys.argv[1:] if word != "--edits"]
     (ROOT / "target").mkdir(exist_ok=True)
     copied()
-    for name in sys.argv[1:] or CODE:
-        counts = Crate(name).tried()
+    missed = 0
+    for name in named or (WITH_EDITS if only_edits else CODE):
+        counts = Crate(name).tried_edits() if only_edits else Crate(name).tried()
         told = ", ".join(f"{counts[kind]} {kind}" for kind in counts)
-        print(f"{name}: {sum(counts.values())} changes, {told}", flush=True)
+        print(f"{name}: {sum(counts.values())} {'edits' if only_edits else 'changes'}, {told}", flush=True)
+        missed += counts[SHAPE] + counts[PASSED]
+    sys.exit(1 if only_edits and missed else 0)
 
 
 main()

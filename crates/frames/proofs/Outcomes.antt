@@ -13,10 +13,6 @@ use Rattle.frames.proofs.sized
 use Rattle.frames.proofs.sized_sections
 use Rattle.frames.proofs.frame_at
 use Rattle.frames.proofs.frame_end
-use Rattle.frames.proofs.since
-use Rattle.frames.proofs.write_frame
-use Rattle.frames.proofs.note_frame
-use Rattle.frames.proofs.follows_last
 
 module _ {M : Type 1} (𝓤 : URA M) (H : Heap 𝓤) (A : Atoms 𝓤) (mem : Memory → SProp 𝓤) (run : Routine → Fun 𝓤) where
   pub sized-one : Determines 𝓤 sized.ended (sized.clauses 𝓤 H A mem run)
@@ -30,15 +26,3 @@ module _ {M : Type 1} (𝓤 : URA M) (H : Heap 𝓤) (A : Atoms 𝓤) (mem : Mem
 
   pub frame-at-one : Determines 𝓤 «frame_at».ended («frame_at».clauses 𝓤 H A mem run)
   frame-at-one κs a g x y v w = agree 𝓤 (λ p q. (p ∙ sym q, refl))
-
-  pub since-one : Determines 𝓤 since.ended (since.clauses 𝓤 H A mem run)
-  since-one κs a g x y v w = agree 𝓤 (λ p q. (p ∙ sym q, refl))
-
-  pub follows-last-one : Determines 𝓤 «follows_last».ended («follows_last».clauses 𝓤 H A mem run)
-  follows-last-one κs a g x y v w = agree 𝓤 (λ p q. (p ∙ sym q, refl))
-
-  pub write-frame-one : Determines 𝓤 «write_frame».ended («write_frame».clauses 𝓤 H A mem run)
-  write-frame-one κs a g x y v w = agree 𝓤 (λ p q. (refl, λ i. (v .0, (v .1 .0, (v .1 .1 .0, ((p ∙ sym q) i, v .1 .1 .1 .1))))))
-
-  pub note-frame-one : Determines 𝓤 «note_frame».ended («note_frame».clauses 𝓤 H A mem run)
-  note-frame-one κs a g x y v w = agree 𝓤 (λ p q. (refl, λ i. ((p ∙ sym q) i, v .1)))

@@ -14,7 +14,7 @@ use Rattle.layout.specs.Reading.{Parsed, bad, good, frame, stopped, longer, wal
 use Rattle.frames.proofs.Laws.{frame-parts}
 use Rattle.layout.proofs.Walks.{walk-none, walk-stop, walk-step}
 use Rattle.layout.proofs.Encoded.{length-entries}
-use Rattle.frames.proofs.Times.{follows-itself}
+use Rattle.times.proofs.Laws.{follows-itself}
 
 -- ── The frames that are left ──
 

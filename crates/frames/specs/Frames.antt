@@ -1,8 +1,7 @@
--- A section, a frame and a time at a place, by the layout's readers.
-use Prim.Native.Nat.{ℕ, _+_, _-_}
+-- A section and a frame at a place, by the layout's readers.
+use Prim.Native.Nat.{ℕ, _+_}
 use mathlib.Core.List.{List}
 use lib.ListN.{drop}
-use Rattle.number.specs.Number.{rank}
 use Rattle.layout.specs.Recording.{Frame}
 use Rattle.layout.specs.Reading.{Parsed, bad, good, times, sized, frame}
 use Rattle.parts.specs.Parts.{endOf}
@@ -27,9 +26,3 @@ wholeFrame at (good f n) = Whole (at + n) (f .time) (f .exposure)
 
 unfoldable pub frameAt : List ℕ → (at sections : ℕ) → FrameAt
 frameAt f at sections = wholeFrame at (frame sections (drop at f))
-
--- ── The index ──
-
--- the time since the first frame
-unfoldable pub sinceFirst : (first time : ℕ) → ℕ
-sinceFirst first time = rank time - rank first

@@ -21,7 +21,8 @@ use Rattle.layout.specs.Reading.{good, frame, Walk, stopped, longer, walk}
 use Rattle.layout.proofs.Lists.{bytes-drop, bytes-take, same-true}
 use Rattle.opening.proofs.Same.{same-append, same-number}
 use Rattle.frames.proofs.Laws.{ended, not-ended, end-behind, time-fits, end-near}
-use Rattle.frames.specs.Frames.{frameEnd, sinceFirst}
+use Rattle.frames.specs.Frames.{frameEnd}
+use Rattle.times.specs.Times.{sinceFirst}
 use Rattle.opening.specs.Opened.{otherEntry, otherWalk, otherFrames, badIndexIn, badIndexBy}
 use Rattle.header.specs.declared.Header.{Header}
 use Rattle.parts.specs.declared.Place.{Place}
@@ -30,7 +31,7 @@ use Rattle.layout.proofs.Walks.{walk-none, walk-stop, walk-gives}
 use Rattle.layout.proofs.Exact.{frame-exact}
 use Rattle.layout.proofs.Sizes.{length-entry}
 use Rattle.frames.proofs.Walks.{walk-cons, length-index, walk-first, by-first}
-use Rattle.frames.proofs.Times.{since-fits}
+use Rattle.times.proofs.Laws.{since-fits}
 
 -- ── An entry ──
 

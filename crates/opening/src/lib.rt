@@ -55,10 +55,10 @@ fn other_frames(
             return true;
         };
         let time = number::read(file, place + 4, 8);
-        if frames::follows_last(first, last, time) {} else {
+        if times::follows_last(first, last, time) {} else {
             return true;
         }
-        if other_entry(file, entry, frames::since(first, time), place, next - place) {
+        if other_entry(file, entry, times::since(first, time), place, next - place) {
             return true;
         }
         place = next;

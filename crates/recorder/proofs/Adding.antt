@@ -22,9 +22,10 @@ use Rattle.layout.proofs.Lines.{line-pass, line-holds, line-clear}
 use Rattle.layout.proofs.Orders.{no-lines}
 use Rattle.parts.specs.declared.Place.{Place}
 use Rattle.parts.specs.declared.Place.the-variants.{End, Broken}
-use Rattle.frames.specs.Frames.{sectionsAt, sinceFirst}
-use Rattle.frames.specs.Writing.{framed, notedAt, notedIn}
-use Rattle.frames.proofs.Writing.{frame-length, framed-is, noted-is}
+use Rattle.frames.specs.Frames.{sectionsAt}
+use Rattle.times.specs.Times.{sinceFirst}
+use Rattle.writing.specs.Writing.{framed, notedAt, notedIn}
+use Rattle.writing.proofs.Laws.{frame-length, framed-is, noted-is}
 use Rattle.refusal.specs.Refusal.{plain}
 use Rattle.refusal.specs.declared.Refusal.{Refusal}
 use Rattle.stages.specs.Stages.{stageOf, toStage, fullWith}

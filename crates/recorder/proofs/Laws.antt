@@ -7,4 +7,9 @@ use Rattle.recorder.proofs.Closing.{closings}
 use Rattle.recorder.proofs.Adding.{addings}
 use Rattle.recorder.proofs.Beginning.{beginnings}
 
-pub ruleset laws = (needs, not-true, not-false, limits, closings, addings, beginnings)
+-- for each call the laws of its own definitions: a search through all of them is slower
+pub ruleset add-laws = (needs, not-true, not-false, limits, addings)
+
+pub ruleset close-laws = (needs, not-true, not-false, limits, closings)
+
+pub ruleset begin-laws = (needs, not-true, not-false, limits, beginnings)

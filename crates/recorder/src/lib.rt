@@ -128,7 +128,7 @@ impl Recorder {
         if self.frames == 0 {
             return false;
         }
-        if frames::follows_last(
+        if times::follows_last(
             number::pattern_of(self.first),
             number::pattern_of(self.last),
             time,
@@ -200,11 +200,11 @@ impl Recorder {
         let length = Header::FRAME_HEAD + sections.len();
         let frames = self.frames + 1;
         let first = self.first_after(pattern);
-        frames::write_frame(pattern, exposure, sections, out);
-        frames::note_frame(
+        writing::write_frame(pattern, exposure, sections, out);
+        writing::note_frame(
             notes,
             frames,
-            frames::since(first, pattern),
+            times::since(first, pattern),
             self.end,
             length as u64,
         );

@@ -24,7 +24,8 @@ use Rattle.layout.proofs.Sizes.{length-entry}
 use Rattle.parts.specs.Parts.{endOf}
 use Rattle.parts.specs.declared.Place.{Place}
 use Rattle.parts.specs.declared.Place.the-variants.{End, Broken}
-use Rattle.frames.specs.Frames.{frameEnd, sinceFirst}
+use Rattle.frames.specs.Frames.{frameEnd}
+use Rattle.times.specs.Times.{sinceFirst}
 use Rattle.frames.proofs.Laws.{ended, end-behind, end-within}
 use Rattle.frames.proofs.Walks.{walk-cons}
 use Rattle.repair.specs.Repaired.{endIn, nextBy, framesIn, alike, alikeIn, entriesIn, indexIn, tailed}

@@ -75,7 +75,7 @@ fn walk(file: &[u8], sections: usize, start: usize) -> Walked
             };
         };
         let time = number::read(file, place + 4, 8);
-        if !frames::follows_last(first, last, time) {
+        if !times::follows_last(first, last, time) {
             return Walked::OutOfOrder;
         }
         common = common_length(count, common, next - place);
@@ -112,7 +112,7 @@ fn fill_entry(entry: &mut [u8], first: u64, time: u64, offset: usize, size: usiz
     requires { ⌜ length (now entry) ≡ 16 ⌝ }
     ensures { λ r. ⌜ now (entry .exit) ≡ entryBytes first time offset size ⌝ }
 {
-    number::write(entry, 0, 4, frames::since(first, time));
+    number::write(entry, 0, 4, times::since(first, time));
     number::write(entry, 4, 8, offset as u64);
     number::write(entry, 12, 4, size as u64);
 }

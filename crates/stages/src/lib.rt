@@ -100,7 +100,7 @@ pub fn broken(stage: Stage, sections: u64, frames: u64, first: u64, last: u64, e
     if 4 < piece_of(stage) {
         return true;
     }
-    if !frames::follows_last(first, first, last) {
+    if !times::follows_last(first, first, last) {
         return true;
     }
     too_long(end, frames)

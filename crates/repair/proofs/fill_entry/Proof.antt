@@ -4,7 +4,7 @@ use Rattle.repair.proofs.fill_entry.Tie as tie
 use Rattle.repair.proofs.fill_entry.Reads as reads
 use Rattle.repair.proofs.fill_entry.Lts as lts
 use Rattle.number.proofs.write.Reads as write-reads
-use Rattle.frames.proofs.since.Reads as since-reads
+use Rattle.times.proofs.since.Reads as since-reads
 
 since-requires : tie.Need-since-requires
 since-requires c κs = search laws

@@ -1,4 +1,4 @@
-use Rattle.recorder.proofs.Laws.{laws}
+use Rattle.recorder.proofs.Laws.{add-laws}
 use borrow.Author.Needs.{needs}
 use Rattle.recorder.proofs.Recorder.add.Statement.{statement}
 use Rattle.recorder.proofs.Recorder.add.Tie as tie
@@ -10,13 +10,13 @@ add-refusal-requires : tie.Need-add-refusal-requires
 add-refusal-requires c κs = search needs
 
 returns : tie.Need-returns
-returns c = search laws
+returns c = search add-laws
 
 add-length : tie.Need-add-length
 add-length c = search needs
 
 add-frames : tie.Need-add-frames
-add-frames c = search laws
+add-frames c = search add-laws
 
 first-after-requires : tie.Need-first-after-requires
 first-after-requires c κs = search needs
@@ -28,13 +28,13 @@ since-requires : tie.Need-since-requires
 since-requires c κs = search needs
 
 note-frame-requires : tie.Need-note-frame-requires
-note-frame-requires c κs = search laws
+note-frame-requires c κs = search add-laws
 
 time-of-requires : tie.Need-time-of-requires
 time-of-requires c κs = search needs
 
 add-t22 : tie.Need-add-t22
-add-t22 c = search laws
+add-t22 c = search add-laws
 
 same-length : tie.Need-same-length
 same-length c = search needs
@@ -43,7 +43,7 @@ same-length-2 : tie.Need-same-length-2
 same-length-2 c = search needs
 
 returns-2 : tie.Need-returns-2
-returns-2 c = search laws
+returns-2 c = search add-laws
 
 pub add-spec : {M : Type 1} → statement M
 add-spec =

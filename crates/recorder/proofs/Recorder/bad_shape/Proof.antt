@@ -1,4 +1,4 @@
-use Rattle.recorder.proofs.Laws.{laws}
+use Rattle.recorder.proofs.Laws.{add-laws}
 use borrow.Author.Needs.{needs}
 use Rattle.recorder.proofs.Recorder.bad_shape.Statement.{statement}
 use Rattle.recorder.proofs.Recorder.bad_shape.Tie as tie
@@ -13,13 +13,13 @@ enum-told : tie.Need-enum-told
 enum-told c = search needs
 
 returns : tie.Need-returns
-returns c = search laws
+returns c = search add-laws
 
 returns-2 : tie.Need-returns-2
-returns-2 c = search laws
+returns-2 c = search add-laws
 
 returns-3 : tie.Need-returns-3
-returns-3 c = search laws
+returns-3 c = search add-laws
 
 pub bad-shape-spec : {M : Type 1} → statement M
 bad-shape-spec =

@@ -1,42 +1,42 @@
-use Rattle.recorder.proofs.Laws.{laws}
+use Rattle.recorder.proofs.Laws.{begin-laws}
 use Rattle.recorder.proofs.Recorder.begin.Statement.{statement}
 use Rattle.recorder.proofs.Recorder.begin.Tie as tie
 
 is-fresh-requires : tie.Need-is-fresh-requires
-is-fresh-requires c κs = search laws
+is-fresh-requires c κs = search begin-laws
 
 returns : tie.Need-returns
-returns c = search laws
+returns c = search begin-laws
 
 first-piece-requires : tie.Need-first-piece-requires
-first-piece-requires c κs = search laws
+first-piece-requires c κs = search begin-laws
 
 enum-known-first : tie.Need-enum-known-first
-enum-known-first c = search laws
+enum-known-first c = search begin-laws
 
 enum-told : tie.Need-enum-told
-enum-told c = search laws
+enum-told c = search begin-laws
 
 piece-refusal-requires : tie.Need-piece-refusal-requires
-piece-refusal-requires c κs = search laws
+piece-refusal-requires c κs = search begin-laws
 
 same-length : tie.Need-same-length
-same-length c = search laws
+same-length c = search begin-laws
 
 returns-2 : tie.Need-returns-2
-returns-2 c = search laws
+returns-2 c = search begin-laws
 
 write-requires : tie.Need-write-requires
-write-requires c κs = search laws
+write-requires c κs = search begin-laws
 
 same-length-2 : tie.Need-same-length-2
-same-length-2 c = search laws
+same-length-2 c = search begin-laws
 
 same-length-3 : tie.Need-same-length-3
-same-length-3 c = search laws
+same-length-3 c = search begin-laws
 
 returns-3 : tie.Need-returns-3
-returns-3 c = search laws
+returns-3 c = search begin-laws
 
 pub begin-spec : {M : Type 1} → statement M
 begin-spec =

@@ -1,4 +1,4 @@
-use Rattle.recorder.proofs.Laws.{laws}
+use Rattle.recorder.proofs.Laws.{close-laws}
 use borrow.Author.Needs.{needs}
 use Rattle.recorder.proofs.Recorder.broken_state.Statement.{statement}
 use Rattle.recorder.proofs.Recorder.broken_state.Tie as tie
@@ -10,10 +10,10 @@ pattern-of-requires-2 : tie.Need-pattern-of-requires-2
 pattern-of-requires-2 c κs = search needs
 
 broken-requires : tie.Need-broken-requires
-broken-requires c κs = search laws
+broken-requires c κs = search close-laws
 
 returns : tie.Need-returns
-returns c = search laws
+returns c = search close-laws
 
 pub broken-state-spec : {M : Type 1} → statement M
 broken-state-spec =

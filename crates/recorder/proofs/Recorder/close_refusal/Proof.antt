@@ -1,4 +1,4 @@
-use Rattle.recorder.proofs.Laws.{laws}
+use Rattle.recorder.proofs.Laws.{close-laws}
 use borrow.Author.Needs.{needs}
 use Rattle.recorder.proofs.Recorder.close_refusal.Statement.{statement}
 use Rattle.recorder.proofs.Recorder.close_refusal.Tie as tie
@@ -7,34 +7,34 @@ takes-close-requires : tie.Need-takes-close-requires
 takes-close-requires c κs = search needs
 
 returns : tie.Need-returns
-returns c = search laws
+returns c = search close-laws
 
 broken-state-requires : tie.Need-broken-state-requires
 broken-state-requires c κs = search needs
 
 returns-2 : tie.Need-returns-2
-returns-2 c = search laws
+returns-2 c = search close-laws
 
 piece-of-requires : tie.Need-piece-of-requires
 piece-of-requires c κs = search needs
 
 index-length-requires : tie.Need-index-length-requires
-index-length-requires c κs = search laws
+index-length-requires c κs = search close-laws
 
 closing-length-requires : tie.Need-closing-length-requires
 closing-length-requires c κs = search needs
 
 returns-3 : tie.Need-returns-3
-returns-3 c = search laws
+returns-3 c = search close-laws
 
 returns-4 : tie.Need-returns-4
-returns-4 c = search laws
+returns-4 c = search close-laws
 
 returns-5 : tie.Need-returns-5
-returns-5 c = search laws
+returns-5 c = search close-laws
 
 returns-6 : tie.Need-returns-6
-returns-6 c = search laws
+returns-6 c = search close-laws
 
 pub close-refusal-spec : {M : Type 1} → statement M
 close-refusal-spec =

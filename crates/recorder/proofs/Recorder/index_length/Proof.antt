@@ -1,13 +1,13 @@
-use Rattle.recorder.proofs.Laws.{laws}
+use Rattle.recorder.proofs.Laws.{close-laws}
 use borrow.Author.Needs.{needs}
 use Rattle.recorder.proofs.Recorder.index_length.Statement.{statement}
 use Rattle.recorder.proofs.Recorder.index_length.Tie as tie
 
 mul-result : tie.Need-mul-result
-mul-result c = search laws
+mul-result c = search close-laws
 
 add-result : tie.Need-add-result
-add-result c = search laws
+add-result c = search close-laws
 
 returns : tie.Need-returns
 returns c = search needs

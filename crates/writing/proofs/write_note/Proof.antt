@@ -1,6 +1,6 @@
-use Rattle.frames.proofs.Writing.{laws}
-use Rattle.frames.proofs.write_note.Statement.{statement}
-use Rattle.frames.proofs.write_note.Tie as tie
+use Rattle.writing.proofs.Laws.{laws}
+use Rattle.writing.proofs.write_note.Statement.{statement}
+use Rattle.writing.proofs.write_note.Tie as tie
 
 mul-entry : tie.Need-mul-entry
 mul-entry c = search laws

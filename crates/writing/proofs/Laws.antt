@@ -20,7 +20,7 @@ use Rattle.layout.proofs.Outputs.{write-is}
 use Rattle.layout.proofs.Places.{length-head}
 use Rattle.parts.specs.Parts.{copied}
 use Rattle.parts.proofs.Output.{write-behind, copy-behind}
-use Rattle.frames.specs.Writing.{framed, notedAt, notedIn}
+use Rattle.writing.specs.Writing.{framed, notedAt, notedIn}
 
 pub frame-length : (t e : ℕ) (s : List ℕ) → length (framePiece t e s) ≡ 16 + length s
 unfolding framePiece

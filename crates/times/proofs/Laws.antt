@@ -10,7 +10,7 @@ use borrow.Author.Tests.{le-leb, lt-leb, leb-true}
 use Rattle.number.specs.Number.{rank}
 use Rattle.number.proofs.Bytes.{both-true}
 use Rattle.layout.specs.Recording.{follows, longestSpan}
-use Rattle.frames.specs.Frames.{sinceFirst}
+use Rattle.times.specs.Times.{sinceFirst}
 
 -- ── Times ──
 
