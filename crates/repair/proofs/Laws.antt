@@ -6,6 +6,6 @@ use borrow.Author.Tests.{not-true, not-false}
 use Rattle.frames.proofs.Laws.{time-fits, end-behind}
 use Rattle.repair.proofs.Frames.{frames}
 use Rattle.repair.proofs.Order.{order}
-use Rattle.repair.proofs.Tails.{entry-filled, entry-written, entry-part, next-ended, next-there, next-common, next-fits, next-known, alike-left, head-there, known-time-fits, known-behind, known-left, entries-done, entries-step, stored-length, room-left, index-written, table-written, tail-written, table-room}
+use Rattle.repair.proofs.Tails.{entry-filled, entry-written, entry-part, part-read, next-ended, next-there, next-common, next-fits, next-known, alike-left, head-there, known-time-fits, known-behind, known-left, entries-done, entries-step, stored-length, room-left, index-written, table-written, tail-written, table-room}
 
-pub ruleset laws = (needs, not-true, not-false, common-first, common-same, common-none, walk-start, walk-most, walk-end, walk-breaks, walk-goes, time-fits, end-behind, entry-filled, entry-written, entry-part, next-ended, next-there, next-common, next-fits, next-known, alike-left, head-there, known-time-fits, known-behind, known-left, entries-done, entries-step, stored-length, room-left, index-written, table-written, tail-written, table-room, frames, order)
+pub ruleset laws = (needs, not-true, not-false, common-first, common-same, common-none, walk-start, walk-most, walk-end, walk-breaks, walk-goes, time-fits, end-behind, entry-filled, entry-written, entry-part, part-read, next-ended, next-there, next-common, next-fits, next-known, alike-left, head-there, known-time-fits, known-behind, known-left, entries-done, entries-step, stored-length, room-left, index-written, table-written, tail-written, table-room, frames, order)

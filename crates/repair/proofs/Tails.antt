@@ -12,6 +12,7 @@ use lib.Seq.{sets, length-sets, sets-eq, drop-drop, take-all, length-take-le}
 use mir.Syntax.{w8, w64}
 use mir.Val.{Fits}
 use Rattle.number.specs.Number.{bytesOf, numberOf, readAt, writeAt}
+use Rattle.number.proofs.Laws.{read-is}
 use Rattle.number.proofs.Bytes.{both-true, length-bytesOf, slice-bytes}
 use Rattle.layout.specs.Recording.{Frame, frameBytes, entryBytes, entriesBytes, tableBytes}
 use Rattle.layout.specs.Reading.{Parsed, bad, good, frame, Walk, stopped, longer, walk}
@@ -143,6 +144,15 @@ next-known f k left place common b h e a =
 
 pub alike-left : (f : List ℕ) (k left place next common : ℕ) → ((i : ℕ) → Fits w8 (getD f i 0)) → 0 < left → framesIn f k left place ≡ left → next ≡ endIn (frameEnd f place k) → alikeIn f k common left place ≡ true → alikeIn f k common (left - 1) next ≡ true
 alike-left f k left place next common b h e p a = next-alike f k left place next common b h (known f k left place next h e p .0) a .1
+
+-- a time that is read from a part of just its bytes
+pub part-read : (f : List ℕ) (at n : ℕ) → at + 8 ≤ length f → n ≡ readAt (take (at + 8 - at) (drop at f)) 0 8 → n ≡ readAt f at 8
+part-read f at n l e =
+    let d : at + 8 - at ≡ 8 = omega arith in
+    let m : length (take 8 (drop at f)) ≡ 8 = length-take-le 8 (drop at f) (omega (arith, length-drop at f)) in
+    e
+    ∙ rw d
+    (read-is (take 8 (drop at f)) 0 8 (omega arith) (omega arith) ∙ ap numberOf (take-all 8 (take 8 (drop at f)) (omega arith)) ∙ sym (read-is f at 8 (omega arith) l))
 
 pub head-there : (f : List ℕ) (k left place : ℕ) → 0 < left → framesIn f k left place ≡ left → place + 4 + 8 ≤ length f
 head-there f k left place h e =

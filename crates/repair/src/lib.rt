@@ -11,6 +11,7 @@ ghost use mathlib.Core.List.{[]};
 ghost use Prim.Native.Nat.{_+_, _*_, _≤_};
 ghost use lib.ListN.{length};
 ghost use lib.Seq.{sets};
+ghost use Rattle.number.specs.Number.{readAt};
 ghost use Rattle.layout.specs.Recording.{entryBytes, tableBytes};
 ghost use Rattle.layout.specs.Repair.{whole};
 ghost use Rattle.parts.specs.declared.Place.the-variants.{End};
@@ -91,6 +92,15 @@ fn walk(file: &[u8], sections: usize, start: usize) -> Walked
     }
 }
 
+// A frame's time, where the frame is known to be whole: in a part of just its bytes it is read with no test.
+fn known_time(file: &[u8], at: usize) -> u64
+    requires { ⌜ at + 8 ≤ length (now file) ⌝ }
+    ensures { λ r. ⌜ r ≡ readAt (now (file .entry)) at 8 ⌝ }
+{
+    let end = at + 8;
+    number::read(&file[at..end], 0, 8)
+}
+
 // Where a frame that is known to be whole ends. Frames that have a length in common need no size read: the place of one does not wait for the bytes of
 // the one ahead of it.
 fn next_place(file: &[u8], place: usize, sections: usize, common: usize) -> usize
@@ -144,7 +154,7 @@ fn write_entries(
     let mut left = count;
     while 0 < left {
         let next = next_place(file, place, sections, common);
-        let time = number::read(file, place + 4, 8);
+        let time = known_time(file, place + 4);
         write_entry(out, entry, first, time, place, next - place);
         place = next;
         entry += Header::INDEX_ENTRY;

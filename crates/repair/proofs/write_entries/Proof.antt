@@ -20,11 +20,11 @@ loop-holds c = search laws
 next-place-requires : tie.Need-next-place-requires Inv-loop μ-loop
 next-place-requires c κs = search laws
 
-add-read : tie.Need-add-read Inv-loop μ-loop
-add-read c = search laws
+add-known-time : tie.Need-add-known-time Inv-loop μ-loop
+add-known-time c = search laws
 
-read-requires : tie.Need-read-requires Inv-loop μ-loop
-read-requires c κs = search laws
+known-time-requires : tie.Need-known-time-requires Inv-loop μ-loop
+known-time-requires c κs = search laws
 
 sub-write-entry : tie.Need-sub-write-entry Inv-loop μ-loop
 sub-write-entry c = search laws
@@ -58,8 +58,8 @@ write-entries-spec =
     μ-loop
     loop-holds
     next-place-requires
-    add-read
-    read-requires
+    add-known-time
+    known-time-requires
     sub-write-entry
     write-entry-requires
     add-entry

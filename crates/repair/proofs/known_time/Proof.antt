@@ -1,0 +1,25 @@
+use Rattle.repair.proofs.Laws.{laws}
+use Rattle.repair.proofs.known_time.Statement.{statement}
+use Rattle.repair.proofs.known_time.Tie as tie
+
+add-end : tie.Need-add-end
+add-end c = search laws
+
+sub-read : tie.Need-sub-read
+sub-read c = search laws
+
+part-read-start : tie.Need-part-read-start
+part-read-start c = search laws
+
+part-read-end : tie.Need-part-read-end
+part-read-end c = search laws
+
+read-requires : tie.Need-read-requires
+read-requires c κs = search laws
+
+returns : tie.Need-returns
+returns c = search laws
+
+pub known-time-spec : {M : Type 1} → statement M
+known-time-spec =
+    tie.close (tie.spec add-end sub-read part-read-start part-read-end read-requires returns)
