@@ -1,8 +1,9 @@
-"""Compares three lists: the public functions of all crates, their one-outcome theorems (proofs/Outcomes.antt), and the rows of docs/CALLS.md.
+"""Compares three lists: the public functions of all crates, their one-outcome theorems (proofs/Outcomes.antt), and the rows of docs/CALLS.md; and the
+wrong answers that the rows name with the must-fail edits that there are, each of which, but for those of the definitions, belongs to a row.
 
 Programs are looked at as libraries are: a function that no other crate can call is private. Where a crate stands on `io`, a row may say in the
 theorem's place that the call reads or prints, which no contract can state.
-Prints each function that one of the lists lacks, then a line that counts. Exit status 1 where one is missing.
+Prints each function or edit that one of the lists lacks, then a line that counts. Exit status 1 where one is missing.
 """
 
 import pathlib
@@ -44,6 +45,21 @@ def reads_or_prints():
     return set(re.findall(r"^(\w+):.*\bio\b", (ROOT / "crates.txt").read_text(), re.M))
 
 
+def edits():
+    """The edits, by the crate and their name, of the gate and of tests/operators.py."""
+    return {(path.relative_to(ROOT / "crates").parts[0], path.stem) for path in (ROOT / "crates").glob("*/must-fail/**/*.edit")}
+
+
+def named_edits(listed):
+    """Those that the rows name: `edit`, or `edit` of `crate`."""
+    return {
+        (other or crate, name)
+        for crate, calls in listed.items()
+        for row in calls.values()
+        for name, other in re.findall(r": `(\w+)`(?: of `(\w+)`)?", row.split(" | ")[-1])
+    }
+
+
 def main():
     listed, calls, lacking = rows(), 0, 0
     for crate in sorted((ROOT / "crates").iterdir()):
@@ -58,7 +74,14 @@ def main():
             if not row:
                 print(f"{crate.name}::{name}: no row in docs/CALLS.md")
                 lacking += 1
-    print(f"{calls} public calls, {lacking} lacking")
+    named, there = named_edits(listed), edits()
+    for crate, name in sorted(named - there):
+        print(f"{crate}/{name}: named in docs/CALLS.md, and there is no such edit")
+    for crate, name in sorted(edit for edit in there - named if edit[0] != "layout"):
+        print(f"{crate}/{name}: an edit that docs/CALLS.md does not name")
+        lacking += 1
+    lacking += len(named - there)
+    print(f"{calls} public calls, {len(there)} edits, {lacking} lacking")
     sys.exit(1 if lacking else 0)
 
 
