@@ -24,8 +24,8 @@ use Rattle.parts.specs.declared.Place.{Place}
 use Rattle.parts.specs.declared.Place.the-variants.{End, Broken}
 use Rattle.frames.specs.Frames.{sectionsAt}
 use Rattle.times.specs.Times.{sinceFirst}
-use Rattle.writing.specs.Writing.{framed, notedAt, notedIn}
-use Rattle.writing.proofs.Laws.{frame-length, framed-is, noted-is}
+use Rattle.writing.specs.Writing.{notedAt, lent, frameAdded}
+use Rattle.writing.proofs.Laws.{frame-length, added-is}
 use Rattle.refusal.specs.Refusal.{plain}
 use Rattle.refusal.specs.declared.Refusal.{Refusal}
 use Rattle.stages.specs.Stages.{stageOf, toStage, fullWith}
@@ -225,13 +225,18 @@ noted-by : (r : Recorder) (t e d : ℕ) (s notes : List ℕ) → d ≡ sinceFirs
 unfolding notedAt noted entryBytes sinceFirst stateOf
 noted-by r t e d s notes h = rw (h, frame-length t e s)
 
-pub added-made : (r : Recorder) (time x z : ℤ) (s notes out u v : List ℕ) (e t : ℕ) (n : Refusal) (f d : ℕ) → t ≡ ofZ w64 x → x ≡ time → n ≡ plain (addRefusal (stateOf r) t s (length notes) (length out)) → n .number ≡ 0 → f ≡ firstAfter (stateOf r) t → z ≡ toZ w64 f → toZ w64 (ofZ w64 z) ≡ z → d ≡ sinceFirst f t → u ≡ notedIn notes (r .frames + 1) d (r .end) (16 + length s) → v ≡ framed out t e s → made (record { state = record { stage = Running; sections = r .sections; frames = r .frames + 1; first = toZ w64 (ofZ w64 z); last = toZ w64 (ofZ w64 time); end = r .end + (16 + length s) }; piece = Given (r .end) (16 + length s) }) u v ≡ addOf r time e s notes out
+pub added-made : (r : Recorder) (time x z : ℤ) (s notes out u v : List ℕ) (e t : ℕ) (n : Refusal) (f : ℕ)
+    → t ≡ ofZ w64 x → x ≡ time → n ≡ plain (addRefusal (stateOf r) t s (length notes) (length out)) → n .number ≡ 0
+    → f ≡ firstAfter (stateOf r) t → z ≡ toZ w64 f → toZ w64 (ofZ w64 z) ≡ z → lent u v ≡ frameAdded (r .frames + 1) f t e (r .end) s notes out
+    → made (record { state = record { stage = Running; sections = r .sections; frames = r .frames + 1; first = toZ w64 (ofZ w64 z); last = toZ w64 (ofZ w64 time); end = r .end + (16 + length s) }; piece = Given (r .end) (16 + length s) }) u v ≡ addOf r time e s notes out
 unfolding addOf
-added-made r time x z s notes out u v e t n f d p q g h i j k l w y =
+added-made r time x z s notes out u v e t n f p q g h i j k l =
     let a = addable r t s (length notes) (length out) n g h in
     let i′ : t ≡ ofZ w64 time = p ∙ ap (ofZ w64) q in
     let o : length (framePiece t e s) ≤ length out = rw (frame-length t e s) (a .fits) in
-    added-by r (toZ w64 (ofZ w64 z)) (toZ w64 (ofZ w64 time)) s notes out u v e t n (16 + length s) g h (k ∙ j ∙ ap (toZ w64) i) (ap (toZ w64) (sym i′)) (sym (frame-length t e s)) (w ∙ noted-is notes (r .frames + 1) d (r .end) (16 + length s) (omega arith) (omega (arith, a .fewer)) (a .notesFit) ∙ noted-by r t e d s notes (l ∙ ap (λ (x : ℕ). sinceFirst x t) i)) (y ∙ framed-is out s t e (a .fits) ∙ filled-is out (framePiece t e s) o)
+    let (w, y) = added-is s notes out u v (r .frames + 1) f t e (r .end) l (omega arith) (omega (arith, a .fewer)) (a .notesFit) (a .fits) in
+    added-by r (toZ w64 (ofZ w64 z)) (toZ w64 (ofZ w64 time)) s notes out u v e t n (16 + length s) g h (k ∙ j ∙ ap (toZ w64) i) (ap (toZ w64) (sym i′)) (sym (frame-length t e s))
+    (w ∙ noted-by r t e (sinceFirst f t) s notes (ap (λ (x : ℕ). sinceFirst x t) i)) (y ∙ filled-is out (framePiece t e s) o)
     ∙ ap (λ (x : ℕ). madeOf r out (layout.add (stateOf r) x e s notes (length out))) i′
 
 pub ruleset addings = (shape-broken, shape-exact, shape-other, clock-first, clock-kept, clock-broken, after-first, after-later, add-stage, add-broken, add-shape, add-full, add-clock, add-room, add-notes, add-taken, more-fits, more-entries-fit, more-index-fits, refused-add, frames-more, end-more, added-made)

@@ -200,13 +200,15 @@ impl Recorder {
         let length = Header::FRAME_HEAD + sections.len();
         let frames = self.frames + 1;
         let first = self.first_after(pattern);
-        writing::write_frame(pattern, exposure, sections, out);
-        writing::note_frame(
-            notes,
+        writing::add_frame(
             frames,
-            times::since(first, pattern),
+            first,
+            pattern,
+            exposure,
             self.end,
-            length as u64,
+            sections,
+            notes,
+            out,
         );
         Taken {
             state: Recorder {

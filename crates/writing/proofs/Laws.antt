@@ -20,7 +20,8 @@ use Rattle.layout.proofs.Outputs.{write-is}
 use Rattle.layout.proofs.Places.{length-head}
 use Rattle.parts.specs.Parts.{copied}
 use Rattle.parts.proofs.Output.{write-behind, copy-behind}
-use Rattle.writing.specs.Writing.{framed, notedAt, notedIn}
+use Rattle.times.specs.Times.{sinceFirst}
+use Rattle.writing.specs.Writing.{framed, notedAt, notedIn, Lent, lent, frameAdded}
 
 pub frame-length : (t e : ℕ) (s : List ℕ) → length (framePiece t e s) ≡ 16 + length s
 unfolding framePiece
@@ -92,4 +93,19 @@ noted-is notes n since place size l m h = rw (le-ltb n 1 l, le-ltb mostFrames n 
 pub note-written : (notes d : List ℕ) (n since place size : ℕ) → 1 ≤ n → n ≤ 1000000 → 4 + 16 * n ≤ length notes → d ≡ notedAt notes n since place size → d ≡ notedIn notes n since place size
 note-written notes d n since place size l m h e = e ∙ sym (noted-is notes n since place size l m h)
 
-pub ruleset laws = (needs, framed-short, framed-far, frame-written, noted-none, noted-many, noted-short, entry-sets, note-written)
+-- ── Both ──
+
+pub frame-added : (s notes out u v : List ℕ) (n first t e place d : ℕ)
+    → v ≡ framed out t e s → d ≡ sinceFirst first t → u ≡ notedIn notes n d place (16 + length s) → lent u v ≡ frameAdded n first t e place s notes out
+unfolding frameAdded
+frame-added s notes out u v n first t e place d p q w = rw (p, w, q)
+
+-- there is room for both
+pub added-is : (s notes out u v : List ℕ) (n first t e place : ℕ)
+    → lent u v ≡ frameAdded n first t e place s notes out → 1 ≤ n → n ≤ 1000000 → 4 + 16 * n ≤ length notes → 16 + length s ≤ length out
+    → (u ≡ notedAt notes n (sinceFirst first t) place (16 + length s)) × (v ≡ sets out 0 (framePiece t e s))
+unfolding frameAdded
+added-is s notes out u v n first t e place h l m k o =
+    (ap (λ (x : Lent). x .notes) h ∙ noted-is notes n (sinceFirst first t) place (16 + length s) l m k, ap (λ (x : Lent). x .out) h ∙ framed-is out s t e o)
+
+pub ruleset laws = (needs, frame-added, framed-short, framed-far, frame-written, noted-none, noted-many, noted-short, entry-sets, note-written)

@@ -9,12 +9,8 @@ use prog.Memory.{Memory}
 use prog.Routine.{Routine}
 use prog.Wp.{Heap}
 use Rattle.outcome.specs.Outcome.{Determines, agree}
-use Rattle.writing.proofs.write_frame
-use Rattle.writing.proofs.note_frame
+use Rattle.writing.proofs.add_frame
 
 module _ {M : Type 1} (𝓤 : URA M) (H : Heap 𝓤) (A : Atoms 𝓤) (mem : Memory → SProp 𝓤) (run : Routine → Fun 𝓤) where
-  pub write-frame-one : Determines 𝓤 «write_frame».ended («write_frame».clauses 𝓤 H A mem run)
-  write-frame-one κs a g x y v w = agree 𝓤 (λ p q. (refl, λ i. (v .0, (v .1 .0, (v .1 .1 .0, ((p ∙ sym q) i, v .1 .1 .1 .1))))))
-
-  pub note-frame-one : Determines 𝓤 «note_frame».ended («note_frame».clauses 𝓤 H A mem run)
-  note-frame-one κs a g x y v w = agree 𝓤 (λ p q. (refl, λ i. ((p ∙ sym q) i, v .1)))
+  pub add-frame-one : Determines 𝓤 «add_frame».ended («add_frame».clauses 𝓤 H A mem run)
+  add-frame-one κs a g x y v w = agree 𝓤 (λ p q. let e = p ∙ sym q in (refl, λ i. (v .0, (v .1 .0, (v .1 .1 .0, (v .1 .1 .1 .0, (v .1 .1 .1 .1 .0, (v .1 .1 .1 .1 .1 .0, (e i .notes, (e i .out, v .1 .1 .1 .1 .1 .1 .1 .1))))))))))

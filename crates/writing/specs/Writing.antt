@@ -8,6 +8,7 @@ use lib.Dec.{ltb}
 use Rattle.number.specs.Number.{bytesOf}
 use Rattle.layout.specs.Recording.{mostFrames, indexLength}
 use Rattle.layout.specs.Recorder.{framePiece, noRoom}
+use Rattle.times.specs.Times.{sinceFirst}
 
 -- the output with a frame at its start, where there is room for it
 unfoldable pub framed : (out : List ℕ) → (time exposure : ℕ) → (sections : List ℕ) → List ℕ
@@ -23,3 +24,16 @@ notedAt notes n since place size =
 unfoldable pub notedIn : (notes : List ℕ) → (n since place size : ℕ) → List ℕ
 notedIn notes n since place size =
     cond (ltb n 1 || ltb mostFrames n || noRoom (length notes) (indexLength n)) notes (notedAt notes n since place size)
+
+-- what is lent to a frame call
+pub record Lent : Type 0 where
+  pub notes : List ℕ
+  pub out : List ℕ
+
+abbrev pub lent : (notes out : List ℕ) → Lent
+lent notes out = record { notes = notes; out = out }
+
+-- both, n being the count with the frame
+unfoldable pub frameAdded : (n first time exposure place : ℕ) → (sections notes out : List ℕ) → Lent
+frameAdded n first time exposure place sections notes out =
+    lent (notedIn notes n (sinceFirst first time) place (16 + length sections)) (framed out time exposure sections)

@@ -1,12 +1,12 @@
-// A frame and its index entry, written into what is lent.
+// What a frame call writes into what is lent: the frame, and its index entry.
 use header::Header;
 ghost use mathlib.Core.Path.{_≡_};
 ghost use Prim.Native.Nat.{_+_, _*_, _≤_};
 ghost use lib.ListN.{length};
-ghost use Rattle.writing.specs.Writing.{framed, notedAt, notedIn};
+ghost use Rattle.writing.specs.Writing.{framed, notedAt, notedIn, lent, frameAdded};
 
 // A frame at the start of the output: its head, and the sections as they are given; nothing where there is no room for it.
-pub fn write_frame(time: u64, exposure: u32, sections: &[u8], out: &mut [u8])
+fn write_frame(time: u64, exposure: u32, sections: &[u8], out: &mut [u8])
     ensures { λ r. ⌜ now (out .exit) ≡ framed (now (out .entry)) time exposure (now (sections .entry)) ⌝ }
 {
     if out.len() < Header::FRAME_HEAD {
@@ -34,7 +34,7 @@ fn write_note(notes: &mut [u8], n: u64, since: u64, place: u64, size: u64)
 }
 
 // The same; nothing where there is no frame n, or no room for its entry.
-pub fn note_frame(notes: &mut [u8], n: u64, since: u64, place: u64, size: u64)
+fn note_frame(notes: &mut [u8], n: u64, since: u64, place: u64, size: u64)
     ensures { λ r. ⌜ now (notes .exit) ≡ notedIn (now (notes .entry)) n since place size ⌝ }
 {
     if n < 1 {
@@ -47,4 +47,22 @@ pub fn note_frame(notes: &mut [u8], n: u64, since: u64, place: u64, size: u64)
         return;
     }
     write_note(notes, n, since, place, size);
+}
+
+// A frame into the output and its entry into the notes, n being the count with it: what has no room stays as it is.
+pub fn add_frame(
+    n: u64,
+    first: u64,
+    time: u64,
+    exposure: u32,
+    place: u64,
+    sections: &[u8],
+    notes: &mut [u8],
+    out: &mut [u8],
+)
+    ensures { λ r. ⌜ lent (now (notes .exit)) (now (out .exit)) ≡ frameAdded n first time exposure place (now (sections .entry)) (now (notes .entry)) (now (out .entry)) ⌝ }
+{
+    write_frame(time, exposure, sections, out);
+    let size = Header::FRAME_HEAD + sections.len();
+    note_frame(notes, n, times::since(first, time), place, size as u64);
 }

@@ -21,20 +21,14 @@ add-frames c = search add-laws
 first-after-requires : tie.Need-first-after-requires
 first-after-requires c κs = search needs
 
-write-frame-requires : tie.Need-write-frame-requires
-write-frame-requires c κs = search needs
-
-since-requires : tie.Need-since-requires
-since-requires c κs = search needs
-
-note-frame-requires : tie.Need-note-frame-requires
-note-frame-requires c κs = search add-laws
+add-frame-requires : tie.Need-add-frame-requires
+add-frame-requires c κs = search needs
 
 time-of-requires : tie.Need-time-of-requires
 time-of-requires c κs = search needs
 
-add-t22 : tie.Need-add-t22
-add-t22 c = search add-laws
+add-t24 : tie.Need-add-t24
+add-t24 c = search add-laws
 
 same-length : tie.Need-same-length
 same-length c = search needs
@@ -55,11 +49,9 @@ add-spec =
     add-length
     add-frames
     first-after-requires
-    write-frame-requires
-    since-requires
-    note-frame-requires
+    add-frame-requires
     time-of-requires
-    add-t22
+    add-t24
     same-length
     same-length-2
     returns-2)
