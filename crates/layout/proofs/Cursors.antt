@@ -11,9 +11,9 @@ use lib.Dec.{ltb}
 use borrow.Author.Tests.{ltb-true, ltb-false}
 use Rattle.number.specs.Number.{numberOf}
 use Rattle.layout.specs.Recording.{Tag, shortString, tagBytes, mostTags, within, distinct, tagNames, legalTagName, legalTagValue}
-use Rattle.layout.specs.Reading.{Parsed, bad, good, onward, give, _then_, only, times, exactly, number, block, string, table}
+use Rattle.layout.specs.Reading.{Parsed, bad, good, give, _then_, only, times, exactly, number, block, string, table}
 use Rattle.layout.specs.Reading as read
-use Rattle.layout.specs.Items.{Part, noTag, nameStart, valueStart}
+use Rattle.layout.specs.Items.{noTag, nameStart, valueStart}
 use Rattle.layout.specs.Browser.{Browsed, tagAt, browse}
 use Rattle.layout.specs.Browser as browser
 use Rattle.layout.specs.Cursor.{Cursor, at, end, refused, standsAt, firstTag, nextTag}
