@@ -262,6 +262,25 @@ typedef struct {
 FstfTag fstf_tag_at(const uint8_t *table, size_t table_length, uint64_t number);
 FstfTag fstf_tag_named(const uint8_t *table, size_t table_length, const uint8_t *name, size_t name_length);
 
+/* ── One tag after another ── to list a table, where `fstf_tag_at` would look at all of it for each tag: the first call looks at the table, and each next
+ * tag is read behind the one before.
+ *     for (FstfCursor c = fstf_first_tag(t, n); c.found; c = fstf_next_tag(t, n, c)) ..
+ * Over bytes that are not exactly a table the first call is refused 7, and the cursor stays refused; at the end it stays at the end. Any cursor is taken:
+ * one of other bytes, or with any numbers, goes to the tag that stands behind its value, or to the end. */
+typedef struct {
+    uint64_t refused;
+    uint64_t place;
+    uint64_t found;        /* 1 at a tag; 0 at the end and where it is refused, and then the members below are 0 */
+    uint64_t name;         /* where its name's bytes start in the table */
+    uint64_t name_length;
+    uint64_t value;        /* where its value's bytes start in the table */
+    uint64_t value_length;
+    uint64_t left;         /* how many tags come behind it */
+} FstfCursor;
+
+FstfCursor fstf_first_tag(const uint8_t *table, size_t table_length);
+FstfCursor fstf_next_tag(const uint8_t *table, size_t table_length, FstfCursor at);
+
 #ifdef __cplusplus
 }
 #endif

@@ -309,18 +309,34 @@ def line_of_tag(tag):
     return f"tag name {tag.name.at} {tag.name.length} value {tag.value.at} {tag.value.length}"
 
 
+def line_of_walk(data):
+    """A cursor over all of the table: how many tags it tells, and the check over their numbers."""
+    try:
+        told = model.walk_tags(data)
+    except Refusal as refusal:
+        return f"walk refused {refusal.number}"
+    numbers = [(tag.name.at, tag.name.length, tag.value.at, tag.value.length, left) for tag, left in told]
+    return f"walk {len(told)} {hex_check(b''.join(u16(n) for tag in numbers for n in tag))}"
+
+
 def line_of_browse(fields):
     number, data = fields.number(8), fields.rest()
     try:
         tag, after = model.browse(data, number)
+        line = f"{line_of_tag(tag) if tag else 'end'} next {after}"
     except Refusal as refusal:
-        return f"refused {refusal.number} next {number}"
-    return f"{line_of_tag(tag) if tag else 'end'} next {after}"
+        line = f"refused {refusal.number} next {number}"
+    return f"{line} {line_of_walk(data)}"
 
 
 def line_of_named(fields):
-    tag = model.tag_by_name(name=fields.bytes(fields.number(1)), table=fields.rest())
-    return line_of_tag(tag) if tag else "absent"
+    name, data = fields.bytes(fields.number(1)), fields.rest()
+    try:
+        tag = model.tag_by_name(data, name)
+        line = line_of_tag(tag) if tag else "absent"
+    except Refusal as refusal:
+        line = f"refused {refusal.number}"
+    return f"{line} {line_of_walk(data)}"
 
 
 def recorded_pieces(set_up_list, system_table, frames):
@@ -1669,7 +1685,7 @@ def browser_vectors(v):
         v.put("browse_" + name, of_browse(number, data), expected)
 
     three = table(*TAGS[:3])
-    put("0_of_3", 0, three, "tag name 5 4 value 10 3 next 1")
+    put("0_of_3", 0, three, "tag name 5 4 value 10 3 next 1 walk 3")
     put("1_of_3", 1, three, "tag name 14 3 value 18 3 next 2")
     put("2_of_3", 2, three, "tag name 22 4 value 27 0 next 3")
     put("3_of_3", 3, three, "end next 3")
@@ -1677,13 +1693,13 @@ def browser_vectors(v):
     for name, number in BEYOND + (("2_to_32_and_1", 2**32 + 1), ("top_less_1", TOP - 1)):
         put(f"{name}_of_3", number, three, f"end next {number}")
         put(f"{name}_of_malformed", number, three[:-1], f"refused 7 next {number}")
-    put("0_of_none", 0, table(), "end next 0")
+    put("0_of_none", 0, table(), "end next 0 walk 0 cbf29ce484222325")
     put("1_of_none", 1, table(), "end next 1")
     put("top_of_none", TOP, table(), f"end next {TOP}")
     for number in (0, 1, 3, 4):
         put(f"{number}_one_byte_short", number, three[:-1], f"refused 7 next {number}")
         put(f"{number}_one_byte_long", number, three + b"\0", f"refused 7 next {number}")
-    put("no_bytes", 0, b"", "refused 7 next 0")
+    put("no_bytes", 0, b"", "refused 7 next 0 walk refused 7")
     put("three_zeros", 0, bytes(3), "refused 7 next 0")
     put("five_zeros", 0, bytes(5), "refused 7 next 0")
     for n in range(len(table(TAGS[0]))):

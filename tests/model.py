@@ -1,7 +1,7 @@
 """Document 01 in plain Python: an implementation of its own, by which the vectors' answers were computed.
 
 It was written from the document alone, without a look at the library under test. Each public call of the library stands here as a
-function: open_file, frame, part and part_number, begin, add, close, repair, save, browse, tag_by_name. A refused call raises Refusal
+function: open_file, frame, part and part_number, begin, add, close, repair, save, browse, walk_tags, tag_by_name. A refused call raises Refusal
 with the document's number. Lent outputs are bytearrays; every test of a call comes before its first write, so that a refusal changes
 nothing. Python's whole numbers have no width, so no sum or difference here can wrap.
 """
@@ -337,6 +337,13 @@ def browse(table, number):
     tags = exact_table(table)
     refuse_if(tags is None, USER_TABLE)
     return (tags[number], number + 1) if number < len(tags) else (None, number)
+
+
+def walk_tags(table):
+    """The tags of a table one after another, each with the number of tags behind it."""
+    tags = exact_table(table)
+    refuse_if(tags is None, USER_TABLE)
+    return [(tag, len(tags) - 1 - i) for i, tag in enumerate(tags)]
 
 
 def tag_by_name(table, name):

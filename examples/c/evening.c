@@ -122,11 +122,11 @@ static void list(const char *path, uint64_t frames) {
         printf("  frame %u at %lld ms\n", (unsigned)number, (long long)frame.time);
         check(pixels.length == PIXELS && file[pixels.start] == 0x10 * (number + 1), "the pixels that were recorded");
     }
-    for (uint64_t number = 0; number < opened.user_tags; number++) {
-        FstfPart name = fstf_part_of(file, length, opened, FSTF_USER_NAME, number, 0);
-        FstfPart value = fstf_part_of(file, length, opened, FSTF_USER_VALUE, number, 0);
-        printf("  %.*s = %.*s\n", (int)name.length, file + name.start, (int)value.length, file + value.start);
-    }
+    /* the user table stands up to the file's end */
+    const uint8_t *table = file + opened.user;
+    size_t table_length = length - opened.user;
+    for (FstfCursor c = fstf_first_tag(table, table_length); c.found; c = fstf_next_tag(table, table_length, c))
+        printf("  %.*s = %.*s\n", (int)c.name_length, table + c.name, (int)c.value_length, table + c.value);
     free(file);
 }
 
@@ -134,10 +134,9 @@ static void list(const char *path, uint64_t frames) {
 
 /* How many tags stand from a place up to the file's end, if these bytes are a table. */
 static uint64_t tags_from(const uint8_t *file, size_t length, uint64_t place) {
-    uint64_t tags = 0;
     if (place > length) return 0;
-    while (tags < FSTF_MOST_TAGS && fstf_tag_at(file + place, length - place, tags).found == 1) tags++;
-    return tags;
+    FstfCursor first = fstf_first_tag(file + place, length - place);
+    return first.found ? first.left + 1 : 0;
 }
 
 /* Answers how many tags were not kept. */

@@ -17,7 +17,7 @@ mod saving;
 mod table;
 mod walk;
 
-pub use browser::{tag_at, tag_named};
+pub use browser::{first_tag, next_tag, tag_at, tag_named, Stop};
 pub use opening::{open, Opened};
 pub use reading::{frame, part, Frame, Item};
 pub use recorder::{add, begin, close, Piece, Stage, State};

@@ -64,6 +64,17 @@ pub(crate) fn tag_from(table: &[u8], place: usize) -> Tag {
     }
 }
 
+/// The tag at `place`, within `bytes`, if a legal one stands there.
+pub(crate) fn legal_tag(bytes: &[u8], place: usize) -> Option<Tag> {
+    let mut cursor = Cursor::new(bytes, place);
+    let name = cursor.short_string()?;
+    let value = cursor.short_string()?;
+    if name.is_empty() || !is_text(name) || !is_text(value) {
+        return None;
+    }
+    Some(tag_from(bytes, place))
+}
+
 /// The tag with a number below the count, in a measured table.
 pub(crate) fn tag_numbered(table: &[u8], number: usize) -> Tag {
     let mut place = FIRST_TAG;

@@ -7,7 +7,9 @@
 //! 2^63 bytes, changed by nobody else during the call, and one that is written (`&mut`) overlaps no other.
 #![allow(unsafe_code)]
 
-use crate::raw::{self, FstfFrame, FstfOpened, FstfPart, FstfRecorder, FstfRepaired, FstfSaved, FstfTag, FstfTaken};
+use crate::raw::{
+    self, FstfCursor, FstfFrame, FstfOpened, FstfPart, FstfRecorder, FstfRepaired, FstfSaved, FstfTag, FstfTaken,
+};
 
 /// Opens a file: what it holds, in numbers. Refused 1 to 7.
 #[must_use]
@@ -125,4 +127,19 @@ pub fn tag_at(table: &[u8], number: u64) -> FstfTag {
 pub fn tag_named(table: &[u8], name: &[u8]) -> FstfTag {
     // SAFETY: as in `open`, for both slices.
     unsafe { raw::fstf_tag_named(table.as_ptr(), table.len(), name.as_ptr(), name.len()) }
+}
+
+/// The first tag of bytes that are exactly a tag table, or the end where it has none: looks at the whole table. Refused 7.
+#[must_use]
+pub fn first_tag(table: &[u8]) -> FstfCursor {
+    // SAFETY: as in `open`.
+    unsafe { raw::fstf_first_tag(table.as_ptr(), table.len()) }
+}
+
+/// The tag behind the one that a cursor stands at, or the end, without looking at the table again. A refusal in `at` is passed through. Any cursor
+/// is taken: one of other bytes, or with any numbers, goes to the tag that stands behind its value, or to the end.
+#[must_use]
+pub fn next_tag(table: &[u8], at: FstfCursor) -> FstfCursor {
+    // SAFETY: as in `open`; the numbers may be any.
+    unsafe { raw::fstf_next_tag(table.as_ptr(), table.len(), at) }
 }

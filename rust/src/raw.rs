@@ -169,6 +169,28 @@ pub struct FstfTag {
     pub value_length: u64,
 }
 
+/// Where a cursor over a table stands, by places in the table. All 0 is the end.
+#[repr(C)]
+#[derive(Debug, Clone, Copy, Default, PartialEq, Eq)]
+pub struct FstfCursor {
+    /// The refusal, or 0.
+    pub refused: u64,
+    /// What the refusal's number carries, or 0.
+    pub place: u64,
+    /// 1 at a tag; 0 at the end and where it is refused, and then the places, the lengths and `left` are 0.
+    pub found: u64,
+    /// Where its name's bytes start.
+    pub name: u64,
+    /// How many they are.
+    pub name_length: u64,
+    /// Where its value's bytes start.
+    pub value: u64,
+    /// How many they are.
+    pub value_length: u64,
+    /// How many tags come behind it.
+    pub left: u64,
+}
+
 extern "C" {
     /// Opens a file. Refused 1 to 7.
     pub fn fstf_open(file: *const u8, file_length: usize) -> FstfOpened;
@@ -242,4 +264,10 @@ extern "C" {
 
     /// A tag of a table by its name. Refused 7.
     pub fn fstf_tag_named(table: *const u8, table_length: usize, name: *const u8, name_length: usize) -> FstfTag;
+
+    /// The cursor at the first tag of a table. Refused 7.
+    pub fn fstf_first_tag(table: *const u8, table_length: usize) -> FstfCursor;
+
+    /// The cursor at the next tag. Refused as the cursor is.
+    pub fn fstf_next_tag(table: *const u8, table_length: usize, at: FstfCursor) -> FstfCursor;
 }

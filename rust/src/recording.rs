@@ -6,11 +6,8 @@ use std::ops::Range;
 use crate::calls;
 use crate::date::Date;
 use crate::form::between;
-use crate::raw::{self, FstfOpened, FstfPart};
+use crate::raw::{self, FstfCursor, FstfOpened, FstfPart};
 use crate::refusal::{accepted, Refusal};
-
-/// The most tags that a table has.
-const MOST_TAGS: usize = 1_000;
 
 /// A recording that opened.
 ///
@@ -134,13 +131,13 @@ impl<'a> Recording<'a> {
     /// The tags that the camera's program wrote.
     #[must_use]
     pub fn system_tags(&self) -> Tags<'a> {
-        Tags::new(self.system_table(), self.opened.system_tags as usize)
+        Tags::new(self.system_table())
     }
 
     /// The tags that members wrote.
     #[must_use]
     pub fn user_tags(&self) -> Tags<'a> {
-        Tags::new(self.user_table(), self.opened.user_tags as usize)
+        Tags::new(self.user_table())
     }
 
     /// The value of the system tag of this name, if there is one. Names are equal by their bytes.
@@ -385,44 +382,23 @@ impl FusedIterator for Sections<'_> {}
 
 /// The tags of a table, in its order, see [`Recording::user_tags`].
 ///
-/// The library finds a tag by its number, which walks the table from its start. So that listing a table stays linear, this walks on from the
-/// tag before: the table is legal, since its file opened.
+/// The library looks at the table once, and then goes on from the tag before.
 #[derive(Debug, Clone, Default)]
 pub struct Tags<'a> {
-    rest: &'a [u8],
-    left: usize,
+    table: &'a [u8],
+    at: FstfCursor,
 }
 
 impl<'a> Tags<'a> {
-    // The tags stand behind their count.
-    fn new(table: &'a [u8], left: usize) -> Tags<'a> {
-        Tags { rest: table.get(4..).unwrap_or_default(), left }
+    /// The tags of bytes that are exactly a table; none where they are not.
+    fn new(table: &'a [u8]) -> Tags<'a> {
+        Tags { table, at: calls::first_tag(table) }
     }
 
-    /// The tags of bytes that are exactly a table; none where they are not. The library says so, and how many tags there are.
+    /// The same, where the library says whether they are.
     pub(crate) fn of_table(table: &'a [u8]) -> Option<Tags<'a>> {
-        if calls::tag_at(table, 0).refused != 0 {
-            return None;
-        }
-        // the count, by halves: each number below it is found
-        let (mut low, mut high) = (0, MOST_TAGS);
-        while low < high {
-            let middle = (low + high) / 2;
-            if calls::tag_at(table, middle as u64).found == 1 {
-                low = middle + 1;
-            } else {
-                high = middle;
-            }
-        }
-        Some(Tags::new(table, low))
-    }
-
-    // "A short string is one length byte and that many bytes."
-    fn short_string(&mut self) -> Option<&'a str> {
-        let (&length, behind) = self.rest.split_first()?;
-        let string = behind.get(..usize::from(length))?;
-        self.rest = behind.get(string.len()..)?;
-        Some(text(string))
+        let tags = Tags::new(table);
+        (tags.at.refused == 0).then_some(tags)
     }
 }
 
@@ -430,14 +406,18 @@ impl<'a> Iterator for Tags<'a> {
     type Item = Tag<'a>;
 
     fn next(&mut self) -> Option<Tag<'a>> {
-        self.left = self.left.checked_sub(1)?;
-        let name = self.short_string()?;
-        let value = self.short_string()?;
-        Some(Tag { name, value })
+        let at = self.at;
+        if at.found == 0 {
+            return None;
+        }
+        self.at = calls::next_tag(self.table, at);
+        let string = |start: u64, length: u64| text(between(self.table, start, start.saturating_add(length)));
+        Some(Tag { name: string(at.name, at.name_length), value: string(at.value, at.value_length) })
     }
 
     fn size_hint(&self) -> (usize, Option<usize>) {
-        (self.left, Some(self.left))
+        let left = if self.at.found == 0 { 0 } else { self.at.left as usize + 1 };
+        (left, Some(left))
     }
 }
 

@@ -3,7 +3,7 @@
 mod common;
 
 use common::{before_closing, WHOLE};
-use suljanko::raw::{self, FstfOpened, FstfRecorder};
+use suljanko::raw::{self, FstfCursor, FstfOpened, FstfRecorder};
 use suljanko::{calls, save, Recording, Sheet};
 
 const NONE: &[u8] = &[];
@@ -24,6 +24,52 @@ fn empty_slices() {
     assert_eq!(calls::tag_named(NONE, NONE).refused, 7);
     // no tag has an empty name
     assert_eq!(calls::tag_named(&[0; 4], NONE).found, 0);
+    assert_eq!(calls::first_tag(NONE).refused, 7);
+    assert_eq!(calls::next_tag(NONE, FstfCursor::default()), FstfCursor::default());
+}
+
+/// Two tags, A and BC, the second with no value.
+const TWO_TAGS: &[u8] = b"\x02\0\0\0\x01A\x03xyz\x02BC\0";
+
+#[test]
+fn one_tag_after_another() {
+    let first = calls::first_tag(TWO_TAGS);
+    let at_a =
+        FstfCursor { found: 1, name: 5, name_length: 1, value: 7, value_length: 3, left: 1, ..FstfCursor::default() };
+    assert_eq!(first, at_a);
+    let second = calls::next_tag(TWO_TAGS, first);
+    let at_bc = FstfCursor { name: 11, name_length: 2, value: 14, value_length: 0, left: 0, ..at_a };
+    assert_eq!(second, at_bc);
+    let end = calls::next_tag(TWO_TAGS, second);
+    assert_eq!(end, FstfCursor::default());
+    assert_eq!(calls::next_tag(TWO_TAGS, end), end);
+    // a table without tags is at its end; one that was cut is refused, and stays so
+    assert_eq!(calls::first_tag(&[0; 4]), end);
+    let refused = calls::first_tag(&TWO_TAGS[..13]);
+    assert_eq!(refused, FstfCursor { refused: 7, ..end });
+    assert_eq!(calls::next_tag(TWO_TAGS, refused), refused);
+}
+
+#[test]
+fn a_cursor_may_have_any_numbers() {
+    for value in EDGES {
+        for value_length in EDGES {
+            let at = FstfCursor { found: 1, value, value_length, left: 5, ..FstfCursor::default() };
+            let next = calls::next_tag(TWO_TAGS, at);
+            // at none of the places that they add up to there is a tag
+            assert_eq!(next, FstfCursor::default(), "{value} {value_length}");
+        }
+    }
+    // one that stands ahead of a tag goes there, whatever else it says
+    let ahead = FstfCursor { found: 9, name: u64::MAX, value: 4, left: 3, ..FstfCursor::default() };
+    assert_eq!(calls::next_tag(TWO_TAGS, ahead), FstfCursor { left: 2, ..calls::first_tag(TWO_TAGS) });
+    let none_left = FstfCursor { left: 0, ..ahead };
+    assert_eq!(calls::next_tag(TWO_TAGS, none_left), FstfCursor::default());
+    let refused = FstfCursor { refused: u64::MAX, place: 77, ..ahead };
+    assert_eq!(
+        calls::next_tag(TWO_TAGS, refused),
+        FstfCursor { refused: u64::MAX, place: 77, ..FstfCursor::default() }
+    );
 }
 
 #[test]

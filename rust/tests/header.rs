@@ -69,7 +69,7 @@ fn structs() {
             (name.to_string(), each(members, ',', from_rust))
         })
         .collect();
-    assert_eq!(in_header.len(), 8);
+    assert_eq!(in_header.len(), 9);
     assert_eq!(in_raw, in_header);
     // every answer has one head; the recorder's state is no answer
     for (name, members) in &in_header {
@@ -103,7 +103,7 @@ fn calls() {
             (name.to_string(), shape)
         })
         .collect();
-    assert_eq!(in_header.len(), 13);
+    assert_eq!(in_header.len(), 15);
     assert_eq!(in_raw, in_header);
 }
 

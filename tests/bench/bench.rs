@@ -239,6 +239,32 @@ fn saving(changes: usize) {
     row(&format!("a save of {} to 1,000 tags", named), &measured);
 }
 
+/// The value lengths and places of all tags, added up: each tag is read behind the one before.
+fn listing() {
+    let tags = table(&thousand_tags(short_name)).bytes;
+    let measured = measure(
+        &mut || {
+            let mut sum = 0;
+            let mut at = calls::first_tag(&tags);
+            while at.found != 0 {
+                sum += at.value + at.value_length;
+                at = calls::next_tag(&tags, at);
+            }
+            sum
+        },
+        &mut || {
+            let mut sum = 0;
+            let mut next = rival::first_tag(&tags).unwrap_or(None);
+            while let Some(at) = next {
+                sum += at.tag.value + at.tag.value_length;
+                next = rival::next_tag(&tags, at);
+            }
+            sum
+        },
+    );
+    row("1,000 tags of a table, one after another", &measured);
+}
+
 fn growth() {
     println!();
     println!("| opening, frames of 22 bytes | library | a frame | rival | a frame | ratio |");
@@ -273,6 +299,7 @@ fn main() {
     row("opening with 1,000 tags, names OBS0000 to OBS0999", &opening(&file_with_tags(|i| format!("OBS{:04}", i))));
     row("opening with 1,000 tags, names of two letters", &opening(&file_with_tags(two_letters)));
     row("opening with 1,000 tags, names of 255 bytes alike but for the end", &opening(&file_with_tags(long_name)));
+    listing();
     recording_of("1,000,000 frames of 36 bytes", 1_000_000, 16);
     recording_of("1,000 frames of 1 MiB", 1_000, 1 << 20);
     growth();

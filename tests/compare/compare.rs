@@ -33,7 +33,7 @@ const ONCE: [(&str, Case); 5] = [
 ];
 
 /// Each with how many cases it has at a turn: those of few inputs have many.
-const TURNS: [(&str, Case, u64); 23] = [
+const TURNS: [(&str, Case, u64); 24] = [
     ("legal", files::legal, 4),
     ("damaged", files::damaged, 4),
     ("numbers-nudged", files::numbers_nudged, 8),
@@ -57,6 +57,7 @@ const TURNS: [(&str, Case, u64); 23] = [
     ("conflicts", tags::conflicts, 2),
     ("table-full", tags::table_full, 1),
     ("browsed", tags::browsed, 10),
+    ("cursors", tags::cursors, 10),
 ];
 
 const DEFAULT_COUNT: u64 = 10_000_000;

@@ -21,13 +21,15 @@ pub enum Call {
     Save,
     TagAt,
     TagNamed,
+    FirstTag,
+    NextTag,
 }
 
 /// The numbers of include/fstf.h, 0 to 17; a last count is for those that it does not have.
 const NUMBERS: usize = 18;
 
 /// Each call with the numbers that must be met; 0 is acceptance. Repair's 15 needs a file of 2^40 bytes.
-const CALLS: [(&str, &[u64]); 13] = [
+const CALLS: [(&str, &[u64]); 15] = [
     ("fstf_new", &[0]),
     ("fstf_open", &[0, 1, 2, 3, 4, 5, 6, 7]),
     ("fstf_frame", &[0, 1, 2, 3, 4, 5, 6, 7, 8]),
@@ -41,6 +43,9 @@ const CALLS: [(&str, &[u64]); 13] = [
     ("fstf_save", &[0, 1, 2, 3, 4, 5, 6, 7, 10, 11, 17, 9]),
     ("fstf_tag_at", &[0, 7]),
     ("fstf_tag_named", &[0, 7]),
+    ("fstf_first_tag", &[0, 7]),
+    // A refusal is passed through, whatever its number: those that the header does not have are counted as one.
+    ("fstf_next_tag", &[0, 7, 11, NUMBERS as u64]),
 ];
 
 /// Differences printed before the run is given up.
@@ -150,6 +155,31 @@ fn flat_tag(answer: Result<Option<rival::Tag>, u64>) -> FstfTag {
         Ok(None) => none,
         Err(refused) => FstfTag { refused, ..none },
     }
+}
+
+fn flat_stop(stop: Option<rival::Stop>) -> FstfCursor {
+    match stop {
+        Some(rival::Stop { tag, left }) => FstfCursor {
+            refused: 0,
+            place: 0,
+            found: 1,
+            name: tag.name,
+            name_length: tag.name_length,
+            value: tag.value,
+            value_length: tag.value_length,
+            left,
+        },
+        None => FstfCursor::default(),
+    }
+}
+
+/// The rival's stop for the numbers of a cursor of the face, which is at a tag where its `found` is not 0.
+fn their_stop(at: FstfCursor) -> Option<rival::Stop> {
+    if at.found == 0 {
+        return None;
+    }
+    let tag = rival::Tag { name: at.name, name_length: at.name_length, value: at.value, value_length: at.value_length };
+    Some(rival::Stop { tag, left: at.left })
 }
 
 /// The item that a kind of the face names; a kind that is none asks for a frame that no file has.
@@ -437,7 +467,7 @@ impl Sides {
         let theirs = flat_tag(rival::tag_at(table, number));
         let input = || format!("number {} of table {}", number, shown(table));
         self.settle(Call::TagAt, ours.refused, ours == theirs, &input, [&ours, &theirs]);
-        self.count_tag(Call::TagAt, &ours);
+        self.count_tag(Call::TagAt, ours.refused, ours.found);
         ours
     }
 
@@ -446,12 +476,37 @@ impl Sides {
         let theirs = flat_tag(rival::tag_named(table, name));
         let input = || format!("name {}\n  table {}", shown(name), shown(table));
         self.settle(Call::TagNamed, ours.refused, ours == theirs, &input, [&ours, &theirs]);
-        self.count_tag(Call::TagNamed, &ours);
+        self.count_tag(Call::TagNamed, ours.refused, ours.found);
         ours
     }
 
-    fn count_tag(&mut self, call: Call, tag: &FstfTag) {
-        self.without_tag[call as usize] += u64::from(tag.refused == 0 && tag.found == 0);
+    pub fn first_tag(&mut self, table: &[u8]) -> FstfCursor {
+        let ours = ours::first_tag(table);
+        let theirs = match rival::first_tag(table) {
+            Ok(stop) => flat_stop(stop),
+            Err(refused) => FstfCursor { refused, ..FstfCursor::default() },
+        };
+        let input = || format!("table {}", shown(table));
+        self.settle(Call::FirstTag, ours.refused, ours == theirs, &input, [&ours, &theirs]);
+        self.count_tag(Call::FirstTag, ours.refused, ours.found);
+        ours
+    }
+
+    /// The cursor behind any: a refusal is passed through with its place, the end stays.
+    pub fn next_tag(&mut self, table: &[u8], at: FstfCursor) -> FstfCursor {
+        let ours = ours::next_tag(table, at);
+        let theirs = match at.refused {
+            0 => flat_stop(their_stop(at).and_then(|stop| rival::next_tag(table, stop))),
+            refused => FstfCursor { refused, place: at.place, ..FstfCursor::default() },
+        };
+        let input = || format!("{:?} of table {}", at, shown(table));
+        self.settle(Call::NextTag, ours.refused, ours == theirs, &input, [&ours, &theirs]);
+        self.count_tag(Call::NextTag, ours.refused, ours.found);
+        ours
+    }
+
+    fn count_tag(&mut self, call: Call, refused: u64, found: u64) {
+        self.without_tag[call as usize] += u64::from(refused == 0 && found == 0);
     }
 
     /// Prints how often each number of each call was met; answers how many of its order were never met, or met outside it.
@@ -477,7 +532,7 @@ impl Sides {
                 }
             }
             // of the accepted ones some find a tag, and some find none
-            if name.starts_with("fstf_tag_") {
+            if name.contains("_tag") {
                 line += &format!(", accepted without a tag {}", without);
                 if *without == 0 || *without == met[0] {
                     lacking += 1;

@@ -1,7 +1,8 @@
-//! Tables and sheets: saves, the tag browser, tags by their name.
+//! Tables and sheets: saves, the tag browser, tags by their name, tags one after another.
 
 use crate::build::*;
 use crate::random::Random;
+use crate::raw::FstfCursor;
 use crate::sides::Sides;
 
 enum Seen {
@@ -317,4 +318,76 @@ pub fn browsed(sides: &mut Sides, random: &mut Random) {
     let any = random.bytes(length);
     sides.tag_named(&table, &any);
     sides.tag_named(&table, &[]);
+}
+
+/// A cursor from the first tag of a table to its end and once more, each step as the browser's.
+fn walked(sides: &mut Sides, table: &[u8]) {
+    let mut at = sides.first_tag(table);
+    let mut number = 0;
+    while at.found != 0 {
+        if number < 50 {
+            let tag = sides.tag_at(table, number);
+            let same = (at.name, at.name_length, at.value, at.value_length)
+                == (tag.name, tag.name_length, tag.value, tag.value_length);
+            sides.known(same, "the cursor is at the browser's tag", table);
+        }
+        number += 1;
+        at = sides.next_tag(table, at);
+    }
+    let stays = sides.next_tag(table, at);
+    sides.known(stays == at, "at the end, and where it is refused, the cursor stays", table);
+}
+
+/// A cursor that no table gave: numbers around those of the table's tags, around its end, and any.
+fn some_cursor(random: &mut Random, table: &[u8], tags: &[Tag]) -> FstfCursor {
+    let end = table.len() as u64;
+    let mut place = 4;
+    for tag in tags.iter().take(random.size(tags.len())) {
+        place += 2 + (tag.name.len() + tag.value.len()) as u64;
+    }
+    let any = random.next();
+    let number = |random: &mut Random| match random.below(6) {
+        0 => any,
+        1 => u64::MAX - random.below(3),
+        2 => end.wrapping_add(random.below(4)).wrapping_sub(2),
+        3 => random.below(end + 2),
+        4 => (1 << 63) - 1 + random.below(3),
+        _ => random.below(3),
+    };
+    let (value, value_length) = match random.below(4) {
+        // just ahead of a tag, or one byte off
+        0 | 1 => {
+            let length = random.below(place + 1);
+            (place - length, length + random.below(20) / 19)
+        }
+        // a sum that wraps to such a place
+        2 => {
+            let value = u64::MAX - random.below(300);
+            (value, place.wrapping_sub(value))
+        }
+        _ => (number(random), number(random)),
+    };
+    let refused = if random.one_in(8) { random.pick(&[7, 11, 18, u64::MAX]) } else { 0 };
+    FstfCursor {
+        refused,
+        place: number(random),
+        found: if random.one_in(8) { 0 } else { random.pick(&[1, 1, 2, u64::MAX]) },
+        name: number(random),
+        name_length: number(random),
+        value,
+        value_length,
+        left: if random.one_in(3) { number(random) } else { 1 + random.below(5) },
+    }
+}
+
+/// Tables good and bad, walked by a cursor, and asked for what stands behind cursors that are none of theirs.
+pub fn cursors(sides: &mut Sides, random: &mut Random) {
+    let count = if random.one_in(2) { 1 + random.size(12) } else { tag_count(random) };
+    let tags = tags(random, count);
+    let table = some_table(random, &tags);
+    walked(sides, &table);
+    for _ in 0..20 {
+        let at = some_cursor(random, &table, &tags);
+        sides.next_tag(&table, at);
+    }
 }

@@ -1,20 +1,10 @@
 -- What the browser answers, by the layout's browser.
-use mathlib.Core.List.{List}
-use lib.ListN.{length}
-use Rattle.layout.specs.Recording.{Tag}
-use Rattle.layout.specs.Reading.{Parsed, bad, good}
 use Rattle.layout.specs.Browser as layout
 use Rattle.tables.specs.declared.TagFound.{TagFound}
 use Rattle.tables.specs.declared.TagFound.the-variants as found
 use Rattle.refusal.specs.Refusal.{plain}
-use Rattle.browser.specs.declared.Tags.{Tags}
-use Rattle.browser.specs.declared.Tags.the-variants as tags
 use Rattle.browser.specs.declared.Browsed.{Browsed}
 use Rattle.browser.specs.declared.Browsed.the-variants as browsed
-
-unfoldable pub tagsOf : Parsed (List Tag) → Tags
-tagsOf bad = tags.Broken
-tagsOf (good ts n) = tags.Whole (length ts)
 
 unfoldable pub browsedTag : TagFound → Browsed
 browsedTag (found.At name nameLength value valueLength) = browsed.Tag name nameLength value valueLength

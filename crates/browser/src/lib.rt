@@ -2,12 +2,11 @@
 use names::NameFound;
 use refusal::Refusal;
 use rows::Row;
-use tables::TablePlace;
 use tables::TagFound;
+use tables::Tags;
 ghost use mathlib.Core.Path.{_≡_};
-ghost use Rattle.layout.specs.Reading.{exactly, table};
 ghost use Rattle.layout.specs.Browser.{browse, cursorAfter, tagNamed};
-ghost use Rattle.browser.specs.Browsing.{tagsOf, browsedTag, browsedAs};
+ghost use Rattle.browser.specs.Browsing.{browsedTag, browsedAs};
 
 // A tag by the places and lengths of its name and its value; the end; or the refusal.
 pub enum Browsed {
@@ -19,26 +18,6 @@ pub enum Browsed {
     },
     End,
     Refused(Refusal),
-}
-
-// The number of tags of bytes that are exactly a legal table.
-enum Tags {
-    Whole(usize),
-    Broken,
-}
-
-fn tags_of(bytes: &[u8]) -> Tags
-    ensures { λ r. ⌜ r ≡ tagsOf (exactly table (now (bytes .entry))) ⌝ }
-{
-    let read = tables::table(bytes, 0);
-    let TablePlace::Whole(n, end) = read else {
-        return Tags::Broken;
-    };
-    if end == bytes.len() {
-        Tags::Whole(n)
-    } else {
-        Tags::Broken
-    }
 }
 
 // The tag that was found, or the end.
@@ -65,7 +44,7 @@ fn tag_or_end(found: TagFound) -> Browsed
 pub fn tag_at(table: &[u8], number: u64) -> Browsed
     ensures { λ r. ⌜ r ≡ browsedAs (browse (now (table .entry)) number) ⌝ }
 {
-    let tags = tags_of(table);
+    let tags = tables::tags_of(table);
     let Tags::Whole(n) = tags else {
         return Browsed::Refused(Refusal::USER_TABLE);
     };
@@ -76,7 +55,7 @@ pub fn tag_at(table: &[u8], number: u64) -> Browsed
 pub fn tag_named(table: &[u8], name: &[u8]) -> Browsed
     ensures { λ r. ⌜ r ≡ browsedAs (tagNamed (now (table .entry)) (now (name .entry))) ⌝ }
 {
-    let tags = tags_of(table);
+    let tags = tables::tags_of(table);
     let Tags::Whole(n) = tags else {
         return Browsed::Refused(Refusal::USER_TABLE);
     };
@@ -91,7 +70,7 @@ pub fn tag_named(table: &[u8], name: &[u8]) -> Browsed
 pub fn next_number(table: &[u8], number: u64) -> u64
     ensures { λ r. ⌜ r ≡ cursorAfter (browse (now (table .entry)) number) number ⌝ }
 {
-    let tags = tags_of(table);
+    let tags = tables::tags_of(table);
     let Tags::Whole(n) = tags else {
         return number;
     };

@@ -1,10 +1,12 @@
-// The vectors of the browser, and of a tag by its name: runs those that its arguments name, and prints a line for each.
+// The vectors of the browser, and of a tag by its name, each with the walk of a cursor over its table: runs those that its arguments name, and prints a line for each.
 // tests/VECTORS.md says what a vector holds and how its line reads.
 use browser::Browsed;
+use cursor::Cursor;
 use vector::print::no_vector;
 use vector::print::refused;
 use vector::print::say;
 use vector::print::with;
+use vector::print::with_sum;
 
 const NAMED: u8 = b'n';
 
@@ -28,6 +30,76 @@ fn places(found: Browsed) {
     }
 }
 
+// A check with the last two bytes of a number behind it.
+fn with_number(sum: u64, n: usize) -> u64 {
+    let low = vector::check::byte(sum, (n % 256) as u8);
+    vector::check::byte(low, (n / 256 % 256) as u8)
+}
+
+fn is_tag(at: Cursor) -> bool {
+    if let Cursor::End = at {
+        return false;
+    }
+    if let Cursor::Refused(refusal) = at {
+        return false;
+    }
+    true
+}
+
+// A check with the numbers of the tag that a cursor stands at behind it.
+fn with_tag(sum: u64, at: Cursor) -> u64 {
+    let Cursor::Tag {
+        name,
+        name_length,
+        value,
+        value_length,
+        left,
+    } = at
+    else {
+        return sum;
+    };
+    let named = with_number(with_number(sum, name), name_length);
+    with_number(with_number(with_number(named, value), value_length), left)
+}
+
+// Where a walk ends, how many tags it told, and the check over their numbers.
+fn walked(at: Cursor, tags: u64, sum: u64) {
+    match at {
+        Cursor::Tag {
+            name,
+            name_length,
+            value,
+            value_length,
+            left,
+        } => with(b" walk goes on at ", name as u64),
+        Cursor::End => {
+            with(b" walk ", tags);
+            with_sum(b" ", sum);
+        }
+        Cursor::Refused(refusal) => {
+            say(b" walk ");
+            refused(refusal);
+        }
+    }
+}
+
+// A cursor from tag to tag, as often as the table has bytes: where it has come to the end, or is refused, it stays.
+fn walk(table: &[u8]) {
+    let mut at = cursor::first_tag(table);
+    let mut tags = 0;
+    let mut sum = vector::check::START;
+    let mut steps = table.len();
+    while 0 < steps {
+        if is_tag(at) {
+            tags = std::num::wrapping_add_u64(tags, 1);
+            sum = with_tag(sum, at);
+        }
+        at = cursor::next_tag(table, at);
+        steps -= 1;
+    }
+    walked(at, tags, sum);
+}
+
 fn browse(fields: &[u8]) {
     if fields.len() < 8 {
         no_vector();
@@ -37,6 +109,7 @@ fn browse(fields: &[u8]) {
     let number = number::read(fields, 0, 8);
     places(browser::tag_at(table, number));
     with(b" next ", browser::next_number(table, number));
+    walk(table);
 }
 
 fn is_absent(found: Browsed) -> bool {
@@ -45,6 +118,14 @@ fn is_absent(found: Browsed) -> bool {
     } else {
         false
     }
+}
+
+fn look(found: Browsed) {
+    if is_absent(found) {
+        say(b"absent");
+        return;
+    }
+    places(found);
 }
 
 fn named(fields: &[u8]) {
@@ -58,12 +139,9 @@ fn named(fields: &[u8]) {
         no_vector();
         return;
     }
-    let found = browser::tag_named(&given[length..], &given[..length]);
-    if is_absent(found) {
-        say(b"absent");
-        return;
-    }
-    places(found);
+    let table = &given[length..];
+    look(browser::tag_named(table, &given[..length]));
+    walk(table);
 }
 
 // The call that a vector holds, by its first byte.

@@ -1,20 +1,28 @@
 -- What the functions of this crate leave to be shown, as laws about the definitions.
 -- Assumes nothing.
 use Prim.Native.Nat.{ℕ}
-use mathlib.Core.Path.{_≡_, ap, sym, _∙_}
+use mathlib.Core.Path.{_≡_, refl, ap, sym, _∙_}
+use mathlib.Core.Bool.{cond}
 use mathlib.Core.List.{List}
+use lib.Dec.{eqb}
 use borrow.Author.Needs.{needs}
 use Rattle.layout.specs.Browser as layout
+use Rattle.layout.specs.Cursor.{firstTag}
+use Rattle.layout.proofs.Lists.{asks, asks-not}
 use Rattle.saving.specs.Save as saving
 use Rattle.saving.specs.declared.Saved.{Saved}
 use Rattle.saving.specs.declared.Saved.the-variants as save
 use Rattle.browser.specs.Browsing.{browsedAs}
 use Rattle.browser.specs.declared.Browsed.{Browsed}
 use Rattle.browser.specs.declared.Browsed.the-variants as browsed
+use Rattle.cursor.specs.Cursors.{cursorAs, nextAs}
+use Rattle.cursor.specs.declared.Cursor.{Cursor}
+use Rattle.cursor.specs.declared.Cursor.the-variants as cursor
 use Rattle.refusal.specs.declared.Refusal.{Refusal}
-use Rattle.face_tags.specs.Face.{savedNot, savedFlat, saved, outcomeFlat, tagNot, tagFlat}
+use Rattle.face_tags.specs.Face.{savedNot, savedFlat, saved, outcomeFlat, tagNot, tagFlat, cursorNot, cursorFlat, cursorAsked, cursorNext}
 use Rattle.face_tags.specs.declared.FstfSaved.{FstfSaved}
 use Rattle.face_tags.specs.declared.FstfTag.{FstfTag}
+use Rattle.face_tags.specs.declared.FstfCursor.{FstfCursor}
 
 -- ── Saving ──
 
@@ -42,4 +50,40 @@ tag-not o n r e h = h ∙ sym (ap tagFlat e)
 pub tag-face : (b : layout.Browsed) (o : Browsed) (r : FstfTag) → o ≡ browsedAs b → r ≡ tagFlat o → r ≡ tagFlat (browsedAs b)
 tag-face b o r h k = k ∙ ap tagFlat h
 
-pub ruleset laws = (needs, saved-table, saved-not, save-face, tag-is, tag-end, tag-not, tag-face)
+-- ── One tag after another ──
+
+pub cursor-tag : (o : Cursor) (n l v m left : ℕ) → o ≡ cursor.Tag n l v m left → record { refused = 0; place = 0; found = 1; name = n; «name_length» = l; value = v; «value_length» = m; left = left } ≡ cursorFlat o
+cursor-tag o n l v m left e = sym (ap cursorFlat e)
+
+pub cursor-end : (o : Cursor) (r : FstfCursor) → o ≡ cursor.End → r ≡ cursorNot 0 0 → r ≡ cursorFlat o
+cursor-end o r e h = h ∙ sym (ap cursorFlat e)
+
+pub cursor-not : (o : Cursor) (n : Refusal) (r : FstfCursor) → o ≡ cursor.Refused n → r ≡ cursorNot (n .number) (n .place) → r ≡ cursorFlat o
+cursor-not o n r e h = h ∙ sym (ap cursorFlat e)
+
+pub cursor-asked : (c : FstfCursor) → cursor.Tag (c .name) (c .«name_length») (c .value) (c .«value_length») (c .left) ≡ cursorAsked c
+unfolding cursorAsked
+cursor-asked c = refl
+
+pub first-face : (s : List ℕ) (o : Cursor) (r : FstfCursor) → o ≡ cursorAs (firstTag s) → r ≡ cursorFlat o → r ≡ cursorFlat (cursorAs (firstTag s))
+first-face s o r h k = k ∙ ap cursorFlat h
+
+-- the end, or the next tag, of a cursor that is not refused
+afterTag : List ℕ → FstfCursor → FstfCursor
+afterTag s c = cond (eqb (c .found) 0) (cursorNot 0 0) (cursorFlat (nextAs s (cursorAsked c)))
+
+pub next-passed : (s : List ℕ) (c r : FstfCursor) → (c .refused ≡ 0 → ⊥) → r ≡ cursorNot (c .refused) (c .place) → r ≡ cursorNext s c
+unfolding cursorNext afterTag
+next-passed s c r e h = asks-not (c .refused) 0 (afterTag s c) (cursorNot (c .refused) (c .place)) r e h
+
+pub next-ended : (s : List ℕ) (c r : FstfCursor) → c .refused ≡ 0 → c .found ≡ 0 → r ≡ cursorNot 0 0 → r ≡ cursorNext s c
+unfolding cursorNext afterTag
+next-ended s c r e f h =
+    asks (c .refused) 0 (afterTag s c) (cursorNot (c .refused) (c .place)) r e (asks (c .found) 0 (cursorNot 0 0) (cursorFlat (nextAs s (cursorAsked c))) r f h)
+
+pub next-face : (s : List ℕ) (c : FstfCursor) (a o : Cursor) (r : FstfCursor) → c .refused ≡ 0 → (c .found ≡ 0 → ⊥) → a ≡ cursorAsked c → o ≡ nextAs s a → r ≡ cursorFlat o → r ≡ cursorNext s c
+unfolding cursorNext afterTag
+next-face s c a o r e f g h k =
+    asks (c .refused) 0 (afterTag s c) (cursorNot (c .refused) (c .place)) r e (asks-not (c .found) 0 (cursorNot 0 0) (cursorFlat (nextAs s (cursorAsked c))) r f (k ∙ ap cursorFlat (h ∙ ap (nextAs s) g)))
+
+pub ruleset laws = (needs, saved-table, saved-not, save-face, tag-is, tag-end, tag-not, tag-face, cursor-tag, cursor-end, cursor-not, cursor-asked, first-face, next-passed, next-ended, next-face)

@@ -12,6 +12,8 @@ use Rattle.outcome.specs.Outcome.{Determines, agree}
 use Rattle.face_tags.proofs.save
 use Rattle.face_tags.proofs.tag_at
 use Rattle.face_tags.proofs.tag_named
+use Rattle.face_tags.proofs.first_tag
+use Rattle.face_tags.proofs.next_tag
 
 module _ {M : Type 1} (𝓤 : URA M) (H : Heap 𝓤) (A : Atoms 𝓤) (mem : Memory → SProp 𝓤) (run : Routine → Fun 𝓤) where
   pub save-one : Determines 𝓤 save.ended (save.clauses 𝓤 H A mem run)
@@ -22,3 +24,9 @@ module _ {M : Type 1} (𝓤 : URA M) (H : Heap 𝓤) (A : Atoms 𝓤) (mem : Mem
 
   pub tag-named-one : Determines 𝓤 «tag_named».ended («tag_named».clauses 𝓤 H A mem run)
   tag-named-one κs a g x y v w = agree 𝓤 (λ p q. (p ∙ sym q, refl))
+
+  pub first-tag-one : Determines 𝓤 «first_tag».ended («first_tag».clauses 𝓤 H A mem run)
+  first-tag-one κs a g x y v w = agree 𝓤 (λ p q. (p ∙ sym q, refl))
+
+  pub next-tag-one : Determines 𝓤 «next_tag».ended («next_tag».clauses 𝓤 H A mem run)
+  next-tag-one κs a g x y v w = agree 𝓤 (λ p q. (p ∙ sym q, refl))

@@ -1,13 +1,19 @@
 -- The flat answers of saving and of tags, by cases on the answers of the calls behind them.
 use Prim.Native.Nat.{ℕ}
+use mathlib.Core.Bool.{cond}
 use mathlib.Core.List.{List}
+use lib.Dec.{eqb}
 use Rattle.saving.specs.declared.Saved.{Saved}
 use Rattle.saving.specs.declared.Saved.the-variants as save
 use Rattle.saving.specs.Save as saving
 use Rattle.browser.specs.declared.Browsed.{Browsed}
 use Rattle.browser.specs.declared.Browsed.the-variants as browsed
+use Rattle.cursor.specs.Cursors.{nextAs}
+use Rattle.cursor.specs.declared.Cursor.{Cursor}
+use Rattle.cursor.specs.declared.Cursor.the-variants as cursor
 use Rattle.face_tags.specs.declared.FstfSaved.{FstfSaved}
 use Rattle.face_tags.specs.declared.FstfTag.{FstfTag}
+use Rattle.face_tags.specs.declared.FstfCursor.{FstfCursor}
 
 -- ── Saving ──
 
@@ -41,3 +47,24 @@ tagFlat (browsed.Tag name nameLength value valueLength) =
     record { refused = 0; place = 0; found = 1; name = name; «name_length» = nameLength; value = value; «value_length» = valueLength }
 tagFlat browsed.End = tagNot 0 0
 tagFlat (browsed.Refused n) = tagNot (n .number) (n .place)
+
+-- ── One tag after another ──
+
+-- at no tag: refused with its number and its place, or by 0 the end
+abbrev pub cursorNot : (number place : ℕ) → FstfCursor
+cursorNot n place = record { refused = n; place = place; found = 0; name = 0; «name_length» = 0; value = 0; «value_length» = 0; left = 0 }
+
+abbrev pub cursorFlat : Cursor → FstfCursor
+cursorFlat (cursor.Tag name nameLength value valueLength left) =
+    record { refused = 0; place = 0; found = 1; name = name; «name_length» = nameLength; value = value; «value_length» = valueLength; left = left }
+cursorFlat cursor.End = cursorNot 0 0
+cursorFlat (cursor.Refused n) = cursorNot (n .number) (n .place)
+
+-- the numbers of a cursor at a tag, or any others
+unfoldable pub cursorAsked : FstfCursor → Cursor
+cursorAsked c = cursor.Tag (c .name) (c .«name_length») (c .value) (c .«value_length») (c .left)
+
+-- what is refused stays so, and so does the end; else the next tag by the numbers given
+unfoldable pub cursorNext : List ℕ → FstfCursor → FstfCursor
+cursorNext s c =
+    cond (eqb (c .refused) 0) (cond (eqb (c .found) 0) (cursorNot 0 0) (cursorFlat (nextAs s (cursorAsked c)))) (cursorNot (c .refused) (c .place))

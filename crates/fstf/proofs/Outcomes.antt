@@ -22,6 +22,8 @@ use Rattle.fstf.proofs.fstf_repair
 use Rattle.fstf.proofs.fstf_save
 use Rattle.fstf.proofs.fstf_tag_at
 use Rattle.fstf.proofs.fstf_tag_named
+use Rattle.fstf.proofs.fstf_first_tag
+use Rattle.fstf.proofs.fstf_next_tag
 
 module _ {M : Type 1} (𝓤 : URA M) (H : Heap 𝓤) (A : Atoms 𝓤) (mem : Memory → SProp 𝓤) (run : Routine → Fun 𝓤) where
   pub fstf-open-one : Determines 𝓤 «fstf_open».ended («fstf_open».clauses 𝓤 H A mem run)
@@ -62,3 +64,9 @@ module _ {M : Type 1} (𝓤 : URA M) (H : Heap 𝓤) (A : Atoms 𝓤) (mem : Mem
 
   pub fstf-tag-named-one : Determines 𝓤 «fstf_tag_named».ended («fstf_tag_named».clauses 𝓤 H A mem run)
   fstf-tag-named-one κs a g x y v w = agree 𝓤 (λ p q. (p ∙ sym q, refl))
+
+  pub fstf-first-tag-one : Determines 𝓤 «fstf_first_tag».ended («fstf_first_tag».clauses 𝓤 H A mem run)
+  fstf-first-tag-one κs a g x y v w = agree 𝓤 (λ p q. (p ∙ sym q, refl))
+
+  pub fstf-next-tag-one : Determines 𝓤 «fstf_next_tag».ended («fstf_next_tag».clauses 𝓤 H A mem run)
+  fstf-next-tag-one κs a g x y v w = agree 𝓤 (λ p q. (p ∙ sym q, refl))

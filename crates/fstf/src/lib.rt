@@ -5,6 +5,7 @@ use face_reading::FstfPart;
 use face_recording::FstfRecorder;
 use face_recording::FstfTaken;
 use face_repair::FstfRepaired;
+use face_tags::FstfCursor;
 use face_tags::FstfSaved;
 use face_tags::FstfTag;
 ghost use mathlib.Core.Path.{_≡_};
@@ -17,9 +18,11 @@ ghost use Rattle.face_recording.specs.Face.{recorderAsked, recorderFlat, record
 ghost use Rattle.repair.specs.Repaired.{repairOf};
 ghost use Rattle.face_repair.specs.Face.{repaired, madeFlat};
 ghost use Rattle.layout.specs.Browser.{browse, tagNamed};
+ghost use Rattle.layout.specs.Cursor.{firstTag};
 ghost use Rattle.saving.specs.Save.{saveOf};
 ghost use Rattle.browser.specs.Browsing.{browsedAs};
-ghost use Rattle.face_tags.specs.Face.{saved, outcomeFlat, tagFlat};
+ghost use Rattle.cursor.specs.Cursors.{cursorAs};
+ghost use Rattle.face_tags.specs.Face.{saved, outcomeFlat, tagFlat, cursorFlat, cursorNext};
 
 #[no_mangle]
 pub extern "C" fn fstf_open(file: &[u8]) -> FstfOpened
@@ -129,4 +132,18 @@ pub extern "C" fn fstf_tag_named(table: &[u8], name: &[u8]) -> FstfTag
     ensures { λ r. ⌜ r ≡ tagFlat (browsedAs (tagNamed (now (table .entry)) (now (name .entry)))) ⌝ }
 {
     face_tags::tag_named(table, name)
+}
+
+#[no_mangle]
+pub extern "C" fn fstf_first_tag(table: &[u8]) -> FstfCursor
+    ensures { λ r. ⌜ r ≡ cursorFlat (cursorAs (firstTag (now (table .entry)))) ⌝ }
+{
+    face_tags::first_tag(table)
+}
+
+#[no_mangle]
+pub extern "C" fn fstf_next_tag(table: &[u8], at: FstfCursor) -> FstfCursor
+    ensures { λ r. ⌜ r ≡ cursorNext (now (table .entry)) at ⌝ }
+{
+    face_tags::next_tag(table, at)
 }

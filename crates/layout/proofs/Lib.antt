@@ -32,4 +32,5 @@ pub mod Condition3
 pub mod Refusals
 pub mod Fresh
 pub mod Browsing
+pub mod Cursors
 pub mod Entries

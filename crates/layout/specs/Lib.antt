@@ -4,6 +4,7 @@ pub mod Reading
 pub mod Opening
 pub mod Items
 pub mod Browser
+pub mod Cursor
 pub mod Recorder
 pub mod Repair
 pub mod Saving

@@ -115,7 +115,7 @@ tag-parts s at n m e = go (textOf (only legalTagName string (drop at s))) refl
     go text.Broken f = let z : _≡_ {A = ℕ} 0 1 = cc (tag-no-name s at text.Broken (sym f) refl) in absurd (omega arith)
     go (text.Whole i) f = value i (textOf (only legalTagValue string (drop (at + 1 + i) s))) f refl
 
-tag-broken : (p : Parsed Tag) → tagPlaceOf p ≡ tagPlace.Broken → p ≡ bad
+pub tag-broken : (p : Parsed Tag) → tagPlaceOf p ≡ tagPlace.Broken → p ≡ bad
 unfolding tagPlaceOf
 tag-broken bad e = refl
 tag-broken (good t n) e = let z : _≡_ {A = ℕ} 0 1 = cc in absurd (omega arith)

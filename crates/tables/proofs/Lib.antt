@@ -1,3 +1,4 @@
 pub mod Laws
+pub mod Alone
 pub mod Places
 pub mod Outcomes

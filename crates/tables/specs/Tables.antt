@@ -16,6 +16,8 @@ use Rattle.tables.specs.declared.TagPlace.{TagPlace}
 use Rattle.tables.specs.declared.TagPlace.the-variants as tagPlace
 use Rattle.tables.specs.declared.TablePlace.{TablePlace}
 use Rattle.tables.specs.declared.TablePlace.the-variants as tablePlace
+use Rattle.tables.specs.declared.Tags.{Tags}
+use Rattle.tables.specs.declared.Tags.the-variants as tags
 use Rattle.tables.specs.declared.TagFound.{TagFound}
 use Rattle.tables.specs.declared.TagFound.the-variants.{At, Nothing}
 
@@ -28,6 +30,11 @@ tagPlaceOf (good t n) = tagPlace.Whole (length (t .name)) (length (t .value))
 unfoldable pub tablePlaceOf : (at : ℕ) → Parsed (List Tag) → TablePlace
 tablePlaceOf at bad = tablePlace.Broken
 tablePlaceOf at (good ts n) = tablePlace.Whole (length ts) (at + n)
+
+-- the number of tags of bytes that were read as a table, and nothing behind it
+unfoldable pub tagsOf : Parsed (List Tag) → Tags
+tagsOf bad = tags.Broken
+tagsOf (good ts n) = tags.Whole (length ts)
 
 -- where name and value stand in a tag that was read from p on
 unfoldable pub partsOf : (p : ℕ) → Parsed Tag → TagFound

@@ -5,12 +5,12 @@ use rows::Row;
 use strings::Text;
 ghost use mathlib.Core.Path.{_≡_};
 ghost use lib.ListN.{drop};
-ghost use Rattle.layout.specs.Reading.{times, tag, table};
+ghost use Rattle.layout.specs.Reading.{times, exactly, tag, table};
 ghost use Rattle.parts.specs.Parts.{endOf};
-ghost use Rattle.tables.specs.Tables.{tagPlaceOf, tablePlaceOf, tagFound};
+ghost use Rattle.tables.specs.Tables.{tagPlaceOf, tablePlaceOf, tagsOf, tagFound};
 
 // A tag at a place: the numbers of bytes of its name and of its value.
-enum TagPlace {
+pub enum TagPlace {
     Whole(usize, usize),
     Broken,
 }
@@ -21,7 +21,8 @@ pub enum TablePlace {
     Broken,
 }
 
-fn tag(s: &[u8], at: usize) -> TagPlace
+// A tag: its name and its value, as short strings of bytes that a tag may have.
+pub fn tag(s: &[u8], at: usize) -> TagPlace
     ensures { λ r. ⌜ r ≡ tagPlaceOf (tag (drop at (now (s .entry)))) ⌝ }
 {
     let name = strings::tag_name(s, at);
@@ -75,6 +76,26 @@ pub fn table(s: &[u8], at: usize) -> TablePlace
         TablePlace::Whole(n, end)
     } else {
         TablePlace::Broken
+    }
+}
+
+// The number of tags of bytes that are exactly a legal table.
+pub enum Tags {
+    Whole(usize),
+    Broken,
+}
+
+pub fn tags_of(bytes: &[u8]) -> Tags
+    ensures { λ r. ⌜ r ≡ tagsOf (exactly table (now (bytes .entry))) ⌝ }
+{
+    let read = table(bytes, 0);
+    let TablePlace::Whole(n, end) = read else {
+        return Tags::Broken;
+    };
+    if end == bytes.len() {
+        Tags::Whole(n)
+    } else {
+        Tags::Broken
     }
 }
 

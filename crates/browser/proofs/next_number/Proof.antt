@@ -4,7 +4,7 @@ use Rattle.browser.proofs.next_number.Statement.{statement}
 use Rattle.browser.proofs.next_number.Tie as tie
 use Rattle.browser.proofs.next_number.Reads as reads
 use Rattle.browser.proofs.next_number.Lts as lts
-use Rattle.browser.proofs.tags_of.Reads as tags-of-reads
+use Rattle.tables.proofs.tags_of.Reads as tags-of-reads
 
 tags-of-requires : tie.Need-tags-of-requires
 tags-of-requires c κs = search needs

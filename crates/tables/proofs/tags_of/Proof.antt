@@ -1,10 +1,10 @@
-use Rattle.browser.proofs.Laws.{laws}
+use Rattle.tables.proofs.Alone.{laws}
 use borrow.Author.Needs.{needs}
-use Rattle.browser.proofs.tags_of.Statement.{statement}
-use Rattle.browser.proofs.tags_of.Tie as tie
-use Rattle.browser.proofs.tags_of.Reads as reads
-use Rattle.browser.proofs.tags_of.Lts as lts
+use Rattle.tables.proofs.tags_of.Statement.{statement}
+use Rattle.tables.proofs.tags_of.Tie as tie
+use Rattle.tables.proofs.tags_of.Reads as reads
+use Rattle.tables.proofs.tags_of.Lts as lts
 use Rattle.tables.proofs.table.Reads as table-reads
 
 table-requires : tie.Need-table-requires
 table-requires c κs = search needs
