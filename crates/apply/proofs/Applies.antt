@@ -57,7 +57,8 @@ module _ (table : List ℕ) (at : ℕ) (sheet named places : List ℕ) where
       let b : length o ≡ length out = ap length (counted t out o (omega arith) f) ∙ length-sets out 0 (bytesOf 4 t) in
       omega arith
 
-  pub table-new-room : (t end : ℕ) (out o o₁ : List ℕ) → Room table at sheet named places out → o ≡ writeAt out 0 4 t → Written end o o₁ 4 kept-bytes → end + length new-bytes ≤ length o₁
+  pub table-new-room : (t end : ℕ) (out o o₁ : List ℕ) → Room table at sheet named places out → o ≡ writeAt out 0 4 t
+      → Written end o o₁ 4 kept-bytes → end + length new-bytes ≤ length o₁
   table-new-room t end out o o₁ r f w =
       let h = r .room in
       let b : length o ≡ length out = ap length (counted t out o (omega arith) f) ∙ length-sets out 0 (bytesOf 4 t) in
@@ -66,7 +67,8 @@ module _ (table : List ℕ) (at : ℕ) (sheet named places : List ℕ) where
       omega arith
 
   -- the count, what is kept and what is new, one behind the other
-  pub table-stored : (t end last : ℕ) (out o o₁ o₂ : List ℕ) → Room table at sheet named places out → o ≡ writeAt out 0 4 t → Written end o o₁ 4 kept-bytes → Written last o₁ o₂ end new-bytes → o₂ ≡ sets out 0 (bytesOf 4 t ++ (kept-bytes ++ new-bytes))
+  pub table-stored : (t end last : ℕ) (out o o₁ o₂ : List ℕ) → Room table at sheet named places out → o ≡ writeAt out 0 4 t
+      → Written end o o₁ 4 kept-bytes → Written last o₁ o₂ end new-bytes → o₂ ≡ sets out 0 (bytesOf 4 t ++ (kept-bytes ++ new-bytes))
   table-stored t end last out o o₁ o₂ r f w x =
       let h = r .room in
       let a = counted t out o (omega arith) f in
@@ -86,7 +88,8 @@ module _ (table : List ℕ) (at : ℕ) (sheet named places : List ℕ) where
   unfolding applyOf
   apply-tags out h = rw (lt-ltb mostTags (length named) h)
 
-  pub apply-changes : (out : List ℕ) → length named ≤ 1000 → 64 < length places → applying (applied.Refused (plain 10)) out ≡ applyOf table at sheet named places out
+  pub apply-changes : (out : List ℕ) → length named ≤ 1000 → 64 < length places
+      → applying (applied.Refused (plain 10)) out ≡ applyOf table at sheet named places out
   unfolding applyOf
   apply-changes out h k = rw (le-ltb mostTags (length named) h, lt-ltb mostChanges (length places) k)
 
@@ -98,17 +101,20 @@ module _ (table : List ℕ) (at : ℕ) (sheet named places : List ℕ) where
   unfolding sizeOf bytesBy
   new-length N f = ap (λ (z : Size). z .bytes) f
 
-  pub apply-room : (K N : Size) (out : List ℕ) → K ≡ sizeOf (addedBy side.Kept table sheet at named) → N ≡ sizeOf (addedBy side.New sheet sheet 1 places) → 4 + K .bytes + N .bytes ≤ length out → Room table at sheet named places out
+  pub apply-room : (K N : Size) (out : List ℕ) → K ≡ sizeOf (addedBy side.Kept table sheet at named)
+      → N ≡ sizeOf (addedBy side.New sheet sheet 1 places) → 4 + K .bytes + N .bytes ≤ length out → Room table at sheet named places out
   apply-room K N out e f h =
       let a = kept-length K e in
       let b = new-length N f in
       record { room = omega arith }
 
-  pub apply-rest : (out o : List ℕ) (r : Applied) → length named ≤ 1000 → length places ≤ 64 → applying r o ≡ appliedTo result out → applying r o ≡ applyOf table at sheet named places out
+  pub apply-rest : (out o : List ℕ) (r : Applied) → length named ≤ 1000 → length places ≤ 64 → applying r o ≡ appliedTo result out
+      → applying r o ≡ applyOf table at sheet named places out
   unfolding applyOf
   apply-rest out o r h k e = rw (le-ltb mostTags (length named) h, le-ltb mostChanges (length places) k) e
 
-  module _ (K N : Size) (out : List ℕ) (e : K ≡ sizeOf (addedBy side.Kept table sheet at named)) (f : N ≡ sizeOf (addedBy side.New sheet sheet 1 places)) where
+  module _ (K N : Size) (out : List ℕ) (e : K ≡ sizeOf (addedBy side.Kept table sheet at named))
+      (f : N ≡ sizeOf (addedBy side.New sheet sheet 1 places)) where
     tags-are : K .tags + N .tags ≡ length result
     unfolding sizeOf tagsBy
     tags-are =
@@ -119,7 +125,8 @@ module _ (table : List ℕ) (at : ℕ) (sheet named places : List ℕ) where
 
     bytes-are : tableBytes result ≡ bytesOf 4 (length result) ++ (kept-bytes ++ new-bytes)
     unfolding tableBytes tagsBy bytesBy
-    bytes-are = ap (λ (l : List ℕ). bytesOf 4 (length result) ++ l) (flatMap-append tagBytes (addedBy side.Kept table sheet at named) (addedBy side.New sheet sheet 1 places))
+    bytes-are = ap (λ (l : List ℕ). bytesOf 4 (length result) ++ l)
+        (flatMap-append tagBytes (addedBy side.Kept table sheet at named) (addedBy side.New sheet sheet 1 places))
 
     long : 4 + K .bytes + N .bytes ≡ length (tableBytes result)
     long =
@@ -134,14 +141,17 @@ module _ (table : List ℕ) (at : ℕ) (sheet named places : List ℕ) where
     unfolding appliedTo
     apply-many h = let a = tags-are in rw (lt-ltb mostTags (length result) (omega arith))
 
-    pub apply-no-room : K .tags + N .tags ≤ 1000 → length out < 4 + K .bytes + N .bytes → applying (applied.Refused (plain 9)) out ≡ appliedTo result out
+    pub apply-no-room : K .tags + N .tags ≤ 1000 → length out < 4 + K .bytes + N .bytes
+        → applying (applied.Refused (plain 9)) out ≡ appliedTo result out
     unfolding appliedTo
     apply-no-room h l =
         let a = tags-are in
         let b = long in
         rw (le-ltb mostTags (length result) (omega arith), lt-ltb (length out) (length (tableBytes result)) (omega arith))
 
-    pub apply-done : (o : List ℕ) → K .tags + N .tags ≤ 1000 → 4 + K .bytes + N .bytes ≤ length out → o ≡ sets out 0 (bytesOf 4 (K .tags + N .tags) ++ (kept-bytes ++ new-bytes)) → applying (applied.Table (4 + K .bytes + N .bytes)) o ≡ appliedTo result out
+    pub apply-done : (o : List ℕ) → K .tags + N .tags ≤ 1000 → 4 + K .bytes + N .bytes ≤ length out
+        → o ≡ sets out 0 (bytesOf 4 (K .tags + N .tags) ++ (kept-bytes ++ new-bytes))
+        → applying (applied.Table (4 + K .bytes + N .bytes)) o ≡ appliedTo result out
     unfolding appliedTo filled
     apply-done o h l g =
         let a = tags-are in
@@ -153,6 +163,21 @@ module _ (table : List ℕ) (at : ℕ) (sheet named places : List ℕ) where
         ∙ ap (λ (z : List ℕ). sets out 0 z) (sym bytes-are)
         ∙ sets-eq (tableBytes result) out 0 (omega arith)
         ∙ ap (λ (z : ℕ). tableBytes result ++ drop z out) i in
-        rw (le-ltb mostTags (length result) (omega arith), le-ltb (length out) (length (tableBytes result)) (omega arith), b) (ap (applying (applied.Table (length (tableBytes result)))) c)
+        rw (le-ltb mostTags (length result) (omega arith), le-ltb (length out) (length (tableBytes result)) (omega arith), b)
+        (ap (applying (applied.Table (length (tableBytes result)))) c)
 
-pub ruleset laws = (needs, walked-kept, walked-new, table-kept-room, table-new-room, table-stored, apply-tags, apply-changes, apply-rest, apply-many, apply-no-room, apply-room, apply-done)
+pub ruleset laws = (
+  needs,
+  walked-kept,
+  walked-new,
+  table-kept-room,
+  table-new-room,
+  table-stored,
+  apply-tags,
+  apply-changes,
+  apply-rest,
+  apply-many,
+  apply-no-room,
+  apply-room,
+  apply-done,
+)

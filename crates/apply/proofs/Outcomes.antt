@@ -13,4 +13,8 @@ use Rattle.apply.proofs.apply
 
 module _ {M : Type 1} (𝓤 : URA M) (H : Heap 𝓤) (A : Atoms 𝓤) (mem : Memory → SProp 𝓤) (run : Routine → Fun 𝓤) where
   pub apply-one : Determines 𝓤 apply.ended (apply.clauses 𝓤 H A mem run)
-  apply-one κs a g x y v w = agree 𝓤 (λ p q. let e = p ∙ sym q in (λ i. e i .answer, λ i. (v .0, (v .1 .0, (v .1 .1 .0, (v .1 .1 .1 .0, (v .1 .1 .1 .1 .0, (e i .out, v .1 .1 .1 .1 .1 .1))))))))
+  apply-one κs a g x y v w =
+      agree 𝓤 (λ p q. let e = p ∙ sym q in (
+        λ i. e i .answer,
+        λ i. (v .0, (v .1 .0, (v .1 .1 .0, (v .1 .1 .1 .0, (v .1 .1 .1 .1 .0, (e i .out, v .1 .1 .1 .1 .1 .1)))))),
+      ))

@@ -39,11 +39,14 @@ size-end : (a b : ℕ) (ts : List Tag) (all : Size) → ts ≡ [] → plus a b (
 unfolding plus sizeOf flatMap
 size-end a b ts all e f = sym (rw e (size-eq (a + 0) (b + 0) a b (omega arith) (omega arith))) ∙ f
 
-size-more : (a b c d : ℕ) (ts us vs : List Tag) (all : Size) → us ≡ ts ++ vs → c ≡ length ts → d ≡ length (flatMap tagBytes ts) → plus a b (sizeOf us) ≡ all → plus (a + c) (b + d) (sizeOf vs) ≡ all
+size-more : (a b c d : ℕ) (ts us vs : List Tag) (all : Size) → us ≡ ts ++ vs → c ≡ length ts → d ≡ length (flatMap tagBytes ts)
+    → plus a b (sizeOf us) ≡ all → plus (a + c) (b + d) (sizeOf vs) ≡ all
 unfolding plus sizeOf
 size-more a b c d ts us vs all e f g h =
     let l : length us ≡ length ts + length vs = ap length e ∙ length-append ts vs in
-    let m : length (flatMap tagBytes us) ≡ length (flatMap tagBytes ts) + length (flatMap tagBytes vs) = ap (λ (z : List Tag). length (flatMap tagBytes z)) e ∙ ap length (flatMap-append tagBytes ts vs) ∙ length-append (flatMap tagBytes ts) (flatMap tagBytes vs) in
+    let m : length (flatMap tagBytes us) ≡ length (flatMap tagBytes ts) + length (flatMap tagBytes vs) =
+    ap (λ (z : List Tag). length (flatMap tagBytes z)) e ∙ ap length (flatMap-append tagBytes ts vs)
+    ∙ length-append (flatMap tagBytes ts) (flatMap tagBytes vs) in
     size-eq _ _ _ _ (omega arith) (omega arith) ∙ h
 
 pub size-start : (ts : List Tag) → plus 0 0 (sizeOf ts) ≡ sizeOf ts
@@ -51,13 +54,16 @@ unfolding plus sizeOf
 size-start ts = size-eq _ _ _ _ (omega arith) (omega arith)
 
 module _ (x : Side) (s t others : List ℕ) (place passed left : ℕ) (l : passed + left ≡ length others) where
-  pub size-done : (a b : ℕ) (all : Size) → left ≤ 0 → plus a b (sizeOf (addedBy x s t place (drop passed others))) ≡ all → record { tags = a; bytes = b } ≡ all
+  pub size-done : (a b : ℕ) (all : Size) → left ≤ 0 → plus a b (sizeOf (addedBy x s t place (drop passed others))) ≡ all
+      → record { tags = a; bytes = b } ≡ all
   size-done a b all h e = size-end a b _ all (added-done x s t others place passed (omega arith)) e
 
-  pub size-stop : (a b : ℕ) (p : Piece) (all : Size) → p ≡ pieceAt x s place t (getD others passed 0) → p ≡ piece.Broken → plus a b (sizeOf (addedBy x s t place (drop passed others))) ≡ all → record { tags = a; bytes = b } ≡ all
+  pub size-stop : (a b : ℕ) (p : Piece) (all : Size) → p ≡ pieceAt x s place t (getD others passed 0) → p ≡ piece.Broken
+      → plus a b (sizeOf (addedBy x s t place (drop passed others))) ≡ all → record { tags = a; bytes = b } ≡ all
   size-stop a b p all f g e = size-end a b _ all (added-stop x s t others place passed (getD others passed 0) p f g) e
 
-  module _ (p : Piece) (f v n end : ℕ) (w : (i : ℕ) → Fits w8 (getD s i 0)) (y : (i : ℕ) → Fits w8 (getD t i 0)) (g : p ≡ pieceAt x s place t (getD others passed 0)) (h : p ≡ piece.Whole f v n end) where
+  module _ (p : Piece) (f v n end : ℕ) (w : (i : ℕ) → Fits w8 (getD s i 0)) (y : (i : ℕ) → Fits w8 (getD t i 0))
+      (g : p ≡ pieceAt x s place t (getD others passed 0)) (h : p ≡ piece.Whole f v n end) where
     makes : Makes (walkedIn x s t) place t f v n (rowAdds x s t place (getD others passed 0))
     makes = piece-makes x s t place (getD others passed 0) f v n end p w y g h
 
@@ -70,8 +76,10 @@ module _ (x : Side) (s t others : List ℕ) (place passed left : ℕ) (l : passe
     pub bytes-step : (b : ℕ) → b + 512 * left ≤ 512 * length others → 0 < left → b + (f + n) + 512 * (left - 1) ≤ 512 * length others
     bytes-step b h z = let a = makes .short in omega arith
 
-    pub size-step : (a b c : ℕ) (all : Size) → 0 < left → c ≡ tagsIn (f + n) → plus a b (sizeOf (addedBy x s t place (drop passed others))) ≡ all → plus (a + c) (b + (f + n)) (sizeOf (addedBy x s t end (drop (passed + 1) others))) ≡ all
+    pub size-step : (a b c : ℕ) (all : Size) → 0 < left → c ≡ tagsIn (f + n) → plus a b (sizeOf (addedBy x s t place (drop passed others))) ≡ all
+        → plus (a + c) (b + (f + n)) (sizeOf (addedBy x s t end (drop (passed + 1) others))) ≡ all
     size-step a b c all z e i =
-        size-more a b c (f + n) (rowAdds x s t place (getD others passed 0)) _ _ all (added-next x s t others place passed f v n end p (omega arith) g h) (e ∙ makes .count) (makes-length _ place t f v n _ makes) i
+        size-more a b c (f + n) (rowAdds x s t place (getD others passed 0)) _ _ all
+        (added-next x s t others place passed f v n end p (omega arith) g h) (e ∙ makes .count) (makes-length _ place t f v n _ makes) i
 
 pub ruleset laws = (needs, tags-none, tags-one, size-start, size-done, size-stop, more-fits, bytes-fit, bytes-step, size-step)

@@ -29,7 +29,8 @@ applying r out = record { answer = r; out = out }
 unfoldable pub appliedTo : List Tag → (out : List ℕ) → Applying
 appliedTo ts out =
     cond (ltb mostTags (length ts)) (applying (applied.Refused (plain 17)) out)
-    (cond (noRoom (length out) (length (tableBytes ts))) (applying (applied.Refused (plain 9)) out) (applying (applied.Table (length (tableBytes ts))) (filled out (tableBytes ts))))
+    (cond (noRoom (length out) (length (tableBytes ts))) (applying (applied.Refused (plain 9)) out)
+    (applying (applied.Table (length (tableBytes ts))) (filled out (tableBytes ts))))
 
 -- what is kept, and what is new behind it
 unfoldable pub tagsBy : (table : List ℕ) → (at : ℕ) → (sheet named places : List ℕ) → List Tag

@@ -14,7 +14,9 @@ use Rattle.apply.specs.declared.Part.the-variants as part
 
 -- a tag whose change is at a place, or 0, adds what stands of it in the table, wherever that place is noted
 pub record Stays (table : List ℕ) (at : ℕ) (sheet : List ℕ) (change end : ℕ) : Type 0 where
-  pub bytes : (named : List ℕ) (i : ℕ) → i < length named → getD named i 0 ≡ change → bytesBy side.Kept table sheet at (drop i named) ≡ take (end - at) (drop at table) ++ bytesBy side.Kept table sheet end (drop (i + 1) named)
+  pub bytes : (named : List ℕ) (i : ℕ) → i < length named → getD named i 0 ≡ change
+      → bytesBy side.Kept table sheet at (drop i named) ≡ take (end - at) (drop at table)
+      ++ bytesBy side.Kept table sheet end (drop (i + 1) named)
   pub forward : at ≤ end
   pub there : end ≤ length table
 
@@ -25,14 +27,16 @@ Still table at sheet change place.Broken = change ≡ change
 
 -- the tags from a number on, up to another, add what stands of them in the table
 pub record Runs (table : List ℕ) (at : ℕ) (sheet named : List ℕ) (start end next : ℕ) : Type 0 where
-  pub bytes : bytesBy side.Kept table sheet at (drop start named) ≡ take (end - at) (drop at table) ++ bytesBy side.Kept table sheet end (drop next named)
+  pub bytes : bytesBy side.Kept table sheet at (drop start named) ≡ take (end - at) (drop at table)
+      ++ bytesBy side.Kept table sheet end (drop next named)
   pub forward : at ≤ end
   pub there : start < next → end ≤ length table
   pub within : next ≤ length named
 
 -- the rows from a number on, up to another, add a piece, which is all there
 pub record Joins (x : Side) (from : List ℕ) (place : ℕ) (sheet others : List ℕ) (passed first value second end next : ℕ) : Type 0 where
-  pub bytes : bytesBy x from sheet place (drop passed others) ≡ pieceBytes from place sheet first value second ++ bytesBy x from sheet end (drop next others)
+  pub bytes : bytesBy x from sheet place (drop passed others) ≡ pieceBytes from place sheet first value second
+      ++ bytesBy x from sheet end (drop next others)
   pub firstThere : place + first ≤ length from
   pub secondThere : value + second ≤ length sheet
   pub more : passed < next

@@ -14,7 +14,8 @@ use Rattle.beginning.proofs.piece_refusal
 
 module _ {M : Type 1} (𝓤 : URA M) (H : Heap 𝓤) (A : Atoms 𝓤) (mem : Memory → SProp 𝓤) (run : Routine → Fun 𝓤) where
   pub first-piece-one : Determines 𝓤 «first_piece».ended («first_piece».clauses 𝓤 H A mem run)
-  first-piece-one κs a g x y v w = agree 𝓤 (λ p q. let e = p ∙ sym q in (λ i. e i .answer, λ i. (v .0, (v .1 .0, (v .1 .1 .0, (e i .out, v .1 .1 .1 .1))))))
+  first-piece-one κs a g x y v w =
+      agree 𝓤 (λ p q. let e = p ∙ sym q in (λ i. e i .answer, λ i. (v .0, (v .1 .0, (v .1 .1 .0, (e i .out, v .1 .1 .1 .1))))))
 
   pub piece-refusal-one : Determines 𝓤 «piece_refusal».ended («piece_refusal».clauses 𝓤 H A mem run)
   piece-refusal-one κs a g x y v w = agree 𝓤 (λ p q. (p ∙ sym q, refl))

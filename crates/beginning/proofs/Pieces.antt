@@ -67,7 +67,8 @@ module _ (s system : List ℕ) (notes room : ℕ) where
     where
       go : (m : ℕ) → n ≡ plain m → listRefusal s ≡ m → n ≡ plain (pieceRefusal s system notes room)
       go zero f g = absurd (h (number-is n 0 f))
-      go (suc m) f g = f ∙ ap plain (sym (lines-first (line 10 (isBad (exactly setUpList s)) ∷ line 3 (badSetUp (sectionsOf s)) ∷ []) lines4 m g) ∙ piece-lines)
+      go (suc m) f g = f ∙ ap plain (sym (lines-first (line 10 (isBad (exactly setUpList s)) ∷ line 3 (badSetUp (sectionsOf s)) ∷ []) lines4 m g)
+          ∙ piece-lines)
 
   -- the set-up list is complete and legal
   module _ (n : Refusal) (ne : n ≡ plain (listRefusal s)) (nh : n .number ≡ 0) where
@@ -82,7 +83,8 @@ module _ (s system : List ℕ) (notes room : ℕ) where
     list-legal = passed .1
 
     onward4 : firstOf lines4 ≡ pieceRefusal s system notes room
-    onward4 = sym (line-pass 10 (isBad (exactly setUpList s)) lines3 (passed .0) ∙ line-pass 3 (badSetUp (sectionsOf s)) lines4 (passed .1)) ∙ piece-lines
+    onward4 = sym (line-pass 10 (isBad (exactly setUpList s)) lines3 (passed .0) ∙ line-pass 3 (badSetUp (sectionsOf s)) lines4 (passed .1))
+        ∙ piece-lines
 
     pub piece-table : (x : Bool) → x ≡ isBad (exactly table system) → x ≡ true → plain 4 ≡ plain (pieceRefusal s system notes room)
     piece-table x e h = ap plain (sym (line-holds 4 (isBad (exactly table system)) lines9 (sym e ∙ h)) ∙ onward4)
@@ -94,7 +96,8 @@ module _ (s system : List ℕ) (notes room : ℕ) where
 
       by-room : room < start + length system → plain 9 ≡ plain (pieceRefusal s system notes room)
       by-room h =
-          ap plain (sym (line-holds 9 short [] (or-left (ltb room (start + length system)) (ltb notes 4) (lt-ltb room (start + length system) h))) ∙ onward9)
+          ap plain (sym (line-holds 9 short [] (or-left (ltb room (start + length system)) (ltb notes 4) (lt-ltb room (start + length system) h)))
+          ∙ onward9)
 
       pub piece-no-room : room < length system → plain 9 ≡ plain (pieceRefusal s system notes room)
       piece-no-room h = by-room (omega arith)
@@ -106,10 +109,12 @@ module _ (s system : List ℕ) (notes room : ℕ) where
       piece-notes h =
           ap plain (sym (line-holds 9 short [] (or-right (ltb room (start + length system)) (ltb notes 4) (lt-ltb notes 4 h))) ∙ onward9)
 
-      pub piece-taken : (p : ℕ) → p ≡ tableStart (sectionsOf s) → length system ≤ room → p ≤ room - length system → 4 ≤ notes → plain 0 ≡ plain (pieceRefusal s system notes room)
+      pub piece-taken : (p : ℕ) → p ≡ tableStart (sectionsOf s) → length system ≤ room → p ≤ room - length system → 4 ≤ notes
+          → plain 0 ≡ plain (pieceRefusal s system notes room)
       piece-taken p e l k i =
           ap plain
-          (sym (line-pass 9 short [] (not-or (ltb room (start + length system)) (ltb notes 4) (le-ltb room (start + length system) (omega arith)) (le-ltb notes 4 i)) ∙ no-lines) ∙ onward9)
+          (sym (line-pass 9 short [] (not-or (ltb room (start + length system)) (ltb notes 4) (le-ltb room (start + length system) (omega arith))
+          (le-ltb notes 4 i)) ∙ no-lines) ∙ onward9)
 
 -- what is known where no number is given
 pub record Writable (s system : List ℕ) (notes room : ℕ) : Type 0 where
@@ -141,7 +146,8 @@ module _ (s system : List ℕ) (notes room : ℕ) (n : Refusal) (e : n ≡ plain
   pub piece-room : (p : ℕ) → p ≡ tableStart (sectionsOf s) → p + length system ≤ room
   piece-room p f = let k = can .fits in omega arith
 
-pub piece-refused : (s system out : List ℕ) (notes : ℕ) (n : Refusal) → n ≡ plain (pieceRefusal s system notes (length out)) → (n .number ≡ 0 → ⊥) → made (Refused n) out ≡ firstPieceOf s system notes out
+pub piece-refused : (s system out : List ℕ) (notes : ℕ) (n : Refusal) → n ≡ plain (pieceRefusal s system notes (length out)) → (n .number ≡ 0 → ⊥)
+    → made (Refused n) out ≡ firstPieceOf s system notes out
 unfolding firstPieceOf pieceBy
 piece-refused s system out notes n e h = go (pieceRefusal s system notes (length out)) e
   where
@@ -149,13 +155,21 @@ piece-refused s system out notes n e h = go (pieceRefusal s system notes (length
     go zero f = absurd (h (number-is n 0 f))
     go (suc m) f = rw f
 
-pub piece-written : (s system out v : List ℕ) (notes place count : ℕ) (n : Refusal) → n ≡ plain (pieceRefusal s system notes (length out)) → n .number ≡ 0 → place ≡ tableStart (sectionsOf s) → v ≡ sets out 0 (firstPiece s system) → count ≡ readAt s 0 1 → made (Written count (place + length system)) v ≡ firstPieceOf s system notes out
+pub piece-written : (s system out v : List ℕ) (notes place count : ℕ) (n : Refusal) → n ≡ plain (pieceRefusal s system notes (length out))
+    → n .number ≡ 0 → place ≡ tableStart (sectionsOf s) → v ≡ sets out 0 (firstPiece s system) → count ≡ readAt s 0 1
+    → made (Written count (place + length system)) v ≡ firstPieceOf s system notes out
 unfolding firstPieceOf pieceBy
 piece-written s system out v notes place count n e h p y c =
     let z : pieceRefusal s system notes (length out) ≡ 0 = sym (number-is n (pieceRefusal s system notes (length out)) e) ∙ h in
     let k = writable s system notes (length out) z in
     let i : place + length system ≡ length (firstPiece s system) = ap (λ (x : ℕ). x + length system) p ∙ sym (first-length s system) in
-    rw (z, i, sections-count s count (legal-list s (k .legal) .whole) c, y ∙ filled-is out (firstPiece s system) (omega (arith, first-length s system, k .fits)))
+    rw (
+      z,
+      i,
+      sections-count s count (legal-list s (k .legal) .whole) c,
+      y
+          ∙ filled-is out (firstPiece s system) (omega (arith, first-length s system, k .fits)),
+    )
 
 pub none-refused : (r : FirstPiece) (sections len : ℕ) → r ≡ Written sections len → plain 0 ≡ refusalOf r
 unfolding refusalOf
@@ -165,4 +179,19 @@ pub refused-so : (r : FirstPiece) (n : Refusal) → r ≡ Refused n → n ≡ re
 unfolding refusalOf
 refused-so r n e = rw e
 
-pub ruleset pieces = (piece-listed, list-legal, piece-table, piece-no-room, piece-less-room, piece-notes, piece-taken, piece-legal, piece-fits, piece-room, piece-refused, piece-written, none-refused, refused-so)
+pub ruleset pieces = (
+  piece-listed,
+  list-legal,
+  piece-table,
+  piece-no-room,
+  piece-less-room,
+  piece-notes,
+  piece-taken,
+  piece-legal,
+  piece-fits,
+  piece-room,
+  piece-refused,
+  piece-written,
+  none-refused,
+  refused-so,
+)

@@ -47,7 +47,8 @@ unfolding browsedTag
 found-none f e = rw e
 
 -- tag number i of a legal table, or the end
-found-is : (t : List ℕ) (i m : ℕ) (ts : List Tag) → table t ≡ good ts m → browsedTag (tagFound t 0 i) ≡ browsedAs (cond (ltb i (length ts)) (tagAt ts i) layout.end)
+found-is : (t : List ℕ) (i m : ℕ) (ts : List Tag) → table t ≡ good ts m
+    → browsedTag (tagFound t 0 i) ≡ browsedAs (cond (ltb i (length ts)) (tagAt ts i) layout.end)
 unfolding browsedTag browsedAs tagAt
 found-is t i m ts e = go (ltb i (length ts)) refl
   where
@@ -55,46 +56,57 @@ found-is t i m ts e = go (ltb i (length ts)) refl
     go true h = rw (tag-found-at t 0 m i ts e (ltb-true i (length ts) h))
     go false h = rw (tag-found-past t 0 m i ts e (ltb-false i (length ts) h))
 
-pub browse-refused : (t : List ℕ) (i : ℕ) (r : Tags) → r ≡ tagsOf (exactly table t) → r ≡ tags.Broken → browsed.Refused (plain 7) ≡ browsedAs (browse t i)
+pub browse-refused : (t : List ℕ) (i : ℕ) (r : Tags) → r ≡ tagsOf (exactly table t) → r ≡ tags.Broken
+    → browsed.Refused (plain 7) ≡ browsedAs (browse t i)
 unfolding browse browsedAs
 browse-refused t i r e f = rw (tags-none (exactly table t) (sym e ∙ f), browse)
 
-browse-is : (t : List ℕ) (ts : List Tag) (m i : ℕ) → exactly table t ≡ good ts m → browsedAs (browse t i) ≡ browsedAs (cond (ltb i (length ts)) (tagAt ts i) layout.end)
+browse-is : (t : List ℕ) (ts : List Tag) (m i : ℕ) → exactly table t ≡ good ts m
+    → browsedAs (browse t i) ≡ browsedAs (cond (ltb i (length ts)) (tagAt ts i) layout.end)
 unfolding browse
 browse-is t ts m i e = rw (e, browse)
 
-pub browse-found : (t : List ℕ) (i n : ℕ) (r : Tags) (f : TagFound) (b : Browsed) → r ≡ tagsOf (exactly table t) → r ≡ tags.Whole n → f ≡ tagFound t 0 i → b ≡ browsedTag f → b ≡ browsedAs (browse t i)
+pub browse-found : (t : List ℕ) (i n : ℕ) (r : Tags) (f : TagFound) (b : Browsed) → r ≡ tagsOf (exactly table t) → r ≡ tags.Whole n
+    → f ≡ tagFound t 0 i → b ≡ browsedTag f → b ≡ browsedAs (browse t i)
 browse-found t i n r f b e g h k =
     let (ts, m, p, q) = tags-parts (exactly table t) n (sym e ∙ g) in
     k ∙ ap browsedTag h ∙ found-is t i m ts (exactly-good table t ts m p .0) ∙ sym (browse-is t ts m i p)
 
-pub named-refused : (t name : List ℕ) (r : Tags) → r ≡ tagsOf (exactly table t) → r ≡ tags.Broken → browsed.Refused (plain 7) ≡ browsedAs (tagNamed t name)
+pub named-refused : (t name : List ℕ) (r : Tags) → r ≡ tagsOf (exactly table t) → r ≡ tags.Broken
+    → browsed.Refused (plain 7) ≡ browsedAs (tagNamed t name)
 unfolding tagNamed browsedAs
 named-refused t name r e f = rw (tags-none (exactly table t) (sym e ∙ f), tagNamed)
 
 -- the bytes of the whole name
 whole-name : (name t : List ℕ) (n : ℕ) (f : NameFound) → f ≡ findName name 0 (length name) t 4 n row.Tag → f ≡ found name n (rowName row.Tag) t 0 4
-whole-name name t n f e = e ∙ find-there name t 0 (length name) 4 n row.Tag (omega arith) ∙ ap (λ (v : List ℕ). found v n (rowName row.Tag) t 0 4) (take-length name)
+whole-name name t n f e = e ∙ find-there name t 0 (length name) 4 n row.Tag (omega arith)
+    ∙ ap (λ (v : List ℕ). found v n (rowName row.Tag) t 0 4) (take-length name)
 
-named-is : (t name : List ℕ) (ts : List Tag) (m i : ℕ) → exactly table t ≡ good ts m → numberOfTag name ts ≡ i → browsedAs (tagNamed t name) ≡ browsedAs (cond (ltb i (length ts)) (tagAt ts i) layout.end)
+named-is : (t name : List ℕ) (ts : List Tag) (m i : ℕ) → exactly table t ≡ good ts m → numberOfTag name ts ≡ i
+    → browsedAs (tagNamed t name) ≡ browsedAs (cond (ltb i (length ts)) (tagAt ts i) layout.end)
 unfolding tagNamed
 named-is t name ts m i e f = rw (e, tagNamed, f)
 
-pub named-none : (t name : List ℕ) (n : ℕ) (r : Tags) (f : NameFound) → r ≡ tagsOf (exactly table t) → r ≡ tags.Whole n → f ≡ findName name 0 (length name) t 4 n row.Tag → f ≡ found.Nothing → browsed.End ≡ browsedAs (tagNamed t name)
+pub named-none : (t name : List ℕ) (n : ℕ) (r : Tags) (f : NameFound) → r ≡ tagsOf (exactly table t) → r ≡ tags.Whole n
+    → f ≡ findName name 0 (length name) t 4 n row.Tag → f ≡ found.Nothing → browsed.End ≡ browsedAs (tagNamed t name)
 unfolding browsedAs tagNames
 named-none t name n r f e g h k =
     let (ts, m, p, q) = tags-parts (exactly table t) n (sym e ∙ g) in
     table-read t 0 m ts (exactly-good table t ts m p .0) (λ j l o w u.
-    let a : among name (tagNames ts) ≡ false = find-nothing row.Tag tag (λ x. x .name) tag-row name t (length ts) 0 4 j ts w (rw q (sym (whole-name name t n f h) ∙ k)) in
+    let a : among name (tagNames ts) ≡ false = find-nothing row.Tag tag (λ x. x .name) tag-row name t (length ts) 0 4 j ts w
+    (rw q (sym (whole-name name t n f h) ∙ k)) in
     sym (named-is t name ts m (length ts) p (number-none name ts a) ∙ rw (le-ltb (length ts) (length ts) (omega arith))))
 
-pub named-found : (t name : List ℕ) (n i at : ℕ) (r : Tags) (f : NameFound) (d : TagFound) (b : Browsed) → r ≡ tagsOf (exactly table t) → r ≡ tags.Whole n → f ≡ findName name 0 (length name) t 4 n row.Tag → f ≡ found.At i at → d ≡ tagFound t 0 i → b ≡ browsedTag d → b ≡ browsedAs (tagNamed t name)
+pub named-found : (t name : List ℕ) (n i at : ℕ) (r : Tags) (f : NameFound) (d : TagFound) (b : Browsed) → r ≡ tagsOf (exactly table t)
+    → r ≡ tags.Whole n → f ≡ findName name 0 (length name) t 4 n row.Tag → f ≡ found.At i at → d ≡ tagFound t 0 i → b ≡ browsedTag d
+    → b ≡ browsedAs (tagNamed t name)
 unfolding tagNames
 named-found t name n i at r f d b e g h k x y =
     let (ts, m, p, q) = tags-parts (exactly table t) n (sym e ∙ g) in
     let c = exactly-good table t ts m p .0 in
     table-read t 0 m ts c (λ j l o w u.
-    find-at row.Tag tag (λ z. z .name) tag-row name t noTag (length ts) 0 4 j i at ts w (rw q (sym (whole-name name t n f h) ∙ k)) (λ z u′ v′ a l′ am sm ti qq pp.
+    find-at row.Tag tag (λ z. z .name) tag-row name t noTag (length ts) 0 4 j i at ts w (rw q (sym (whole-name name t n f h) ∙ k))
+    (λ z u′ v′ a l′ am sm ti qq pp.
     let s : numberOfTag name ts ≡ i = number-at name ts z l′ am sm ∙ (omega arith) in
     y ∙ ap browsedTag x ∙ found-is t i m ts c ∙ sym (named-is t name ts m i p s)))
 
@@ -104,7 +116,8 @@ pub cursor-refused : (t : List ℕ) (i : ℕ) (r : Tags) → r ≡ tagsOf (exact
 unfolding browse cursorAfter
 cursor-refused t i r e f = rw (tags-none (exactly table t) (sym e ∙ f), browse)
 
-cursor-is : (t : List ℕ) (ts : List Tag) (m i : ℕ) (b : Bool) → exactly table t ≡ good ts m → ltb i (length ts) ≡ b → cursorAfter (browse t i) i ≡ cond b (i + 1) i
+cursor-is : (t : List ℕ) (ts : List Tag) (m i : ℕ) (b : Bool) → exactly table t ≡ good ts m → ltb i (length ts) ≡ b
+    → cursorAfter (browse t i) i ≡ cond b (i + 1) i
 unfolding browse cursorAfter tagAt
 cursor-is t ts m i true e f = rw (e, browse, f)
 cursor-is t ts m i false e f = rw (e, browse, f)
@@ -119,4 +132,16 @@ cursor-end t i n r e f h =
     let (ts, m, p, q) = tags-parts (exactly table t) n (sym e ∙ f) in
     sym (cursor-is t ts m i false p (le-ltb i (length ts) (omega arith)))
 
-pub ruleset laws = (needs, found-tag, found-none, browse-refused, browse-found, named-refused, named-none, named-found, cursor-refused, cursor-tag, cursor-end)
+pub ruleset laws = (
+  needs,
+  found-tag,
+  found-none,
+  browse-refused,
+  browse-found,
+  named-refused,
+  named-none,
+  named-found,
+  cursor-refused,
+  cursor-tag,
+  cursor-end,
+)

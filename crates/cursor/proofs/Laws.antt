@@ -31,12 +31,14 @@ pub stands-end : (s : List ℕ) (p count : ℕ) → count ≡ 0 → cursor.End �
 unfolding cursorAs
 stands-end s p count e = rw (e, stands-none s p)
 
-pub stands-broken : (s : List ℕ) (p count : ℕ) (r : TagPlace) → (count ≡ 0 → ⊥) → r ≡ tagPlaceOf (tag (drop p s)) → r ≡ tagPlace.Broken → cursor.End ≡ cursorAs (standsAt s p count)
+pub stands-broken : (s : List ℕ) (p count : ℕ) (r : TagPlace) → (count ≡ 0 → ⊥) → r ≡ tagPlaceOf (tag (drop p s)) → r ≡ tagPlace.Broken
+    → cursor.End ≡ cursorAs (standsAt s p count)
 unfolding cursorAs
 stands-broken s p zero r h e f = absurd (h refl)
 stands-broken s p (suc left) r h e f = rw (stands-bad s p left (tag-broken (tag (drop p s)) (sym e ∙ f)))
 
-pub stands-whole : (s : List ℕ) (p count n m : ℕ) (r : TagPlace) → (count ≡ 0 → ⊥) → r ≡ tagPlaceOf (tag (drop p s)) → r ≡ tagPlace.Whole n m → cursor.Tag (p + 1) n (p + 1 + n + 1) m (count - 1) ≡ cursorAs (standsAt s p count)
+pub stands-whole : (s : List ℕ) (p count n m : ℕ) (r : TagPlace) → (count ≡ 0 → ⊥) → r ≡ tagPlaceOf (tag (drop p s)) → r ≡ tagPlace.Whole n m
+    → cursor.Tag (p + 1) n (p + 1 + n + 1) m (count - 1) ≡ cursorAs (standsAt s p count)
 unfolding cursorAs
 stands-whole s p zero n m r h e f = absurd (h refl)
 stands-whole s p (suc left) n m r h e f =
@@ -52,7 +54,8 @@ pub first-refused : (s : List ℕ) (r : Tags) → r ≡ tagsOf (exactly table s)
 unfolding firstTag cursorAs
 first-refused s r e f = rw (tags-none (exactly table s) (sym e ∙ f), firstTag)
 
-pub first-is : (s : List ℕ) (n : ℕ) (r : Tags) (c : Cursor) → r ≡ tagsOf (exactly table s) → r ≡ tags.Whole n → c ≡ cursorAs (standsAt s 4 n) → c ≡ cursorAs (firstTag s)
+pub first-is : (s : List ℕ) (n : ℕ) (r : Tags) (c : Cursor) → r ≡ tagsOf (exactly table s) → r ≡ tags.Whole n → c ≡ cursorAs (standsAt s 4 n)
+    → c ≡ cursorAs (firstTag s)
 unfolding firstTag
 first-is s n r c e f g =
     let (ts, m, p, q) = tags-parts (exactly table s) n (sym e ∙ f) in
@@ -64,7 +67,8 @@ first-is s n r c e f g =
 no-tag : tag [] ≡ bad
 unfolding tag
 no-tag =
-    then-bad {B = Tag} (only legalTagName string) (λ n. only legalTagValue string then λ v. give (record { name = n; value = v })) [] (only-bad legalTagName string [] no-string)
+    then-bad {B = Tag} (only legalTagName string) (λ n. only legalTagValue string then λ v. give (record { name = n; value = v })) []
+    (only-bad legalTagName string [] no-string)
 
 past-end : (s : List ℕ) (p left : ℕ) → length s < p → cursor.End ≡ cursorAs (standsAt s p left)
 unfolding cursorAs
@@ -89,4 +93,19 @@ pub next-refused : (s : List ℕ) (c : Cursor) (r : Refusal) → c ≡ cursor.Re
 unfolding nextAs
 next-refused s c r e = rw e
 
-pub ruleset laws = (needs, tag-fits-1, tag-fits-2, tag-fits-3, stands-end, stands-broken, stands-whole, first-refused, first-is, value-past, value-cut, next-tag, next-end, next-refused)
+pub ruleset laws = (
+  needs,
+  tag-fits-1,
+  tag-fits-2,
+  tag-fits-3,
+  stands-end,
+  stands-broken,
+  stands-whole,
+  first-refused,
+  first-is,
+  value-past,
+  value-cut,
+  next-tag,
+  next-end,
+  next-refused,
+)

@@ -12,7 +12,19 @@ use Rattle.refusal.specs.declared.Refusal.{Refusal}
 use Rattle.face_opening.specs.Face.{openedNot, openedFlat}
 use Rattle.face_opening.specs.declared.FstfOpened.{FstfOpened}
 
-pub opened-is : (o : Opening) (h : Held) → o ≡ opening.Opened h → record { refused = 0; place = 0; frames = h .frames; sections = h .sections; «system_tags» = h .«system_tags»; «user_tags» = h .«user_tags»; system = h .system; start = h .start; index = h .index; user = h .user } ≡ openedFlat o
+pub opened-is : (o : Opening) (h : Held) → o ≡ opening.Opened h
+    → record {
+      refused = 0;
+      place = 0;
+      frames = h .frames;
+      sections = h .sections;
+      «system_tags» = h .«system_tags»;
+      «user_tags» = h .«user_tags»;
+      system = h .system;
+      start = h .start;
+      index = h .index;
+      user = h .user;
+    } ≡ openedFlat o
 opened-is o h e = sym (ap openedFlat e)
 
 pub opened-not : (o : Opening) (n : Refusal) (r : FstfOpened) → o ≡ opening.Refused n → r ≡ openedNot (n .number) (n .place) → r ≡ openedFlat o

@@ -19,10 +19,12 @@ module _ {M : Type 1} (𝓤 : URA M) (H : Heap 𝓤) (A : Atoms 𝓤) (mem : Mem
   new-one κs a g x y v w = agree 𝓤 (λ p q. (p ∙ sym q, refl))
 
   pub begin-one : Determines 𝓤 begin.ended (begin.clauses 𝓤 H A mem run)
-  begin-one κs a g x y v w = agree 𝓤 (λ p q. let e = p ∙ sym q in (λ i. e i .answer, λ i. (v .0, (v .1 .0, (v .1 .1 .0, (e i .notes, (e i .out, v .1 .1 .1 .1 .1)))))))
+  begin-one κs a g x y v w =
+      agree 𝓤 (λ p q. let e = p ∙ sym q in (λ i. e i .answer, λ i. (v .0, (v .1 .0, (v .1 .1 .0, (e i .notes, (e i .out, v .1 .1 .1 .1 .1)))))))
 
   pub add-one : Determines 𝓤 add.ended (add.clauses 𝓤 H A mem run)
-  add-one κs a g x y v w = agree 𝓤 (λ p q. let e = p ∙ sym q in (λ i. e i .answer, λ i. (v .0, (v .1 .0, (v .1 .1 .0, (v .1 .1 .1 .0, (e i .notes, (e i .out, v .1 .1 .1 .1 .1 .1))))))))
+  add-one κs a g x y v w = agree 𝓤 (λ p q. let e = p ∙ sym q in
+      (λ i. e i .answer, λ i. (v .0, (v .1 .0, (v .1 .1 .0, (v .1 .1 .1 .0, (e i .notes, (e i .out, v .1 .1 .1 .1 .1 .1))))))))
 
   pub close-one : Determines 𝓤 close.ended (close.clauses 𝓤 H A mem run)
   close-one κs a g x y v w = agree 𝓤 (λ p q. let e = p ∙ sym q in (λ i. e i .answer, λ i. (v .0, (v .1 .0, (e i .out, v .1 .1 .1)))))

@@ -32,13 +32,15 @@ saved-table o n e = sym (ap savedFlat e)
 pub saved-not : (o : Saved) (n : Refusal) (r : FstfSaved) → o ≡ save.Refused n → r ≡ savedNot (n .number) (n .place) → r ≡ savedFlat o
 saved-not o n r e h = h ∙ sym (ap savedFlat e)
 
-pub save-face : (f s out out' : List ℕ) (o : Saved) (r : FstfSaved) → saving.outcome o out' ≡ saving.saveOf f s out → r ≡ savedFlat o → saved r out' ≡ outcomeFlat (saving.saveOf f s out)
+pub save-face : (f s out out' : List ℕ) (o : Saved) (r : FstfSaved) → saving.outcome o out' ≡ saving.saveOf f s out → r ≡ savedFlat o
+    → saved r out' ≡ outcomeFlat (saving.saveOf f s out)
 unfolding outcomeFlat
 save-face f s out out' o r e h = ap (λ (x : FstfSaved). saved x out') h ∙ ap outcomeFlat e
 
 -- ── Tags ──
 
-pub tag-is : (o : Browsed) (n l v m : ℕ) → o ≡ browsed.Tag n l v m → record { refused = 0; place = 0; found = 1; name = n; «name_length» = l; value = v; «value_length» = m } ≡ tagFlat o
+pub tag-is : (o : Browsed) (n l v m : ℕ) → o ≡ browsed.Tag n l v m
+    → record { refused = 0; place = 0; found = 1; name = n; «name_length» = l; value = v; «value_length» = m } ≡ tagFlat o
 tag-is o n l v m e = sym (ap tagFlat e)
 
 pub tag-end : (o : Browsed) (r : FstfTag) → o ≡ browsed.End → r ≡ tagNot 0 0 → r ≡ tagFlat o
@@ -52,7 +54,8 @@ tag-face b o r h k = k ∙ ap tagFlat h
 
 -- ── One tag after another ──
 
-pub cursor-tag : (o : Cursor) (n l v m left : ℕ) → o ≡ cursor.Tag n l v m left → record { refused = 0; place = 0; found = 1; name = n; «name_length» = l; value = v; «value_length» = m; left = left } ≡ cursorFlat o
+pub cursor-tag : (o : Cursor) (n l v m left : ℕ) → o ≡ cursor.Tag n l v m left
+    → record { refused = 0; place = 0; found = 1; name = n; «name_length» = l; value = v; «value_length» = m; left = left } ≡ cursorFlat o
 cursor-tag o n l v m left e = sym (ap cursorFlat e)
 
 pub cursor-end : (o : Cursor) (r : FstfCursor) → o ≡ cursor.End → r ≡ cursorNot 0 0 → r ≡ cursorFlat o
@@ -79,11 +82,31 @@ next-passed s c r e h = asks-not (c .refused) 0 (afterTag s c) (cursorNot (c .re
 pub next-ended : (s : List ℕ) (c r : FstfCursor) → c .refused ≡ 0 → c .found ≡ 0 → r ≡ cursorNot 0 0 → r ≡ cursorNext s c
 unfolding cursorNext afterTag
 next-ended s c r e f h =
-    asks (c .refused) 0 (afterTag s c) (cursorNot (c .refused) (c .place)) r e (asks (c .found) 0 (cursorNot 0 0) (cursorFlat (nextAs s (cursorAsked c))) r f h)
+    asks (c .refused) 0 (afterTag s c) (cursorNot (c .refused) (c .place)) r e
+    (asks (c .found) 0 (cursorNot 0 0) (cursorFlat (nextAs s (cursorAsked c))) r f h)
 
-pub next-face : (s : List ℕ) (c : FstfCursor) (a o : Cursor) (r : FstfCursor) → c .refused ≡ 0 → (c .found ≡ 0 → ⊥) → a ≡ cursorAsked c → o ≡ nextAs s a → r ≡ cursorFlat o → r ≡ cursorNext s c
+pub next-face : (s : List ℕ) (c : FstfCursor) (a o : Cursor) (r : FstfCursor) → c .refused ≡ 0 → (c .found ≡ 0 → ⊥) → a ≡ cursorAsked c
+    → o ≡ nextAs s a → r ≡ cursorFlat o → r ≡ cursorNext s c
 unfolding cursorNext afterTag
 next-face s c a o r e f g h k =
-    asks (c .refused) 0 (afterTag s c) (cursorNot (c .refused) (c .place)) r e (asks-not (c .found) 0 (cursorNot 0 0) (cursorFlat (nextAs s (cursorAsked c))) r f (k ∙ ap cursorFlat (h ∙ ap (nextAs s) g)))
+    asks (c .refused) 0 (afterTag s c) (cursorNot (c .refused) (c .place)) r e
+    (asks-not (c .found) 0 (cursorNot 0 0) (cursorFlat (nextAs s (cursorAsked c))) r f (k ∙ ap cursorFlat (h ∙ ap (nextAs s) g)))
 
-pub ruleset laws = (needs, saved-table, saved-not, save-face, tag-is, tag-end, tag-not, tag-face, cursor-tag, cursor-end, cursor-not, cursor-asked, first-face, next-passed, next-ended, next-face)
+pub ruleset laws = (
+  needs,
+  saved-table,
+  saved-not,
+  save-face,
+  tag-is,
+  tag-end,
+  tag-not,
+  tag-face,
+  cursor-tag,
+  cursor-end,
+  cursor-not,
+  cursor-asked,
+  first-face,
+  next-passed,
+  next-ended,
+  next-face,
+)

@@ -19,7 +19,8 @@ use Rattle.times.proofs.Laws.{follows-itself}
 -- ── The frames that are left ──
 
 -- one more frame, and the walk behind it
-pub walk-cons : (f : List ℕ) (k left at : ℕ) (x : Frame) (n : ℕ) → 0 < left → frame k (drop at f) ≡ good x n → walk left k (drop at f) ≡ longer x n (walk (left - 1) k (drop (at + n) f))
+pub walk-cons : (f : List ℕ) (k left at : ℕ) (x : Frame) (n : ℕ) → 0 < left → frame k (drop at f) ≡ good x n
+    → walk left k (drop at f) ≡ longer x n (walk (left - 1) k (drop (at + n) f))
 walk-cons f k zero at x n h e = absurd (omega arith)
 walk-cons f k (suc left) at x n h e =
     let p : suc left - 1 ≡ left = omega arith in
@@ -29,10 +30,16 @@ walk-cons f k (suc left) at x n h e =
 
 pub length-index : (at : ℕ) (fs : List Frame) → length (indexBytes at fs) ≡ 4 + 16 * length fs
 unfolding indexBytes
-length-index at fs = omega (arith, length-append (bytesOf 4 (length fs)) (entriesBytes (firstTime fs) at fs), length-bytesOf 4 (length fs), length-entries (firstTime fs) at fs)
+length-index at fs = omega (
+  arith,
+  length-append (bytesOf 4 (length fs)) (entriesBytes (firstTime fs) at fs),
+  length-bytesOf 4 (length fs),
+  length-entries (firstTime fs) at fs,
+)
 
 -- the first frame's time stands behind its mark
-pub walk-first : (f : List ℕ) (k start most : ℕ) (x : Frame) (xs : List Frame) → walk most k (drop start f) .frames ≡ x ∷ xs → x .time ≡ readAt f (start + 4) 8
+pub walk-first : (f : List ℕ) (k start most : ℕ) (x : Frame) (xs : List Frame) → walk most k (drop start f) .frames ≡ x ∷ xs
+    → x .time ≡ readAt f (start + 4) 8
 unfolding stopped longer
 walk-first f k start zero x xs e =
     let q : [] ≡ x ∷ xs = rw (walk-none k (drop start f)) at e in
@@ -49,9 +56,11 @@ walk-first f k start (suc most) x xs e = go (frame k (drop start f)) refl
         let q : y ∷ walk most k (drop n (drop start f)) .frames ≡ x ∷ xs = rw (walk-step most k (drop start f) y n g) at e in
         let i : y ≡ x = cc in
         let p = frame-parts k (drop start f) y n g in
-        ap (λ (v : Frame). v .time) (sym i) ∙ p .time ∙ rw (drop-drop 4 start f) (sym (read-is f (start + 4) 8 (omega arith) (omega (arith, length-drop start f, p .long))))
+        ap (λ (v : Frame). v .time) (sym i) ∙ p .time ∙ rw (drop-drop 4 start f)
+        (sym (read-is f (start + 4) 8 (omega arith) (omega (arith, length-drop start f, p .long))))
 
-pub by-first : (fs : List Frame) (first start : ℕ) → ((x : Frame) (xs : List Frame) → fs ≡ x ∷ xs → x .time ≡ first) → (inOrder fs ≡ follow first first fs) × (entriesBytes (firstTime fs) start fs ≡ entriesBytes first start fs)
+pub by-first : (fs : List Frame) (first start : ℕ) → ((x : Frame) (xs : List Frame) → fs ≡ x ∷ xs → x .time ≡ first)
+    → (inOrder fs ≡ follow first first fs) × (entriesBytes (firstTime fs) start fs ≡ entriesBytes first start fs)
 unfolding inOrder follow firstTime entriesBytes
 by-first [] first start h = (refl, refl)
 by-first (x ∷ xs) first start h =

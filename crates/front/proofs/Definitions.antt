@@ -45,35 +45,45 @@ behind f at n =
     let e : at + (1 + n) ≡ at + 1 + n = omega arith in
     drop-drop (1 + n) at f ∙ rw e
 
-pub definition-unnamed : (f : List ℕ) (at : ℕ) (r : Text) → r ≡ textOf (only legalSectionName string (drop at f)) → r ≡ text.Broken → definitionAs.Broken ≡ definitionAt f at
+pub definition-unnamed : (f : List ℕ) (at : ℕ) (r : Text) → r ≡ textOf (only legalSectionName string (drop at f)) → r ≡ text.Broken
+    → definitionAs.Broken ≡ definitionAt f at
 unfolding definitionAt wholeDefinition definition
-definition-unnamed f at r p q = rw (then-bad (only legalSectionName string) behindName (drop at f) (textOf-broken (only legalSectionName string (drop at f)) (sym p ∙ q)))
+definition-unnamed f at r p q =
+    rw (then-bad (only legalSectionName string) behindName (drop at f) (textOf-broken (only legalSectionName string (drop at f)) (sym p ∙ q)))
 
-pub definition-cut : (f : List ℕ) (at n : ℕ) (r : Text) → r ≡ textOf (only legalSectionName string (drop at f)) → r ≡ text.Whole n → length f - (at + 1 + n) < 8 → definitionAs.Broken ≡ definitionAt f at
+pub definition-cut : (f : List ℕ) (at n : ℕ) (r : Text) → r ≡ textOf (only legalSectionName string (drop at f)) → r ≡ text.Whole n
+    → length f - (at + 1 + n) < 8 → definitionAs.Broken ≡ definitionAt f at
 unfolding definitionAt wholeDefinition definition
 definition-cut f at n r p q h =
     let g = legal-parts legalSectionName f at n (sym p ∙ q) .2 in
     let v : List ℕ = take n (drop (at + 1) f) in
     let b : number 8 (drop (1 + n) (drop at f)) ≡ bad = rw (behind f at n) (number-cut 8 f (at + 1 + n) h) in
-    rw (then-next-bad (only legalSectionName string) behindName (drop at f) v (1 + n) g (then-bad (number 8) (λ o. give (record { name = v; offset = o })) (drop (1 + n) (drop at f)) b))
+    rw (then-next-bad (only legalSectionName string) behindName (drop at f) v (1 + n) g
+    (then-bad (number 8) (λ o. give (record { name = v; offset = o })) (drop (1 + n) (drop at f)) b))
 
-pub definition-whole : (f : List ℕ) (at n o : ℕ) (r : Text) → r ≡ textOf (only legalSectionName string (drop at f)) → r ≡ text.Whole n → 8 ≤ length f - (at + 1 + n) → o ≡ readAt f (at + 1 + n) 8 → definitionAs.Whole (at + 1 + n + 8) o ≡ definitionAt f at
+pub definition-whole : (f : List ℕ) (at n o : ℕ) (r : Text) → r ≡ textOf (only legalSectionName string (drop at f)) → r ≡ text.Whole n
+    → 8 ≤ length f - (at + 1 + n) → o ≡ readAt f (at + 1 + n) 8 → definitionAs.Whole (at + 1 + n + 8) o ≡ definitionAt f at
 unfolding definitionAt wholeDefinition definition give
 definition-whole f at n o r p q h e =
     let g = legal-parts legalSectionName f at n (sym p ∙ q) .2 in
     let v : List ℕ = take n (drop (at + 1) f) in
     let b : number 8 (drop (1 + n) (drop at f)) ≡ good o 8 = rw (behind f at n, e) (number-read f (at + 1 + n) 8 (omega arith) (omega arith)) in
-    let d : definition (drop at f) ≡ good (record { name = v; offset = o }) (1 + n + (8 + 0)) = then-takes (only legalSectionName string) behindName (drop at f) v (record { name = v; offset = o }) (1 + n) (8 + 0) g (then-takes (number 8) (λ k. give (record { name = v; offset = k })) (drop (1 + n) (drop at f)) o (record { name = v; offset = o }) 8 0 b refl) in
+    let d : definition (drop at f) ≡ good (record { name = v; offset = o }) (1 + n + (8 + 0)) =
+    then-takes (only legalSectionName string) behindName (drop at f) v (record { name = v; offset = o }) (1 + n) (8 + 0) g
+    (then-takes (number 8) (λ k. give (record { name = v; offset = k })) (drop (1 + n) (drop at f)) o
+    (record { name = v; offset = o }) 8 0 b refl) in
     rw d (ap (λ (k : ℕ). definitionAs.Whole k o) (omega arith))
 
 -- ── Offsets ──
 
 -- the definition that the code found
-pub definition-found : (f : List ℕ) (at next o : ℕ) → definitionAt f at ≡ definitionAs.Whole next o → (d : Definition) × (n : ℕ) × (definition (drop at f) ≡ good d n) × (at + n ≡ next) × (d .offset ≡ o)
+pub definition-found : (f : List ℕ) (at next o : ℕ) → definitionAt f at ≡ definitionAs.Whole next o
+    → (d : Definition) × (n : ℕ) × (definition (drop at f) ≡ good d n) × (at + n ≡ next) × (d .offset ≡ o)
 unfolding definitionAt wholeDefinition
 definition-found f at next o q = go (definition (drop at f)) refl q
   where
-    go : (p : Parsed Definition) → definition (drop at f) ≡ p → wholeDefinition at p ≡ definitionAs.Whole next o → (d : Definition) × (n : ℕ) × (definition (drop at f) ≡ good d n) × (at + n ≡ next) × (d .offset ≡ o)
+    go : (p : Parsed Definition) → definition (drop at f) ≡ p → wholeDefinition at p ≡ definitionAs.Whole next o
+        → (d : Definition) × (n : ℕ) × (definition (drop at f) ≡ good d n) × (at + n ≡ next) × (d .offset ≡ o)
     go bad g w = let z : _≡_ {A = ℕ} 0 1 = cc in absurd (omega arith)
     go (good d n) g w = (d, n, g, cc, cc)
 
@@ -92,20 +102,25 @@ offsets-done f at left last all z e =
     let a : at + 0 ≡ at = omega arith in
     sym (rw (l, a)) ∙ e
 
-pub offsets-stop : (f : List ℕ) (at left last : ℕ) (r : DefinitionAt) (all : Offsets) → 0 < left → r ≡ definitionAt f at → r ≡ definitionAs.Broken → offsetsAt f at left last ≡ all → offsets.Broken ≡ all
+pub offsets-stop : (f : List ℕ) (at left last : ℕ) (r : DefinitionAt) (all : Offsets) → 0 < left → r ≡ definitionAt f at → r ≡ definitionAs.Broken
+    → offsetsAt f at left last ≡ all → offsets.Broken ≡ all
 unfolding offsetsAt legalOffsets times onward
 offsets-stop f at zero last r all h p q e = absurd (omega arith)
 offsets-stop f at (suc left) last r all h p q e = sym (rw (definition-none f at (sym p ∙ q))) ∙ e
 
 -- one more definition, and those behind it
-offsets-cons : (f : List ℕ) (at left last : ℕ) (d : Definition) (n : ℕ) → 0 < left → definition (drop at f) ≡ good d n → offsetsAt f at left last ≡ cond (leb last (d .offset) && leb (d .offset - last) 65535) (offsetsAt f (at + n) (left - 1) (d .offset)) offsets.Broken
+offsets-cons : (f : List ℕ) (at left last : ℕ) (d : Definition) (n : ℕ) → 0 < left → definition (drop at f) ≡ good d n
+    → offsetsAt f at left last ≡ cond (leb last (d .offset) && leb (d .offset - last) 65535)
+    (offsetsAt f (at + n) (left - 1) (d .offset)) offsets.Broken
 unfolding offsetsAt legalOffsets times onward steps lastOffset
 offsets-cons f at zero last d n h e = absurd (omega arith)
 offsets-cons f at (suc left) last d n h e =
     let p : suc left - 1 ≡ left = omega arith in
     rw (p, e, drop-drop n at f) (go (times left definition (drop (at + n) f)))
   where
-    tests : (a b : Bool) (m : ℕ) (ds : List Definition) → cond (a && b) (offsets.Legal (at + (n + m)) (lastOffset (d .offset) ds)) offsets.Broken ≡ cond a (cond b (offsets.Legal (at + n + m) (lastOffset (d .offset) ds)) offsets.Broken) offsets.Broken
+    tests : (a b : Bool) (m : ℕ) (ds : List Definition) → cond (a && b)
+        (offsets.Legal (at + (n + m)) (lastOffset (d .offset) ds)) offsets.Broken ≡ cond a
+        (cond b (offsets.Legal (at + n + m) (lastOffset (d .offset) ds)) offsets.Broken) offsets.Broken
     tests true true m ds = ap (λ (k : ℕ). offsets.Legal k (lastOffset (d .offset) ds)) (omega arith)
     tests true false m ds = refl
     tests false b m ds = refl
@@ -114,27 +129,50 @@ offsets-cons f at (suc left) last d n h e =
     either true = refl
     either false = refl
 
-    go : (x : Parsed (List Definition)) → legalOffsets at last (onward x (λ rest m. good (d ∷ rest) (n + m))) ≡ cond (leb last (d .offset) && leb (d .offset - last) 65535) (legalOffsets (at + n) (d .offset) x) offsets.Broken
+    go : (x : Parsed (List Definition)) → legalOffsets at last (onward x (λ rest m. good (d ∷ rest) (n + m))) ≡ cond
+        (leb last (d .offset) && leb (d .offset - last) 65535) (legalOffsets (at + n) (d .offset) x) offsets.Broken
     go bad = either (leb last (d .offset) && leb (d .offset - last) 65535)
     go (good ds m) = tests (leb last (d .offset) && leb (d .offset - last) 65535) (steps (d .offset) ds) m ds
 
-offsets-broken : (f : List ℕ) (at left last next o : ℕ) (all : Offsets) → 0 < left → definitionAt f at ≡ definitionAs.Whole next o → (leb last o && leb (o - last) 65535) ≡ false → offsetsAt f at left last ≡ all → offsets.Broken ≡ all
+offsets-broken : (f : List ℕ) (at left last next o : ℕ) (all : Offsets) → 0 < left → definitionAt f at ≡ definitionAs.Whole next o
+    → (leb last o && leb (o - last) 65535) ≡ false → offsetsAt f at left last ≡ all → offsets.Broken ≡ all
 offsets-broken f at left last next o all h q t e =
     let (d, n, g, a, c) = definition-found f at next o q in
-    sym (offsets-cons f at left last d n h g ∙ cond-false (leb last (d .offset) && leb (d .offset - last) 65535) (offsetsAt f (at + n) (left - 1) (d .offset)) offsets.Broken (rw c t)) ∙ e
+    sym (offsets-cons f at left last d n h g ∙ cond-false (leb last (d .offset) && leb (d .offset - last) 65535)
+    (offsetsAt f (at + n) (left - 1) (d .offset)) offsets.Broken (rw c t)) ∙ e
 
-pub offsets-fall : (f : List ℕ) (at left last next o : ℕ) (r : DefinitionAt) (all : Offsets) → 0 < left → r ≡ definitionAt f at → r ≡ definitionAs.Whole next o → o < last → offsetsAt f at left last ≡ all → offsets.Broken ≡ all
+pub offsets-fall : (f : List ℕ) (at left last next o : ℕ) (r : DefinitionAt) (all : Offsets) → 0 < left → r ≡ definitionAt f at
+    → r ≡ definitionAs.Whole next o → o < last → offsetsAt f at left last ≡ all → offsets.Broken ≡ all
 offsets-fall f at left last next o r all h p q l e = offsets-broken f at left last next o all h (sym p ∙ q) (rw (lt-leb last o l)) e
 
-pub offsets-far : (f : List ℕ) (at left last next o : ℕ) (r : DefinitionAt) (all : Offsets) → 0 < left → r ≡ definitionAt f at → r ≡ definitionAs.Whole next o → last ≤ o → 65535 < o - last → offsetsAt f at left last ≡ all → offsets.Broken ≡ all
-offsets-far f at left last next o r all h p q l m e = offsets-broken f at left last next o all h (sym p ∙ q) (rw (le-leb last o l, lt-leb (o - last) 65535 m)) e
+pub offsets-far : (f : List ℕ) (at left last next o : ℕ) (r : DefinitionAt) (all : Offsets) → 0 < left → r ≡ definitionAt f at
+    → r ≡ definitionAs.Whole next o → last ≤ o → 65535 < o - last → offsetsAt f at left last ≡ all → offsets.Broken ≡ all
+offsets-far f at left last next o r all h p q l m e = offsets-broken f at left last next o all h (sym p ∙ q)
+    (rw (le-leb last o l, lt-leb (o - last) 65535 m)) e
 
-pub offsets-step : (f : List ℕ) (at left last next o : ℕ) (r : DefinitionAt) (all : Offsets) → 0 < left → r ≡ definitionAt f at → r ≡ definitionAs.Whole next o → last ≤ o → o - last ≤ 65535 → offsetsAt f at left last ≡ all → offsetsAt f next (left - 1) o ≡ all
+pub offsets-step : (f : List ℕ) (at left last next o : ℕ) (r : DefinitionAt) (all : Offsets) → 0 < left → r ≡ definitionAt f at
+    → r ≡ definitionAs.Whole next o → last ≤ o → o - last ≤ 65535 → offsetsAt f at left last ≡ all → offsetsAt f next (left - 1) o ≡ all
 offsets-step f at left last next o r all h p q l m e = go (definition-found f at next o (sym p ∙ q))
   where
     go : ((d : Definition) × (n : ℕ) × (definition (drop at f) ≡ good d n) × (at + n ≡ next) × (d .offset ≡ o)) → offsetsAt f next (left - 1) o ≡ all
     go (d, n, g, a, c) =
-        let t : (leb last (d .offset) && leb (d .offset - last) 65535) ≡ true = rw c (and-true (leb last o) (leb (o - last) 65535) (le-leb last o l) (le-leb (o - last) 65535 m)) in
-        rw (← a, ← c) (sym (offsets-cons f at left last d n h g ∙ cond-true (leb last (d .offset) && leb (d .offset - last) 65535) (offsetsAt f (at + n) (left - 1) (d .offset)) offsets.Broken t) ∙ e)
+        let t : (leb last (d .offset) && leb (d .offset - last) 65535) ≡ true =
+        rw c (and-true (leb last o) (leb (o - last) 65535) (le-leb last o l) (le-leb (o - last) 65535 m)) in
+        rw (← a, ← c) (sym (offsets-cons f at left last d n h g
+        ∙ cond-true (leb last (d .offset) && leb (d .offset - last) 65535) (offsetsAt f (at + n) (left - 1) (d .offset)) offsets.Broken t)
+        ∙ e)
 
-pub ruleset laws = (needs, name-ends, legal-place, legal-after, definition-unnamed, definition-cut, definition-whole, offsets-done, offsets-stop, offsets-fall, offsets-far, offsets-step)
+pub ruleset laws = (
+  needs,
+  name-ends,
+  legal-place,
+  legal-after,
+  definition-unnamed,
+  definition-cut,
+  definition-whole,
+  offsets-done,
+  offsets-stop,
+  offsets-fall,
+  offsets-far,
+  offsets-step,
+)

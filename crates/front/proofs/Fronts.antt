@@ -33,7 +33,8 @@ pub fstf-long : (f : List ℕ) → notFstf f ≡ false → 34 ≤ length f
 unfolding notFstf
 fstf-long f e = ltb-false (length f) 34 (or-false (ltb (length f) 34) (not (same (take 4 f) fileMark)) e .0)
 
-pub header-is : (f : List ℕ) → notFstf f ≡ false → headerOf f ≡ record { count = headerCount f; index = indexOffset f; system = systemOffset f; user = userOffset f }
+pub header-is : (f : List ℕ) → notFstf f ≡ false
+    → headerOf f ≡ record { count = headerCount f; index = indexOffset f; system = systemOffset f; user = userOffset f }
 unfolding headerOf
 header-is f e = let l = fstf-long f e in rw (le-leb 33 (length f) (omega arith))
 
@@ -47,11 +48,13 @@ sections-refused f e = go (badSections f) e
     go true q = refl
     go false q = let z : _≡_ {A = ℕ} 0 1 = cc in absurd (omega arith)
 
-pub sections-pass : (f : List ℕ) (n last : ℕ) → sectionsOf f ≡ sectionsAs.Legal n last → (badSections f ≡ false) × (length (definedIn f) ≡ n) × (lastOffset 0 (definedIn f) ≡ last)
+pub sections-pass : (f : List ℕ) (n last : ℕ) → sectionsOf f ≡ sectionsAs.Legal n last
+    → (badSections f ≡ false) × (length (definedIn f) ≡ n) × (lastOffset 0 (definedIn f) ≡ last)
 unfolding sectionsOf
 sections-pass f n last e = go (badSections f) e
   where
-    go : (b : Bool) → cond b sectionsAs.Broken (sectionsAs.Legal (length (definedIn f)) (lastOffset 0 (definedIn f))) ≡ sectionsAs.Legal n last → (b ≡ false) × (length (definedIn f) ≡ n) × (lastOffset 0 (definedIn f) ≡ last)
+    go : (b : Bool) → cond b sectionsAs.Broken (sectionsAs.Legal (length (definedIn f)) (lastOffset 0 (definedIn f))) ≡ sectionsAs.Legal n last
+        → (b ≡ false) × (length (definedIn f) ≡ n) × (lastOffset 0 (definedIn f) ≡ last)
     go true q = let z : _≡_ {A = ℕ} 0 1 = cc in absurd (omega arith)
     go false q = (refl, cc, cc)
 
@@ -65,16 +68,19 @@ pub system-late : (f : List ℕ) (system last : ℕ) → last ≤ system → 655
 unfolding systemTable
 system-late f system last h l = rw (le-ltb system last h, lt-ltb (last + 65535) system (omega arith))
 
-pub system-there : (f : List ℕ) (system last : ℕ) (r : TablePlace) → last ≤ system → system - last ≤ 65535 → r ≡ tablePlaceOf system (table (drop system f)) → r ≡ systemTable f system last
+pub system-there : (f : List ℕ) (system last : ℕ) (r : TablePlace) → last ≤ system → system - last ≤ 65535
+    → r ≡ tablePlaceOf system (table (drop system f)) → r ≡ systemTable f system last
 unfolding systemTable
 system-there f system last r h l e = e ∙ rw (le-ltb system last h, le-ltb (last + 65535) system (omega arith))
 
 -- a table that was found
-pub table-found : (f : List ℕ) (at n end : ℕ) → tablePlaceOf at (table (drop at f)) ≡ tableAs.Whole n end → (ts : List Tag) × (m : ℕ) × (table (drop at f) ≡ good ts m) × (length ts ≡ n) × (at + m ≡ end)
+pub table-found : (f : List ℕ) (at n end : ℕ) → tablePlaceOf at (table (drop at f)) ≡ tableAs.Whole n end
+    → (ts : List Tag) × (m : ℕ) × (table (drop at f) ≡ good ts m) × (length ts ≡ n) × (at + m ≡ end)
 unfolding tablePlaceOf
 table-found f at n end q = go (table (drop at f)) refl q
   where
-    go : (p : Parsed (List Tag)) → table (drop at f) ≡ p → tablePlaceOf at p ≡ tableAs.Whole n end → (ts : List Tag) × (m : ℕ) × (table (drop at f) ≡ good ts m) × (length ts ≡ n) × (at + m ≡ end)
+    go : (p : Parsed (List Tag)) → table (drop at f) ≡ p → tablePlaceOf at p ≡ tableAs.Whole n end
+        → (ts : List Tag) × (m : ℕ) × (table (drop at f) ≡ good ts m) × (length ts ≡ n) × (at + m ≡ end)
     go bad e g = let z : _≡_ {A = ℕ} 0 1 = cc in absurd (omega arith)
     go (good ts m) e g = (ts, m, e, cc, cc)
 
@@ -90,18 +96,22 @@ system-refused : (f : List ℕ) → systemTable f (systemOffset f) (lastOffset 0
 unfolding systemTable badSystem readSystem
 system-refused f e = go (ltb (systemOffset f) (lastOffset 0 (definedIn f)) || ltb (lastOffset 0 (definedIn f) + 65535) (systemOffset f)) e
   where
-    go : (b : Bool) → cond b tableAs.Broken (tablePlaceOf (systemOffset f) (table (drop (systemOffset f) f))) ≡ tableAs.Broken → (b || isBad (table (drop (systemOffset f) f))) ≡ true
+    go : (b : Bool) → cond b tableAs.Broken (tablePlaceOf (systemOffset f) (table (drop (systemOffset f) f))) ≡ tableAs.Broken
+        → (b || isBad (table (drop (systemOffset f) f))) ≡ true
     go true q = refl
     go false q = rw (table-none f (systemOffset f) q)
 
-system-pass : (f : List ℕ) (n start : ℕ) → systemTable f (systemOffset f) (lastOffset 0 (definedIn f)) ≡ tableAs.Whole n start → (badSystem f ≡ false) × (length (valueOr [] (readSystem f)) ≡ n) × (walkStart f ≡ start)
+system-pass : (f : List ℕ) (n start : ℕ) → systemTable f (systemOffset f) (lastOffset 0 (definedIn f)) ≡ tableAs.Whole n start
+    → (badSystem f ≡ false) × (length (valueOr [] (readSystem f)) ≡ n) × (walkStart f ≡ start)
 unfolding systemTable badSystem readSystem walkStart valueOr taken
 system-pass f n start e = go (ltb (systemOffset f) (lastOffset 0 (definedIn f)) || ltb (lastOffset 0 (definedIn f) + 65535) (systemOffset f)) e
   where
-    found : ((ts : List Tag) × (m : ℕ) × (table (drop (systemOffset f) f) ≡ good ts m) × (length ts ≡ n) × (systemOffset f + m ≡ start)) → (isBad (table (drop (systemOffset f) f)) ≡ false) × (length (valueOr [] (readSystem f)) ≡ n) × (walkStart f ≡ start)
+    found : ((ts : List Tag) × (m : ℕ) × (table (drop (systemOffset f) f) ≡ good ts m) × (length ts ≡ n) × (systemOffset f + m ≡ start))
+        → (isBad (table (drop (systemOffset f) f)) ≡ false) × (length (valueOr [] (readSystem f)) ≡ n) × (walkStart f ≡ start)
     found (ts, m, g, l, s) = rw g ((refl, l, s))
 
-    go : (b : Bool) → cond b tableAs.Broken (tablePlaceOf (systemOffset f) (table (drop (systemOffset f) f))) ≡ tableAs.Whole n start → ((b || isBad (table (drop (systemOffset f) f))) ≡ false) × (length (valueOr [] (readSystem f)) ≡ n) × (walkStart f ≡ start)
+    go : (b : Bool) → cond b tableAs.Broken (tablePlaceOf (systemOffset f) (table (drop (systemOffset f) f))) ≡ tableAs.Whole n start
+        → ((b || isBad (table (drop (systemOffset f) f))) ≡ false) × (length (valueOr [] (readSystem f)) ≡ n) × (walkStart f ≡ start)
     go true q = let z : _≡_ {A = ℕ} 0 1 = cc in absurd (omega arith)
     go false q = found (table-found f (systemOffset f) n start q)
 
@@ -119,27 +129,35 @@ pub front-revision : (f : List ℕ) (a b : Bool) → a ≡ notFstf f → a ≡ f
 unfolding frontLines
 front-revision f a b p q r s = front-number f 1 (line-pass 1 (notFstf f) _ (sym p ∙ q) ∙ line-holds 2 (otherRevision f) _ (sym r ∙ s))
 
-pub front-sections : (f : List ℕ) (a b : Bool) (c : Sections) → a ≡ notFstf f → a ≡ false → b ≡ otherRevision f → b ≡ false → c ≡ sectionsOf f → c ≡ sectionsAs.Broken → frontAs.Refused (plain 3) ≡ frontOf f
+pub front-sections : (f : List ℕ) (a b : Bool) (c : Sections) → a ≡ notFstf f → a ≡ false → b ≡ otherRevision f → b ≡ false → c ≡ sectionsOf f
+    → c ≡ sectionsAs.Broken → frontAs.Refused (plain 3) ≡ frontOf f
 unfolding frontLines
 front-sections f a b c p q r s t u =
-    front-number f 2 (line-pass 1 (notFstf f) _ (sym p ∙ q) ∙ line-pass 2 (otherRevision f) _ (sym r ∙ s) ∙ line-holds 3 (badSections f) _ (sections-refused f (sym t ∙ u)))
+    front-number f 2 (line-pass 1 (notFstf f) _ (sym p ∙ q) ∙ line-pass 2 (otherRevision f) _ (sym r ∙ s)
+    ∙ line-holds 3 (badSections f) _ (sections-refused f (sym t ∙ u)))
 
 -- what the code makes of the header and the sections it found
-system-of : (f : List ℕ) (h : Header) (n last : ℕ) → notFstf f ≡ false → h ≡ headerOf f → sectionsOf f ≡ sectionsAs.Legal n last → systemTable f (h .system) last ≡ systemTable f (systemOffset f) (lastOffset 0 (definedIn f))
+system-of : (f : List ℕ) (h : Header) (n last : ℕ) → notFstf f ≡ false → h ≡ headerOf f → sectionsOf f ≡ sectionsAs.Legal n last
+    → systemTable f (h .system) last ≡ systemTable f (systemOffset f) (lastOffset 0 (definedIn f))
 system-of f h n last a p e = rw (p, header-is f a, sections-pass f n last e .2)
 
-pub front-system : (f : List ℕ) (a b : Bool) (c : Sections) (h : Header) (n last : ℕ) (t : TablePlace) → a ≡ notFstf f → a ≡ false → b ≡ otherRevision f → b ≡ false → c ≡ sectionsOf f → c ≡ sectionsAs.Legal n last → h ≡ headerOf f → t ≡ systemTable f (h .system) last → t ≡ tableAs.Broken → frontAs.Refused (plain 4) ≡ frontOf f
+pub front-system : (f : List ℕ) (a b : Bool) (c : Sections) (h : Header) (n last : ℕ) (t : TablePlace) → a ≡ notFstf f → a ≡ false
+    → b ≡ otherRevision f → b ≡ false → c ≡ sectionsOf f → c ≡ sectionsAs.Legal n last → h ≡ headerOf f → t ≡ systemTable f (h .system) last
+    → t ≡ tableAs.Broken → frontAs.Refused (plain 4) ≡ frontOf f
 unfolding frontLines
 front-system f a b c h n last t p q r s u v w x y =
     front-number f 3
-    (line-pass 1 (notFstf f) _ (sym p ∙ q) ∙ line-pass 2 (otherRevision f) _ (sym r ∙ s) ∙ line-pass 3 (badSections f) _ (sections-pass f n last (sym u ∙ v) .0)
+    (line-pass 1 (notFstf f) _ (sym p ∙ q) ∙ line-pass 2 (otherRevision f) _ (sym r ∙ s)
+    ∙ line-pass 3 (badSections f) _ (sections-pass f n last (sym u ∙ v) .0)
     ∙ line-holds 4 (badSystem f) _ (system-refused f (sym (system-of f h n last (sym p ∙ q) w (sym u ∙ v)) ∙ sym x ∙ y)))
 
 front-none : (f : List ℕ) → FrontPasses f → firstOf (frontLines f) ≡ 0
 unfolding firstOf
 front-none f p = ap firstOf (sym (append-nil (frontLines f))) ∙ front-pass f [] p
 
-pub front-whole : (f : List ℕ) (a b : Bool) (c : Sections) (h : Header) (n last tags start : ℕ) (t : TablePlace) → a ≡ notFstf f → a ≡ false → b ≡ otherRevision f → b ≡ false → c ≡ sectionsOf f → c ≡ sectionsAs.Legal n last → h ≡ headerOf f → t ≡ systemTable f (h .system) last → t ≡ tableAs.Whole tags start → frontAs.Whole (record { sections = n; system = h .system; «system_tags» = tags; start = start }) ≡ frontOf f
+pub front-whole : (f : List ℕ) (a b : Bool) (c : Sections) (h : Header) (n last tags start : ℕ) (t : TablePlace) → a ≡ notFstf f → a ≡ false
+    → b ≡ otherRevision f → b ≡ false → c ≡ sectionsOf f → c ≡ sectionsAs.Legal n last → h ≡ headerOf f → t ≡ systemTable f (h .system) last
+    → t ≡ tableAs.Whole tags start → frontAs.Whole (record { sections = n; system = h .system; «system_tags» = tags; start = start }) ≡ frontOf f
 unfolding frontOf frontBy frontHeld
 front-whole f a b c h n last tags start t p q r s u v w x y =
     let (d, e, k) = sections-pass f n last (sym u ∙ v) in
@@ -151,4 +169,15 @@ front-whole f a b c h n last tags start t p q r s u v w x y =
 pub whole-refusal : (r : Front) (h : FrontHeld) → r ≡ frontAs.Whole h → plain 0 ≡ frontRefusal r
 whole-refusal r h e = rw e
 
-pub ruleset laws = (needs, system-early, system-late, system-there, front-not-fstf, front-revision, front-sections, front-system, front-whole, whole-refusal)
+pub ruleset laws = (
+  needs,
+  system-early,
+  system-late,
+  system-there,
+  front-not-fstf,
+  front-revision,
+  front-sections,
+  front-system,
+  front-whole,
+  whole-refusal,
+)

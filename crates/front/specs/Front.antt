@@ -50,7 +50,8 @@ sectionsOf f =
 
 -- 4, of a system table at `system` behind a last configuration at `last`
 unfoldable pub systemTable : List ℕ → (system last : ℕ) → TablePlace
-systemTable f system last = cond (ltb system last || ltb (last + longestConfiguration) system) tableAs.Broken (tablePlaceOf system (table (drop system f)))
+systemTable f system last = cond (ltb system last || ltb (last + longestConfiguration) system) tableAs.Broken
+    (tablePlaceOf system (table (drop system f)))
 
 -- what a file whose lines 1 to 4 pass shows ahead of its frames
 unfoldable pub frontHeld : List ℕ → FrontHeld

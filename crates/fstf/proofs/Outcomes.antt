@@ -45,10 +45,15 @@ module _ {M : Type 1} (𝓤 : URA M) (H : Heap 𝓤) (A : Atoms 𝓤) (mem : Mem
   fstf-new-one κs a g x y v w = agree 𝓤 (λ p q. (p ∙ sym q, refl))
 
   pub fstf-begin-one : Determines 𝓤 «fstf_begin».ended («fstf_begin».clauses 𝓤 H A mem run)
-  fstf-begin-one κs a g x y v w = agree 𝓤 (λ p q. let e = p ∙ sym q in (λ i. e i .answer, λ i. (v .0, (v .1 .0, (v .1 .1 .0, (e i .notes, (e i .out, v .1 .1 .1 .1 .1)))))))
+  fstf-begin-one κs a g x y v w =
+      agree 𝓤 (λ p q. let e = p ∙ sym q in (λ i. e i .answer, λ i. (v .0, (v .1 .0, (v .1 .1 .0, (e i .notes, (e i .out, v .1 .1 .1 .1 .1)))))))
 
   pub fstf-add-one : Determines 𝓤 «fstf_add».ended («fstf_add».clauses 𝓤 H A mem run)
-  fstf-add-one κs a g x y v w = agree 𝓤 (λ p q. let e = p ∙ sym q in (λ i. e i .answer, λ i. (v .0, (v .1 .0, (v .1 .1 .0, (v .1 .1 .1 .0, (e i .notes, (e i .out, v .1 .1 .1 .1 .1 .1))))))))
+  fstf-add-one κs a g x y v w =
+      agree 𝓤 (λ p q. let e = p ∙ sym q in (
+        λ i. e i .answer,
+        λ i. (v .0, (v .1 .0, (v .1 .1 .0, (v .1 .1 .1 .0, (e i .notes, (e i .out, v .1 .1 .1 .1 .1 .1)))))),
+      ))
 
   pub fstf-close-one : Determines 𝓤 «fstf_close».ended («fstf_close».clauses 𝓤 H A mem run)
   fstf-close-one κs a g x y v w = agree 𝓤 (λ p q. let e = p ∙ sym q in (λ i. e i .answer, λ i. (v .0, (v .1 .0, (e i .out, v .1 .1 .1)))))

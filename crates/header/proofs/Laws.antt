@@ -16,9 +16,20 @@ pub header-short : (f : List ℕ) → length f < 33 → record { count = 0; inde
 unfolding headerOf
 header-short f h = rw (lt-leb 33 (length f) h)
 
-pub header-whole : (f : List ℕ) (a b c d : ℕ) → 33 ≤ length f → a ≡ readAt f 5 4 → b ≡ readAt f 9 8 → c ≡ readAt f 17 8 → d ≡ readAt f 25 8 → record { count = a; index = b; system = c; user = d } ≡ headerOf f
+pub header-whole : (f : List ℕ) (a b c d : ℕ) → 33 ≤ length f → a ≡ readAt f 5 4 → b ≡ readAt f 9 8 → c ≡ readAt f 17 8 → d ≡ readAt f 25 8
+    → record { count = a; index = b; system = c; user = d } ≡ headerOf f
 unfolding headerOf headerCount indexOffset systemOffset userOffset field
 header-whole f a b c d h p q r s =
-    rw (le-leb 33 (length f) h, p, q, r, s, read-is f 5 4 (omega arith) (omega arith), read-is f 9 8 (omega arith) (omega arith), read-is f 17 8 (omega arith) (omega arith), read-is f 25 8 (omega arith) (omega arith))
+    rw (
+      le-leb 33 (length f) h,
+      p,
+      q,
+      r,
+      s,
+      read-is f 5 4 (omega arith) (omega arith),
+      read-is f 9 8 (omega arith) (omega arith),
+      read-is f 17 8 (omega arith) (omega arith),
+      read-is f 25 8 (omega arith) (omega arith),
+    )
 
 pub ruleset laws = (needs, header-short, header-whole)

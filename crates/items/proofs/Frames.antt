@@ -28,15 +28,18 @@ use Rattle.items.proofs.Bytes.{Bytes}
 -- ── Frames ──
 
 -- the frame that the numbers lead to
-pub frame-nowhere : (f : List ℕ) (h : Held) (i : ℕ) (q : Place) → q ≡ framePlace f (h .frames) (h .index) i → q ≡ Broken → frameAs.Refused (plain 8) ≡ heldFrame f h i
+pub frame-nowhere : (f : List ℕ) (h : Held) (i : ℕ) (q : Place) → q ≡ framePlace f (h .frames) (h .index) i → q ≡ Broken
+    → frameAs.Refused (plain 8) ≡ heldFrame f h i
 unfolding heldFrame frameBehind
 frame-nowhere f h i q e g = sym (ap (frameBehind f (h .sections)) (sym e ∙ g))
 
-pub frame-there : (f : List ℕ) (h : Held) (i : ℕ) (q : Place) (p : ℕ) → q ≡ framePlace f (h .frames) (h .index) i → q ≡ End p → heldFrame f h i ≡ frameFrom p (frameAt f p (h .sections))
+pub frame-there : (f : List ℕ) (h : Held) (i : ℕ) (q : Place) (p : ℕ) → q ≡ framePlace f (h .frames) (h .index) i → q ≡ End p
+    → heldFrame f h i ≡ frameFrom p (frameAt f p (h .sections))
 unfolding heldFrame frameBehind
 frame-there f h i q p e g = ap (frameBehind f (h .sections)) (sym e ∙ g)
 
-pub frame-none : (f : List ℕ) (h : Held) (i p : ℕ) (q : Place) (r : FrameAt) → q ≡ framePlace f (h .frames) (h .index) i → q ≡ End p → r ≡ frameAt f p (h .sections) → r ≡ None → frameAs.Refused (plain 8) ≡ heldFrame f h i
+pub frame-none : (f : List ℕ) (h : Held) (i p : ℕ) (q : Place) (r : FrameAt) → q ≡ framePlace f (h .frames) (h .index) i → q ≡ End p
+    → r ≡ frameAt f p (h .sections) → r ≡ None → frameAs.Refused (plain 8) ≡ heldFrame f h i
 unfolding frameFrom
 frame-none f h i p q r e g u v = sym (frame-there f h i q p e g ∙ ap (frameFrom p) (sym u ∙ v))
 
@@ -51,7 +54,9 @@ pub exposure-fits : (f : List ℕ) (p k next t x : ℕ) (r : FrameAt) → Bytes 
 exposure-fits f p k next t x r b e g = record { fits = frame-fits f p k next t x r b e g .1 }
 
 -- an Int64 is stored by its pattern
-pub frame-some : (f : List ℕ) (h : Held) (i p next t x : ℕ) (z : ℤ) (q : Place) (r : FrameAt) → Bytes f → q ≡ framePlace f (h .frames) (h .index) i → q ≡ End p → r ≡ frameAt f p (h .sections) → r ≡ Whole next t x → z ≡ toZ w64 t → frameAs.Frame p (next - p) (toZ w64 (ofZ w64 z)) x ≡ heldFrame f h i
+pub frame-some : (f : List ℕ) (h : Held) (i p next t x : ℕ) (z : ℤ) (q : Place) (r : FrameAt) → Bytes f
+    → q ≡ framePlace f (h .frames) (h .index) i → q ≡ End p → r ≡ frameAt f p (h .sections) → r ≡ Whole next t x → z ≡ toZ w64 t
+    → frameAs.Frame p (next - p) (toZ w64 (ofZ w64 z)) x ≡ heldFrame f h i
 unfolding frameFrom
 frame-some f h i p next t x z q r b e g u v w =
     let o : ofZ w64 z ≡ t = ap (ofZ w64) w ∙ ofZ-toZ {w = w64} {n = t} (record { fits = frame-fits f p (h .sections) next t x r b u v .0 }) in

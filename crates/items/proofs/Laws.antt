@@ -56,11 +56,13 @@ pub next-none : (f : List ℕ) (at left system : ℕ) → left ≡ 0 → system 
 unfolding nextAt
 next-none f at left system e = rw (eq-eqb left 0 e)
 
-pub next-broken : (f : List ℕ) (at left system : ℕ) (r : DefinitionAt) → (left ≡ 0 → ⊥) → r ≡ definitionAt f at → r ≡ definitionAs.Broken → system ≡ nextAt f at left system
+pub next-broken : (f : List ℕ) (at left system : ℕ) (r : DefinitionAt) → (left ≡ 0 → ⊥) → r ≡ definitionAt f at → r ≡ definitionAs.Broken
+    → system ≡ nextAt f at left system
 unfolding nextAt offsetOr
 next-broken f at left system r h e g = rw (ne-eqb left 0 h, ← e, g)
 
-pub next-some : (f : List ℕ) (at left system next offset : ℕ) (r : DefinitionAt) → (left ≡ 0 → ⊥) → r ≡ definitionAt f at → r ≡ definitionAs.Whole next offset → offset ≡ nextAt f at left system
+pub next-some : (f : List ℕ) (at left system next offset : ℕ) (r : DefinitionAt) → (left ≡ 0 → ⊥) → r ≡ definitionAt f at
+    → r ≡ definitionAs.Whole next offset → offset ≡ nextAt f at left system
 unfolding nextAt offsetOr
 next-some f at left system next offset r h e g = rw (ne-eqb left 0 h, ← e, g)
 
@@ -98,7 +100,8 @@ module _ (f : List ℕ) (n i : ℕ) (h : i < n) (r : Place) (e : r ≡ endOf 34 
     module _ (t : DefinitionAt) (u : t ≡ definitionAt f p) (system : ℕ) where
       configuration-read : heldConfiguration f n system i ≡ configurationFrom f (n - i - 1) system t
       unfolding from configurationAt
-      configuration-read = configuration-from system ∙ ap (λ (x : Place). from x (configurationAt f (n - i - 1) system)) g ∙ ap (configurationFrom f (n - i - 1) system) (sym u)
+      configuration-read = configuration-from system ∙ ap (λ (x : Place). from x (configurationAt f (n - i - 1) system)) g
+          ∙ ap (configurationFrom f (n - i - 1) system) (sym u)
 
       pub no-offset : t ≡ definitionAs.Broken → Refused (plain 8) ≡ heldConfiguration f n system i
       unfolding configurationFrom
@@ -135,7 +138,8 @@ pub place-far : (f : List ℕ) (n index i : ℕ) → i < n → i < 1000000 → l
 unfolding framePlace
 place-far f n index i h k l = rw (lt-ltb i n h, lt-ltb i 1000000 k, lt-leb index (length f) l)
 
-pub place-there : (f : List ℕ) (n index i p : ℕ) → i < n → i < 1000000 → index ≤ length f → p ≡ readAt f (index + 4 + 16 * i + 4) 8 → End p ≡ framePlace f n index i
+pub place-there : (f : List ℕ) (n index i p : ℕ) → i < n → i < 1000000 → index ≤ length f → p ≡ readAt f (index + 4 + 16 * i + 4) 8
+    → End p ≡ framePlace f n index i
 unfolding framePlace
 place-there f n index i p h k l e = rw (lt-ltb i n h, lt-ltb i 1000000 k, le-leb index (length f) l, e)
 
@@ -146,10 +150,12 @@ unfolding heldSection
 section-past f frames index n i j h = rw (le-ltb j n h)
 
 -- what was read from a place on is all there
-pub read-ends : {A : Type 0} {ok : A → Bool} {bytes : A → List ℕ} {p : Reader A} → Exact ok bytes p → (f : List ℕ) (s n : ℕ) (x : A) → Bytes f → p (drop s f) ≡ good x n → (n ≡ length (bytes x)) × (n ≤ length f - s)
+pub read-ends : {A : Type 0} {ok : A → Bool} {bytes : A → List ℕ} {p : Reader A} → Exact ok bytes p → (f : List ℕ) (s n : ℕ) (x : A) → Bytes f
+    → p (drop s f) ≡ good x n → (n ≡ length (bytes x)) × (n ≤ length f - s)
 read-ends {A} {ok} {bytes} e f s n x b h =
     let (l, m, w) = e .gives (drop s f) x n (bytes-drop s f (slice-bytes f b)) h in
-    let a : length f - s ≡ length (bytes x) + length (drop n (drop s f)) = sym (length-drop s f) ∙ ap length w ∙ length-append (bytes x) (drop n (drop s f)) in
+    let a : length f - s ≡ length (bytes x) + length (drop n (drop s f)) =
+    sym (length-drop s f) ∙ ap length w ∙ length-append (bytes x) (drop n (drop s f)) in
     (m, omega arith)
 
 -- a section that was read has a size, and ends within the file
@@ -258,4 +264,44 @@ pub no-tag-value : (t : TagFound) → t ≡ tag.Nothing → Refused (plain 8) �
 unfolding valueOf
 no-tag-value t e = rw e
 
-pub ruleset laws = (needs, text-place, name-past, configuration-past, next-none, next-broken, next-some, name-nowhere, configuration-nowhere, no-name, name-found, no-offset, offsets-fall, offsets-far, configuration-found, place-past, place-high, place-far, place-there, section-past, section-fits, section-behind, section-size, section-nowhere, section-far, no-size, no-section, section-found, name-some, value-some, item-section, item-section-name, item-configuration, item-system-name, item-system-value, item-user-name, item-user-value, no-tag-name, no-tag-value)
+pub ruleset laws = (
+  needs,
+  text-place,
+  name-past,
+  configuration-past,
+  next-none,
+  next-broken,
+  next-some,
+  name-nowhere,
+  configuration-nowhere,
+  no-name,
+  name-found,
+  no-offset,
+  offsets-fall,
+  offsets-far,
+  configuration-found,
+  place-past,
+  place-high,
+  place-far,
+  place-there,
+  section-past,
+  section-fits,
+  section-behind,
+  section-size,
+  section-nowhere,
+  section-far,
+  no-size,
+  no-section,
+  section-found,
+  name-some,
+  value-some,
+  item-section,
+  item-section-name,
+  item-configuration,
+  item-system-name,
+  item-system-value,
+  item-user-name,
+  item-user-value,
+  no-tag-name,
+  no-tag-value,
+)

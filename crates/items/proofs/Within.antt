@@ -60,8 +60,10 @@ module _ (f : List ℕ) (s l : ℕ) where
   section-within : Bytes f → (frames index n i j : ℕ) → heldSection f frames index n i j ≡ At s l → s + l ≤ length f
   unfolding heldSection sectionFrom sectionAt
   section-within b frames index n i j e =
-      let (p, u, v) = placed (framePlace f frames index i) (sectionFrom f j) s l (passed (ltb j n) (from (framePlace f frames index i) (sectionFrom f j)) s l e .1) in
-      let (q, x, y) = placed (sectionsAt f (p + 16) j) (sectionAt f) s l (passed (leb p (length f)) (from (sectionsAt f (p + 16) j) (sectionAt f)) s l v .1) in
+      let (p, u, v) = placed (framePlace f frames index i) (sectionFrom f j) s l
+      (passed (ltb j n) (from (framePlace f frames index i) (sectionFrom f j)) s l e .1) in
+      let (q, x, y) = placed (sectionsAt f (p + 16) j) (sectionAt f) s l
+      (passed (leb p (length f)) (from (sectionsAt f (p + 16) j) (sectionAt f)) s l v .1) in
       let (end, g, w) = placed (sizedAt f q) (λ end. At (q + 4) (end - q - 4)) s l y in
       let a : s ≡ q + 4 = cc w in
       let c : l ≡ end - q - 4 = cc w in
@@ -94,7 +96,8 @@ module _ (f : List ℕ) (s l : ℕ) where
   configuration-within : (n system i : ℕ) → heldConfiguration f n system i ≡ At s l → s + l ≤ length f
   unfolding heldConfiguration configurationAt configurationFrom
   configuration-within n system i e =
-      let (p, u, v) = placed (definitionPlace f i) (configurationAt f (n - i - 1) system) s l (passed (ltb i n) (from (definitionPlace f i) (configurationAt f (n - i - 1) system)) s l e .1) in
+      let (p, u, v) = placed (definitionPlace f i) (configurationAt f (n - i - 1) system) s l
+      (passed (ltb i n) (from (definitionPlace f i) (configurationAt f (n - i - 1) system)) s l e .1) in
       go (definitionAt f p) v
     where
       go : (d : DefinitionAt) → configurationFrom f (n - i - 1) system d ≡ At s l → s + l ≤ length f
@@ -120,7 +123,8 @@ tag-within f at i n l v m e = counted (ltb i (readAt f at 4)) e
     behind Broken u = let z : _≡_ {A = ℕ} 0 1 = cc in absurd (omega arith)
     behind (End p) u = parts p (tag (drop p f)) refl u
 
-    counted : (b : Bool) → cond b (tagFrom f (endOf (at + 4) (times i (rowName row.Tag) (drop (at + 4) f)))) tagAs.Nothing ≡ tagAs.At n l v m → (n + l ≤ length f) × (v + m ≤ length f)
+    counted : (b : Bool) → cond b (tagFrom f (endOf (at + 4) (times i (rowName row.Tag) (drop (at + 4) f)))) tagAs.Nothing ≡ tagAs.At n l v m
+        → (n + l ≤ length f) × (v + m ≤ length f)
     counted true u = behind (endOf (at + 4) (times i (rowName row.Tag) (drop (at + 4) f))) u
     counted false u = let z : _≡_ {A = ℕ} 0 1 = cc in absurd (omega arith)
 
@@ -148,7 +152,8 @@ held-within f h (item.SystemValue i) s l b e = tag-value f (h .system) i s l (ta
 held-within f h (item.UserName i) s l b e = tag-name f (h .user) i s l (tagFound f (h .user) i) refl e
 held-within f h (item.UserValue i) s l b e = tag-value f (h .user) i s l (tagFound f (h .user) i) refl e
 
-pub held-frame-within : (f : List ℕ) (h : Held) (i p n : ℕ) (time : ℤ) (x : ℕ) → Bytes f → heldFrame f h i ≡ frameAs.Frame p n time x → p + n ≤ length f
+pub held-frame-within : (f : List ℕ) (h : Held) (i p n : ℕ) (time : ℤ) (x : ℕ) → Bytes f → heldFrame f h i ≡ frameAs.Frame p n time x
+    → p + n ≤ length f
 unfolding heldFrame frameBehind frameFrom frameBytes
 held-frame-within f h i p n time x b e = behind (framePlace f (h .frames) (h .index) i) e
   where
@@ -157,7 +162,9 @@ held-frame-within f h i p n time x b e = behind (framePlace f (h .frames) (h .in
     found-within q (Whole next t y) g u =
         let (z, m, k, a, c, d) = found f q (h .sections) next t y g in
         let (l, w) = read-ends (frame-exact (h .sections)) f q m z b k in
-        let o : length (frameBytes z) ≡ 16 + length (flatMap sizedBytes (z .sections)) = length-append (frameHeadBytes (z .time) (z .exposure)) (flatMap sizedBytes (z .sections)) ∙ ap (λ (j : ℕ). j + length (flatMap sizedBytes (z .sections))) (length-head (z .time) (z .exposure)) in
+        let o : length (frameBytes z) ≡ 16 + length (flatMap sizedBytes (z .sections)) =
+        length-append (frameHeadBytes (z .time) (z .exposure)) (flatMap sizedBytes (z .sections))
+        ∙ ap (λ (j : ℕ). j + length (flatMap sizedBytes (z .sections))) (length-head (z .time) (z .exposure)) in
         let s : p ≡ q = cc u in
         let v : n ≡ next - q = cc u in
         omega arith

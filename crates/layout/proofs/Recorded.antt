@@ -29,7 +29,11 @@ pub recorded : (notes : List ℕ) (calls : List Call)
     × (shown (fileOf (session (started notes) calls)) ≡ given (started notes) calls nothingGiven)
 recorded notes calls h c = go (traced notes calls h)
   where
-    go : Reached (session (started notes) calls) (given (started notes) calls nothingGiven) → Legal (given (started notes) calls nothingGiven) × (fileOf (session (started notes) calls) ≡ encode (given (started notes) calls nothingGiven)) × (refusal (fileOf (session (started notes) calls)) ≡ 0) × (shown (fileOf (session (started notes) calls)) ≡ given (started notes) calls nothingGiven)
+    go : Reached (session (started notes) calls) (given (started notes) calls nothingGiven)
+        → Legal (given (started notes) calls nothingGiven) ×
+        (fileOf (session (started notes) calls) ≡ encode (given (started notes) calls nothingGiven))
+        × (refusal (fileOf (session (started notes) calls)) ≡ 0)
+        × (shown (fileOf (session (started notes) calls)) ≡ given (started notes) calls nothingGiven)
     go (inl t) = let z : _≡_ {A = ℕ} 0 1 = cc in absurd (omega arith)
     go (inr t) =
         let l = t .1 .legal in

@@ -36,7 +36,8 @@ pub look-none : (s : List ℕ) (tag : ℕ) → tag ≡ 0 → Finds s value.Nothi
 unfolding tagEntry valueIn Stands
 look-none s tag e = record { found = rw e; there = refl }
 
-pub look-there : (s : List ℕ) (tag : ℕ) (v : Value) → (tag ≡ 0 → ⊥) → Finds s v (tagHolds (rowWith row.Tag tagWithName (drop tag s))) → Finds s v (tagEntry s tag)
+pub look-there : (s : List ℕ) (tag : ℕ) (v : Value) → (tag ≡ 0 → ⊥) → Finds s v (tagHolds (rowWith row.Tag tagWithName (drop tag s)))
+    → Finds s v (tagEntry s tag)
 unfolding tagEntry
 look-there s tag v h g = rw (ne-eqb tag 0 h) g
 
@@ -50,12 +51,14 @@ pub nothing-is-nothing : (v : Value) → v ≡ value.Nothing → true ≡ isNoth
 unfolding isNothing
 nothing-is-nothing v e = rw e
 
-pub same-nothing : (a b : List ℕ) (one other : Value) (r : Bool) → one ≡ value.Nothing → r ≡ isNothing other → r ≡ sameEntry (valueIn a one) (valueIn b other)
+pub same-nothing : (a b : List ℕ) (one other : Value) (r : Bool) → one ≡ value.Nothing → r ≡ isNothing other
+    → r ≡ sameEntry (valueIn a one) (valueIn b other)
 unfolding isNothing sameEntry valueIn
 same-nothing a b one value.Nothing r e f = rw e f
 same-nothing a b one (value.At q m) r e f = rw e f
 
-pub same-missing : (a b : List ℕ) (one other : Value) (p n : ℕ) → one ≡ value.At p n → other ≡ value.Nothing → false ≡ sameEntry (valueIn a one) (valueIn b other)
+pub same-missing : (a b : List ℕ) (one other : Value) (p n : ℕ) → one ≡ value.At p n → other ≡ value.Nothing
+    → false ≡ sameEntry (valueIn a one) (valueIn b other)
 unfolding sameEntry valueIn
 same-missing a b one other p n e f = rw (e, f)
 
@@ -69,12 +72,14 @@ stands-there s v p n h e =
 pub stands-fits : (s : List ℕ) (v : Value) (p n : ℕ) → length s < 2 ^ 64 → Stands s v → v ≡ value.At p n → Fits w64 (p + 1)
 stands-fits s v p n h k e = let l = stands-there s v p n k e in record { fits = omega arith }
 
-pub same-longer : (a b : List ℕ) (one other : Value) (p n q m : ℕ) → Stands a one → Stands b other → one ≡ value.At p n → other ≡ value.At q m → (n ≡ m → ⊥) → false ≡ sameEntry (valueIn a one) (valueIn b other)
+pub same-longer : (a b : List ℕ) (one other : Value) (p n q m : ℕ) → Stands a one → Stands b other → one ≡ value.At p n → other ≡ value.At q m
+    → (n ≡ m → ⊥) → false ≡ sameEntry (valueIn a one) (valueIn b other)
 unfolding sameEntry valueIn
 same-longer a b one other p n q m h k e f w =
     rw (e, f) (name-other a b (p + 1) n (q + 1) m (stands-there a one p n h e) (stands-there b other q m k f) w)
 
-pub same-bytes : (a b : List ℕ) (one other : Value) (p n q m : ℕ) (r : Bool) → Stands a one → Stands b other → one ≡ value.At p n → other ≡ value.At q m → n ≡ m → r ≡ samePart a (p + 1) b (q + 1) n → r ≡ sameEntry (valueIn a one) (valueIn b other)
+pub same-bytes : (a b : List ℕ) (one other : Value) (p n q m : ℕ) (r : Bool) → Stands a one → Stands b other → one ≡ value.At p n
+    → other ≡ value.At q m → n ≡ m → r ≡ samePart a (p + 1) b (q + 1) n → r ≡ sameEntry (valueIn a one) (valueIn b other)
 unfolding sameEntry valueIn
 same-bytes a b one other p n q m r h k e f w g =
     rw (e, f) (name-same a b (p + 1) n (q + 1) m r (stands-there a one p n h e) (stands-there b other q m k f) w g)
@@ -88,14 +93,17 @@ nobody-looked had name s at k = rw (first-of s at, lt-ltb 1 (getD s at 0) k)
 pub entry-stands : (s : List ℕ) (at : ℕ) (v : Value) → v ≡ entryValue s at → Stands s v
 entry-stands s at v e = entry-finds s at v e .there
 
-pub looked-at : (had : Entry) (name s table : List ℕ) (at : ℕ) (v o : Value) (r : Bool) → getD s at 0 ≤ 1 → v ≡ entryValue s at → Finds table o had → r ≡ sameEntry (valueIn s v) (valueIn table o) → not r ≡ differs had (changeWithName name (drop at s))
+pub looked-at : (had : Entry) (name s table : List ℕ) (at : ℕ) (v o : Value) (r : Bool) → getD s at 0 ≤ 1 → v ≡ entryValue s at
+    → Finds table o had → r ≡ sameEntry (valueIn s v) (valueIn table o) → not r ≡ differs had (changeWithName name (drop at s))
 unfolding differs changeWithName agrees
-looked-at had name s table at v o r k f g e = let w = entry-finds s at v f in rw (first-of s at, le-ltb 1 (getD s at 0) k, ← w .found, ← g .found, ← e)
+looked-at had name s table at v o r k f g e = let w = entry-finds s at v f in rw
+    (first-of s at, le-ltb 1 (getD s at 0) k, ← w .found, ← g .found, ← e)
 
 -- ── All changes ──
 
 -- the kind byte of a change that is there
-pub kind-there : (s : List ℕ) (at len end : ℕ) (r : RowPlace) → r ≡ rowOf at (rowName row.Change (drop at s)) → r ≡ rowPlace.Whole len end → at + 1 + len < length s
+pub kind-there : (s : List ℕ) (at len end : ℕ) (r : RowPlace) → r ≡ rowOf at (rowName row.Change (drop at s)) → r ≡ rowPlace.Whole len end
+    → at + 1 + len < length s
 unfolding rest entry
 kind-there s at len end r e f =
     row-rest row.Change s at len end (sym e ∙ f) (λ x m l p q o.
@@ -107,22 +115,61 @@ pub looked-start : (table sheet ps : List ℕ) → lookedBy table (beside ps (ch
 unfolding lookOf
 looked-start table sheet ps = refl
 
-pub looked-done : (table ps s : List ℕ) (at left i : ℕ) (all : Looked) → left ≤ 0 → lookedBy table (beside (drop i ps) (changesAt s at left)) i ≡ all → looked.Agrees ≡ all
+pub looked-done : (table ps s : List ℕ) (at left i : ℕ) (all : Looked) → left ≤ 0
+    → lookedBy table (beside (drop i ps) (changesAt s at left)) i ≡ all → looked.Agrees ≡ all
 unfolding lookedBy
 looked-done table ps s at left i all h e = sym (rw (beside-done (rowWith row.Change changeWithName) ps s i at left h)) ∙ e
 
-pub looked-stop : (table ps s : List ℕ) (at left i : ℕ) (r : RowPlace) (all : Looked) → r ≡ rowOf at (rowName row.Change (drop at s)) → r ≡ rowPlace.Broken → lookedBy table (beside (drop i ps) (changesAt s at left)) i ≡ all → looked.Agrees ≡ all
+pub looked-stop : (table ps s : List ℕ) (at left i : ℕ) (r : RowPlace) (all : Looked) → r ≡ rowOf at (rowName row.Change (drop at s))
+    → r ≡ rowPlace.Broken → lookedBy table (beside (drop i ps) (changesAt s at left)) i ≡ all → looked.Agrees ≡ all
 unfolding lookedBy
 looked-stop table ps s at left i r all f g e = sym (rw (beside-stop row.Change changeWithName ps s i at left r f g)) ∙ e
 
-looked-one : (table ps s : List ℕ) (at left len end i : ℕ) (r : RowPlace) → 0 < left → i + left ≤ length ps → r ≡ rowOf at (rowName row.Change (drop at s)) → r ≡ rowPlace.Whole len end → lookedBy table (beside (drop i ps) (changesAt s at left)) i ≡ cond (differs (tagEntry table (getD ps i 0)) (changeWithName (take len (drop (at + 1) s)) (drop (at + 1 + len) s))) (looked.Conflict i) (lookedBy table (beside (drop (i + 1) ps) (changesAt s end (left - 1))) (i + 1))
+looked-one : (table ps s : List ℕ) (at left len end i : ℕ) (r : RowPlace) → 0 < left → i + left ≤ length ps
+    → r ≡ rowOf at (rowName row.Change (drop at s)) → r ≡ rowPlace.Whole len end
+    → lookedBy table (beside (drop i ps) (changesAt s at left)) i ≡ cond
+    (differs (tagEntry table (getD ps i 0)) (changeWithName (take len (drop (at + 1) s)) (drop (at + 1 + len) s))) (looked.Conflict i)
+    (lookedBy table (beside (drop (i + 1) ps) (changesAt s end (left - 1))) (i + 1))
 unfolding lookedBy
 looked-one table ps s at left len end i r h l f g = rw (beside-step row.Change changeWithName ps s i at left len end r h l f g)
 
-pub looked-hit : (table ps s : List ℕ) (at left len end i : ℕ) (r : RowPlace) (d : Bool) (all : Looked) → 0 < left → i + left ≤ length ps → r ≡ rowOf at (rowName row.Change (drop at s)) → r ≡ rowPlace.Whole len end → d ≡ differs (tagEntry table (getD ps i 0)) (changeWithName (take len (drop (at + 1) s)) (drop (at + 1 + len) s)) → d ≡ true → lookedBy table (beside (drop i ps) (changesAt s at left)) i ≡ all → looked.Conflict i ≡ all
+pub looked-hit : (table ps s : List ℕ) (at left len end i : ℕ) (r : RowPlace) (d : Bool) (all : Looked) → 0 < left → i + left ≤ length ps
+    → r ≡ rowOf at (rowName row.Change (drop at s)) → r ≡ rowPlace.Whole len end
+    → d ≡ differs (tagEntry table (getD ps i 0)) (changeWithName (take len (drop (at + 1) s)) (drop (at + 1 + len) s)) → d ≡ true
+    → lookedBy table (beside (drop i ps) (changesAt s at left)) i ≡ all → looked.Conflict i ≡ all
 looked-hit table ps s at left len end i r d all h l f g j k e = sym (looked-one table ps s at left len end i r h l f g ∙ rw (← j, k)) ∙ e
 
-pub looked-step : (table ps s : List ℕ) (at left len end i : ℕ) (r : RowPlace) (d : Bool) (all : Looked) → 0 < left → i + left ≤ length ps → r ≡ rowOf at (rowName row.Change (drop at s)) → r ≡ rowPlace.Whole len end → d ≡ differs (tagEntry table (getD ps i 0)) (changeWithName (take len (drop (at + 1) s)) (drop (at + 1 + len) s)) → d ≡ false → lookedBy table (beside (drop i ps) (changesAt s at left)) i ≡ all → lookedBy table (beside (drop (i + 1) ps) (changesAt s end (left - 1))) (i + 1) ≡ all
+pub looked-step : (table ps s : List ℕ) (at left len end i : ℕ) (r : RowPlace) (d : Bool) (all : Looked) → 0 < left → i + left ≤ length ps
+    → r ≡ rowOf at (rowName row.Change (drop at s)) → r ≡ rowPlace.Whole len end
+    → d ≡ differs (tagEntry table (getD ps i 0)) (changeWithName (take len (drop (at + 1) s)) (drop (at + 1 + len) s)) → d ≡ false
+    → lookedBy table (beside (drop i ps) (changesAt s at left)) i ≡ all
+    → lookedBy table (beside (drop (i + 1) ps) (changesAt s end (left - 1))) (i + 1) ≡ all
 looked-step table ps s at left len end i r d all h l f g j k e = sym (looked-one table ps s at left len end i r h l f g ∙ rw (← j, k)) ∙ e
 
-pub ruleset laws = (needs, row-name-place, row-fits-2, tag-row-broken, tag-row-value, tag-row-end, tag-fits-3, look-none, look-there, at-is-something, nothing-is-nothing, same-nothing, same-missing, stands-fits, same-longer, same-bytes, nobody-looked, looked-at, entry-stands, kind-there, looked-start, looked-done, looked-stop, looked-hit, looked-step)
+pub ruleset laws = (
+  needs,
+  row-name-place,
+  row-fits-2,
+  tag-row-broken,
+  tag-row-value,
+  tag-row-end,
+  tag-fits-3,
+  look-none,
+  look-there,
+  at-is-something,
+  nothing-is-nothing,
+  same-nothing,
+  same-missing,
+  stands-fits,
+  same-longer,
+  same-bytes,
+  nobody-looked,
+  looked-at,
+  entry-stands,
+  kind-there,
+  looked-start,
+  looked-done,
+  looked-stop,
+  looked-hit,
+  looked-step,
+)

@@ -39,24 +39,31 @@ sum-fits m w h l = record { fits = omega arith }
 pub word-small : (a b c d : ℕ) → a < 256 → b < 256 → c < 256 → d < 256 → a + 256 * (b + 256 * (c + 256 * d)) < 4294967296
 word-small a b c d h k l m = omega arith
 
-pub word-is : (s : List ℕ) (at a b c d : ℕ) → at + 4 ≤ length s → a ≡ getD s at 0 → b ≡ getD s (at + 1) 0 → c ≡ getD s (at + 2) 0 → d ≡ getD s (at + 3) 0 → a + 256 * (b + 256 * (c + 256 * d)) ≡ numberOf (take 4 (drop at s))
+pub word-is : (s : List ℕ) (at a b c d : ℕ) → at + 4 ≤ length s → a ≡ getD s at 0 → b ≡ getD s (at + 1) 0 → c ≡ getD s (at + 2) 0
+    → d ≡ getD s (at + 3) 0 → a + 256 * (b + 256 * (c + 256 * d)) ≡ numberOf (take 4 (drop at s))
 unfolding numberOf
 word-is s at a b c d h e f g i =
     let one : drop at s ≡ getD s at 0 ∷ drop (suc at) s = drop-cons s at 0 (omega arith) in
     let two : drop (suc at) s ≡ getD s (suc at) 0 ∷ drop (suc (suc at)) s = drop-cons s (suc at) 0 (omega arith) in
     let three : drop (suc (suc at)) s ≡ getD s (suc (suc at)) 0 ∷ drop (suc (suc (suc at))) s = drop-cons s (suc (suc at)) 0 (omega arith) in
-    let four : drop (suc (suc (suc at))) s ≡ getD s (suc (suc (suc at))) 0 ∷ drop (suc (suc (suc (suc at)))) s = drop-cons s (suc (suc (suc at))) 0 (omega arith) in
+    let four : drop (suc (suc (suc at))) s ≡ getD s (suc (suc (suc at))) 0 ∷ drop (suc (suc (suc (suc at)))) s =
+    drop-cons s (suc (suc (suc at))) 0 (omega arith) in
     let p : at + 1 ≡ suc at = omega arith in
     let q : at + 2 ≡ suc (suc at) = omega arith in
     let r : at + 3 ≡ suc (suc (suc at)) = omega arith in
-    go (getD s at 0) (getD s (suc at) 0) (getD s (suc (suc at)) 0) (getD s (suc (suc (suc at))) 0) (drop (suc (suc (suc (suc at)))) s) e (rw p at f) (rw q at g) (rw r at i) (ap (λ (l : List ℕ). numberOf (take 4 l)) (one ∙ ap (λ (l : List ℕ). getD s at 0 ∷ l) (two ∙ ap (λ (l : List ℕ). getD s (suc at) 0 ∷ l) (three ∙ ap (λ (l : List ℕ). getD s (suc (suc at)) 0 ∷ l) four))))
+    go (getD s at 0) (getD s (suc at) 0) (getD s (suc (suc at)) 0) (getD s (suc (suc (suc at))) 0) (drop (suc (suc (suc (suc at)))) s) e
+    (rw p at f) (rw q at g) (rw r at i) (ap (λ (l : List ℕ). numberOf (take 4 l))
+    (one ∙ ap (λ (l : List ℕ). getD s at 0 ∷ l) (two ∙ ap (λ (l : List ℕ). getD s (suc at) 0 ∷ l)
+    (three ∙ ap (λ (l : List ℕ). getD s (suc (suc at)) 0 ∷ l) four))))
   where
-    go : (x y z w : ℕ) (t : List ℕ) → a ≡ x → b ≡ y → c ≡ z → d ≡ w → {u : ℕ} → u ≡ numberOf (take 4 (x ∷ y ∷ z ∷ w ∷ t)) → a + 256 * (b + 256 * (c + 256 * d)) ≡ u
+    go : (x y z w : ℕ) (t : List ℕ) → a ≡ x → b ≡ y → c ≡ z → d ≡ w → {u : ℕ} → u ≡ numberOf (take 4 (x ∷ y ∷ z ∷ w ∷ t))
+        → a + 256 * (b + 256 * (c + 256 * d)) ≡ u
     go x y z w t e f g i {u} j = omega arith
 
 -- ── Words and bytes of a name ──
 
-pub words-more : (s : List ℕ) (m i left w n : ℕ) (all : ℕ) → 0 < left → w ≡ numberOf (take 4 (drop i s)) → n ≡ mix m w → mixWords left m (drop i s) ≡ all → mixWords (left - 1) n (drop (i + 4) s) ≡ all
+pub words-more : (s : List ℕ) (m i left w n : ℕ) (all : ℕ) → 0 < left → w ≡ numberOf (take 4 (drop i s)) → n ≡ mix m w
+    → mixWords left m (drop i s) ≡ all → mixWords (left - 1) n (drop (i + 4) s) ≡ all
 unfolding mixWords
 words-more s m i zero w n all h e f g = absurd (omega arith)
 words-more s m i (suc left) w n all h e f g =
@@ -74,7 +81,8 @@ words-there s i left h l = omega arith
 pub words-left : (s : List ℕ) (i left : ℕ) → 0 < left → i + 4 * left ≤ length s → i + 4 + 4 * (left - 1) ≤ length s
 words-left s i left h l = omega arith
 
-pub bytes-more : (s : List ℕ) (m i left b n : ℕ) (all : ℕ) → 0 < left → i + left ≤ length s → b ≡ getD s i 0 → n ≡ mix m b → mixBytes m (take left (drop i s)) ≡ all → mixBytes n (take (left - 1) (drop (i + 1) s)) ≡ all
+pub bytes-more : (s : List ℕ) (m i left b n : ℕ) (all : ℕ) → 0 < left → i + left ≤ length s → b ≡ getD s i 0 → n ≡ mix m b
+    → mixBytes m (take left (drop i s)) ≡ all → mixBytes n (take (left - 1) (drop (i + 1) s)) ≡ all
 unfolding mixBytes
 bytes-more s m i zero b n all h l e f g = absurd (omega arith)
 bytes-more s m i (suc left) b n all h l e f g =
@@ -122,18 +130,21 @@ words-part zero m n t h = refl
 words-part (suc k) m n t h =
     rw (take-take 4 n t (omega arith), drop-part 4 n t (omega arith)) (words-part k (mix m (numberOf (take 4 t))) (n - 4) (drop 4 t) (omega arith))
 
-pub of-few : (s : List ℕ) (at n m q r : ℕ) → n ≤ length s → at ≤ length s - n → n < 4 → m ≡ mixBytes 0 (take n (drop at s)) → q ≡ mix m (n % 256) → r ≡ mix q 0 → r ≡ markOf s at n
+pub of-few : (s : List ℕ) (at n m q r : ℕ) → n ≤ length s → at ≤ length s - n → n < 4 → m ≡ mixBytes 0 (take n (drop at s)) → q ≡ mix m (n % 256)
+    → r ≡ mix q 0 → r ≡ markOf s at n
 unfolding markFor
 of-few s at n m q r l h k e f g =
     let w : length (take n (drop at s)) ≡ n = part-long s at n (omega arith) in
     g ∙ sym (of-there s at n (omega arith) ∙ rw (w, lt-ltb n 4 k, ← e, ← f))
 
-pub of-many : (s : List ℕ) (at n words last all long r : ℕ) → n ≤ length s → at ≤ length s - n → 4 ≤ n → words ≡ mixWords (n / 4) 0 (drop at s) → last ≡ numberOf (take 4 (drop (at + (n - 4)) s)) → all ≡ mix words last → long ≡ mix all (n % 256) → r ≡ mix long 0 → r ≡ markOf s at n
+pub of-many : (s : List ℕ) (at n words last all long r : ℕ) → n ≤ length s → at ≤ length s - n → 4 ≤ n → words ≡ mixWords (n / 4) 0 (drop at s)
+    → last ≡ numberOf (take 4 (drop (at + (n - 4)) s)) → all ≡ mix words last → long ≡ mix all (n % 256) → r ≡ mix long 0 → r ≡ markOf s at n
 unfolding markFor
 of-many s at n words last all long r l h k e f g i j =
     let q : length (take n (drop at s)) ≡ n = part-long s at n (omega arith) in
     let o : n - (n - 4) ≡ 4 = omega arith in
-    let p : drop (n - 4) (take n (drop at s)) ≡ take 4 (drop (at + (n - 4)) s) = drop-part (n - 4) n (drop at s) (omega arith) ∙ rw (o, drop-drop (n - 4) at s) in
+    let p : drop (n - 4) (take n (drop at s)) ≡ take 4 (drop (at + (n - 4)) s) =
+    drop-part (n - 4) n (drop at s) (omega arith) ∙ rw (o, drop-drop (n - 4) at s) in
     j ∙ sym (of-there s at n (omega arith) ∙ rw (q, le-ltb n 4 k, p, words-part (n / 4) 0 n (drop at s) (omega arith), ← e, ← f, ← g, ← i))
 
 pub last-there : (s : List ℕ) (at n : ℕ) → n ≤ length s → at ≤ length s - n → 4 ≤ n → at + (n - 4) + 4 ≤ length s
@@ -185,12 +196,14 @@ bits-added w m =
     let three : ℕ = bitOr two (2 ^ third m) in
     and-true (hasBit three (first m)) (hasBit three (second m) && hasBit three (third m))
     (bit-stays two (2 ^ third m) (first m) (bit-stays one (2 ^ second m) (first m) (bit-added w (first m))))
-    (and-true (hasBit three (second m)) (hasBit three (third m)) (bit-stays two (2 ^ third m) (second m) (bit-added one (second m))) (bit-added two (third m)))
+    (and-true (hasBit three (second m)) (hasBit three (third m)) (bit-stays two (2 ^ third m) (second m) (bit-added one (second m)))
+    (bit-added two (third m)))
 
 bit-kept : (w m k : ℕ) → hasBit w k ≡ true → hasBit (withBits w m) k ≡ true
 unfolding withBits
 bit-kept w m k h =
-    bit-stays (bitOr (bitOr w (2 ^ first m)) (2 ^ second m)) (2 ^ third m) k (bit-stays (bitOr w (2 ^ first m)) (2 ^ second m) k (bit-stays w (2 ^ first m) k h))
+    bit-stays (bitOr (bitOr w (2 ^ first m)) (2 ^ second m)) (2 ^ third m) k
+    (bit-stays (bitOr w (2 ^ first m)) (2 ^ second m) k (bit-stays w (2 ^ first m) k h))
 
 bits-kept : (w m k : ℕ) → hasBits w k ≡ true → hasBits (withBits w m) k ≡ true
 unfolding hasBits
@@ -204,7 +217,8 @@ pub bit-is : (w k : ℕ) → eqb (w / 2 ^ k % 2) 1 ≡ hasBit w k
 unfolding hasBit
 bit-is w k = refl
 
-pub bits-are : (w m a b c : ℕ) → a ≡ 2 ^ (m / 33554432 % 64) → b ≡ 2 ^ (m / 524288 % 64) → c ≡ 2 ^ (m / 8192 % 64) → bitOr (bitOr (bitOr w a) b) c ≡ withBits w m
+pub bits-are : (w m a b c : ℕ) → a ≡ 2 ^ (m / 33554432 % 64) → b ≡ 2 ^ (m / 524288 % 64) → c ≡ 2 ^ (m / 8192 % 64)
+    → bitOr (bitOr (bitOr w a) b) c ≡ withBits w m
 unfolding withBits
 bits-are w m a b c e f g = rw (e, f, g)
 
@@ -212,11 +226,13 @@ pub no-first : (w m : ℕ) (a : Bool) → a ≡ hasBit w (m / 33554432 % 64) →
 unfolding hasBits
 no-first w m a e f = rw (sym e ∙ f)
 
-pub no-second : (w m : ℕ) (a b : Bool) → a ≡ hasBit w (m / 33554432 % 64) → a ≡ true → b ≡ hasBit w (m / 524288 % 64) → b ≡ false → false ≡ hasBits w m
+pub no-second : (w m : ℕ) (a b : Bool) → a ≡ hasBit w (m / 33554432 % 64) → a ≡ true → b ≡ hasBit w (m / 524288 % 64) → b ≡ false
+    → false ≡ hasBits w m
 unfolding hasBits
 no-second w m a b e f g h = rw (sym e ∙ f, sym g ∙ h)
 
-pub by-third : (w m : ℕ) (a b r : Bool) → a ≡ hasBit w (m / 33554432 % 64) → a ≡ true → b ≡ hasBit w (m / 524288 % 64) → b ≡ true → r ≡ hasBit w (m / 8192 % 64) → r ≡ hasBits w m
+pub by-third : (w m : ℕ) (a b r : Bool) → a ≡ hasBit w (m / 33554432 % 64) → a ≡ true → b ≡ hasBit w (m / 524288 % 64) → b ≡ true
+    → r ≡ hasBit w (m / 8192 % 64) → r ≡ hasBits w m
 unfolding hasBits
 by-third w m a b r e f g h i = i ∙ rw (sym e ∙ f, sym g ∙ h)
 
@@ -252,7 +268,8 @@ pub set-far : (ms : List ℕ) (m : ℕ) → 1099511627776 ≤ m → ms ≡ withM
 unfolding withMark
 set-far ms m h = rw (takes-far ms m h)
 
-pub set-done : (ms : List ℕ) (m w x : ℕ) → 512 ≤ length ms → m < 1099511627776 → w ≡ getD ms (m / 2147483648) 0 → x ≡ withBits w m → set ms (m / 2147483648) x ≡ withMark ms m
+pub set-done : (ms : List ℕ) (m w x : ℕ) → 512 ≤ length ms → m < 1099511627776 → w ≡ getD ms (m / 2147483648) 0 → x ≡ withBits w m
+    → set ms (m / 2147483648) x ≡ withMark ms m
 unfolding withMark
 set-done ms m w x h l e f = rw (takes-yes ms m h l, f, e)
 
@@ -267,7 +284,8 @@ pub told-far : (ms : List ℕ) (m : ℕ) → 1099511627776 ≤ m → true ≡ is
 unfolding isMarked
 told-far ms m h = rw (takes-far ms m h)
 
-pub told : (ms : List ℕ) (m w : ℕ) (r : Bool) → 512 ≤ length ms → m < 1099511627776 → w ≡ getD ms (m / 2147483648) 0 → r ≡ hasBits w m → r ≡ isMarked ms m
+pub told : (ms : List ℕ) (m w : ℕ) (r : Bool) → 512 ≤ length ms → m < 1099511627776 → w ≡ getD ms (m / 2147483648) 0 → r ≡ hasBits w m
+    → r ≡ isMarked ms m
 unfolding isMarked
 told ms m w r h l e f = f ∙ rw (takes-yes ms m h l, e)
 
@@ -323,7 +341,46 @@ mark-stays ms m k h = go (takes ms m)
     same-takes = rw (length-set ms (place m) (withBits (getD ms (place m) 0) m))
 
     go : (b : Bool) → isMarked (cond b (set ms (place m) (withBits (getD ms (place m) 0) m)) ms) k ≡ true
-    go true = by-bits (set ms (place m) (withBits (getD ms (place m) 0) m)) k (λ t. words-keep ms (place m) (place k) m k (bits-there ms k h (sym same-takes ∙ t)))
+    go true = by-bits (set ms (place m) (withBits (getD ms (place m) 0) m)) k
+        (λ t. words-keep ms (place m) (place k) m k (bits-there ms k h (sym same-takes ∙ t)))
     go false = h
 
-pub ruleset laws = (needs, not-true, not-false, mixed, below, times-fits, sum-fits, word-small, word-is, words-more, words-done, words-there, words-left, bytes-more, bytes-done, byte-small, of-short, of-far, of-few, of-many, last-there, last-fits, words-all-there, length-small, one-bit, bit-is, bits-are, no-first, no-second, by-third, set-short, set-far, set-done, word-there, told-short, told-far, told)
+pub ruleset laws = (
+  needs,
+  not-true,
+  not-false,
+  mixed,
+  below,
+  times-fits,
+  sum-fits,
+  word-small,
+  word-is,
+  words-more,
+  words-done,
+  words-there,
+  words-left,
+  bytes-more,
+  bytes-done,
+  byte-small,
+  of-short,
+  of-far,
+  of-few,
+  of-many,
+  last-there,
+  last-fits,
+  words-all-there,
+  length-small,
+  one-bit,
+  bit-is,
+  bits-are,
+  no-first,
+  no-second,
+  by-third,
+  set-short,
+  set-far,
+  set-done,
+  word-there,
+  told-short,
+  told-far,
+  told,
+)

@@ -22,7 +22,8 @@ mixBytes m (b ∷ bs) = mixBytes (mix m b) bs
 
 -- the mark of a name: its words and, over them, its last four bytes; of a shorter name its bytes; its length; and a last round
 unfoldable pub markFor : List ℕ → ℕ
-markFor s = mix (mix (cond (ltb (length s) 4) (mixBytes 0 s) (mix (mixWords (length s / 4) 0 s) (numberOf (drop (length s - 4) s)))) (length s % 256)) 0
+markFor s = mix (mix (cond (ltb (length s) 4) (mixBytes 0 s) (mix (mixWords (length s / 4) 0 s) (numberOf (drop (length s - 4) s))))
+    (length s % 256)) 0
 
 -- the mark of n bytes at a place; 0 where they are not all there
 unfoldable pub markOf : List ℕ → (at n : ℕ) → ℕ

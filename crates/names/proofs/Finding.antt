@@ -25,14 +25,22 @@ cond-cases : {A G : Type 0} (b : Bool) (x y z : A) → cond b x y ≡ z → (b �
 cond-cases true x y z e t f = t refl e
 cond-cases false x y z e t f = f refl e
 
-module _ {A : Type 0} (k : Row) (p : Reader A) (name : A → List ℕ) (leads : (t : List ℕ) (x : A) (n : ℕ) → p t ≡ good x n → rowName k t ≡ good (name x) n) (v s : List ℕ) where
+module _ {A : Type 0} (k : Row) (p : Reader A) (name : A → List ℕ) (leads : (t : List ℕ) (x : A) (n : ℕ) → p t ≡ good x n
+    → rowName k t ≡ good (name x) n) (v s : List ℕ) where
   -- not found: no row has the name
-  pub find-nothing : (n i at m : ℕ) (xs : List A) → times n p (drop at s) ≡ good xs m → found v n (rowName k) s i at ≡ Nothing → among v (map name xs) ≡ false
+  pub find-nothing : (n i at m : ℕ) (xs : List A) → times n p (drop at s) ≡ good xs m → found v n (rowName k) s i at ≡ Nothing
+      → among v (map name xs) ≡ false
   find-nothing n i at m xs e f =
-      rw (← names-times n (rowName k) (drop at s) (map name xs) m (times-led p (rowName k) name leads n (drop at s) xs m e), among-found v n (rowName k) s i at, f)
+      rw (
+        ← names-times n (rowName k) (drop at s) (map name xs) m (times-led p (rowName k) name leads n (drop at s) xs m e),
+        among-found v n (rowName k) s i at,
+        f,
+      )
 
   -- found: row number b has it, none ahead of it does, and it stands at q
-  pub find-at : {G : Type 0} (d : A) (n i at m j q : ℕ) (xs : List A) → times n p (drop at s) ≡ good xs m → found v n (rowName k) s i at ≡ At j q → ((b u w : ℕ) → j ≡ i + b → b < n → among v (map name (take b xs)) ≡ false → same v (name (getD xs b d)) ≡ true → times b p (drop at s) ≡ good (take b xs) u → q ≡ at + u → p (drop q s) ≡ good (getD xs b d) w → G) → G
+  pub find-at : {G : Type 0} (d : A) (n i at m j q : ℕ) (xs : List A) → times n p (drop at s) ≡ good xs m → found v n (rowName k) s i at ≡ At j q
+      → ((b u w : ℕ) → j ≡ i + b → b < n → among v (map name (take b xs)) ≡ false → same v (name (getD xs b d)) ≡ true
+      → times b p (drop at s) ≡ good (take b xs) u → q ≡ at + u → p (drop q s) ≡ good (getD xs b d) w → G) → G
   unfolding found times among
   find-at d zero i at m j q xs e f w = let z : _≡_ {A = ℕ} 0 1 = cc in absurd (omega arith)
   find-at {G} d (suc n) i at m j q xs e f w =
@@ -44,7 +52,8 @@ module _ {A : Type 0} (k : Row) (p : Reader A) (name : A → List ℕ) (leads : 
       w 0 0 c (omega arith) (omega arith) refl (rw o t) refl (omega arith) (rw (o, a) g))
       (λ t l.
       find-at d n (i + 1) (at + c) y j q ys (rw (← drop-drop c at s) h) l (λ b u z a l′ among′ same′ times′ q′ p′.
-      w (suc b) (c + u) z (omega arith) (omega arith) (rw (o, t) among′) (rw o same′) (rw o (times-suc-takes p b (drop at s) x (take b ys) c u g (rw (drop-drop c at s) times′))) (omega arith) (rw o p′))))
+      w (suc b) (c + u) z (omega arith) (omega arith) (rw (o, t) among′) (rw o same′)
+      (rw o (times-suc-takes p b (drop at s) x (take b ys) c u g (rw (drop-drop c at s) times′))) (omega arith) (rw o p′))))
 
 -- ── Tables and sheets ──
 
@@ -62,7 +71,8 @@ unfolding among tagNames numberOfTag
 number-none v [] e = refl
 number-none v (t ∷ ts) e = let (p, q) = or-false (same v (t .name)) (among v (tagNames ts)) e in rw p (ap suc (number-none v ts q))
 
-pub number-at : (v : List ℕ) (ts : List Tag) (b : ℕ) → b < length ts → among v (tagNames (take b ts)) ≡ false → same v (getD ts b noTag .name) ≡ true → numberOfTag v ts ≡ b
+pub number-at : (v : List ℕ) (ts : List Tag) (b : ℕ) → b < length ts → among v (tagNames (take b ts)) ≡ false
+    → same v (getD ts b noTag .name) ≡ true → numberOfTag v ts ≡ b
 unfolding among tagNames numberOfTag
 number-at v [] b l e f = absurd (omega arith)
 number-at v (t ∷ ts) zero l e f = rw f

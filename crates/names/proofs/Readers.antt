@@ -31,7 +31,10 @@ row-of k t v r n m e f = then-takes string (λ w. rest k then λ z. give w) t v 
 abbrev Leads : {A : Type 0} → Row → Reader A → Type 0
 Leads {A} k q = (t : List ℕ) (x : A) (n : ℕ) → q t ≡ good x n → (r : List ℕ) × (rest k t ≡ good r n)
 
-named-row : {A B : Type 0} (k : Row) (p : Reader (List ℕ)) (q : Reader A) (make : List ℕ → A → B) → ((t v : List ℕ) (n : ℕ) → p t ≡ good v n → string t ≡ good v n) → Leads k q → (name : B → List ℕ) → ((v : List ℕ) (x : A) → name (make v x) ≡ v) → (t : List ℕ) (y : B) (m : ℕ) → (p then λ v. q then λ x. give (make v x)) t ≡ good y m → rowName k t ≡ good (name y) m
+named-row : {A B : Type 0} (k : Row) (p : Reader (List ℕ)) (q : Reader A) (make : List ℕ → A → B)
+    → ((t v : List ℕ) (n : ℕ) → p t ≡ good v n → string t ≡ good v n) → Leads k q → (name : B → List ℕ)
+    → ((v : List ℕ) (x : A) → name (make v x) ≡ v) → (t : List ℕ) (y : B) (m : ℕ) → (p then λ v. q then λ x. give (make v x)) t ≡ good y m
+    → rowName k t ≡ good (name y) m
 named-row k p q make ps leads name nm t y m e =
     then-parts p (λ v. q then λ x. give (make v x)) t y m e (λ v n j f g h.
     give-parts q (make v) (drop n t) y j g (λ x i o.
@@ -81,7 +84,8 @@ pub entry-leads : (kind m : ℕ) (t : List ℕ) (x : Entry) → entryOf kind t �
 unfolding entryOf entryValue malformed give tagValue
 entry-leads kind m t x e = go (eqb kind 0) (eqb kind 1) refl refl e
   where
-    go : (a b : Bool) → eqb kind 0 ≡ a → eqb kind 1 ≡ b → cond a (give absent) (cond b (tagValue then λ v. give (holds v)) malformed) t ≡ good x m → (r : List ℕ) × (entryValue kind t ≡ good r m)
+    go : (a b : Bool) → eqb kind 0 ≡ a → eqb kind 1 ≡ b → cond a (give absent) (cond b (tagValue then λ v. give (holds v)) malformed) t ≡ good x m
+        → (r : List ℕ) × (entryValue kind t ≡ good r m)
     go true true p q h = let z : _≡_ {A = ℕ} 0 1 = sym (eqb-true kind 0 p) ∙ eqb-true kind 1 q in absurd (omega arith)
     go true false p q h = no-value kind m t q cc
     go false true p q h = give-parts tagValue holds t x m h (λ v i o. (v, rw q (only-parts legalTagValue string t v m i .0)))
@@ -91,12 +95,15 @@ pub seen-leads : (kind m : ℕ) (t : List ℕ) (x : Seen) → seenOf kind t ≡ 
 unfolding seenOf give
 seen-leads kind m t x e = go (eqb kind 2) (eqb kind 1) refl refl e
   where
-    go : (a b : Bool) → eqb kind 2 ≡ a → eqb kind 1 ≡ b → cond a (give nobodyLooked) (entryOf kind then λ e. give (saw e)) t ≡ good x m → (r : List ℕ) × (entryValue kind t ≡ good r m)
+    go : (a b : Bool) → eqb kind 2 ≡ a → eqb kind 1 ≡ b → cond a (give nobodyLooked) (entryOf kind then λ e. give (saw e)) t ≡ good x m
+        → (r : List ℕ) × (entryValue kind t ≡ good r m)
     go true true p q h = let z : _≡_ {A = ℕ} 2 1 = sym (eqb-true kind 2 p) ∙ eqb-true kind 1 q in absurd (omega arith)
     go true false p q h = no-value kind m t q cc
     go false b p q h = give-parts (entryOf kind) saw t x m h (λ en i o. entry-leads kind m t en i)
 
-pub kind-leads : {A : Type 0} (q : ℕ → Reader A) → ((kind m : ℕ) (t : List ℕ) (x : A) → q kind t ≡ good x m → (r : List ℕ) × (entryValue kind t ≡ good r m)) → (t : List ℕ) (x : A) (m : ℕ) → (number 1 then q) t ≡ good x m → (r : List ℕ) × (entry t ≡ good r m)
+pub kind-leads : {A : Type 0} (q : ℕ → Reader A) → ((kind m : ℕ) (t : List ℕ) (x : A) → q kind t ≡ good x m
+    → (r : List ℕ) × (entryValue kind t ≡ good r m)) → (t : List ℕ) (x : A) (m : ℕ) → (number 1 then q) t ≡ good x m
+    → (r : List ℕ) × (entry t ≡ good r m)
 unfolding entry entryValue
 kind-leads q leads t x m e =
     then-parts (number 1) q t x m e (λ kind n k f g h.
@@ -106,8 +113,10 @@ kind-leads q leads t x m e =
 pub change-row : (t : List ℕ) (x : Change) (n : ℕ) → change t ≡ good x n → rowName row.Change t ≡ good (x .name) n
 unfolding change rest
 change-row t x n e =
-    then-parts (only legalTagName string) (λ name. (number 1 then seenOf) then λ s. (number 1 then entryOf) then λ e. give (record { name = name; seen = s; new = e })) t x n e (λ v a b f g h.
-    then-parts (number 1 then seenOf) (λ s. (number 1 then entryOf) then λ e. give (record { name = v; seen = s; new = e })) (drop a t) x b g (λ s c d i j k.
+    then-parts (only legalTagName string) (λ name. (number 1 then seenOf) then λ s. (number 1 then entryOf) then λ e. give
+    (record { name = name; seen = s; new = e })) t x n e (λ v a b f g h.
+    then-parts (number 1 then seenOf) (λ s. (number 1 then entryOf) then λ e. give (record { name = v; seen = s; new = e })) (drop a t) x b g
+    (λ s c d i j k.
     give-parts (number 1 then entryOf) (λ e. record { name = v; seen = s; new = e }) (drop c (drop a t)) x d j (λ en l o.
     let (y, p) = kind-leads seenOf seen-leads (drop a t) s c i in
     let (z, q) = kind-leads entryOf entry-leads (drop c (drop a t)) en d l in
@@ -119,25 +128,35 @@ change-row t x n e =
 pub names-times : (n : ℕ) (p : Reader (List ℕ)) (t : List ℕ) (vs : List (List ℕ)) (m : ℕ) → times n p t ≡ good vs m → names n p t ≡ vs
 unfolding times names
 names-times zero p t vs m e = cc
-names-times (suc n) p t vs m e = times-parts p n t vs m e (λ v i us j f g h o. rw (h, f, names) (ap (λ (l : List (List ℕ)). v ∷ l) (names-times n p (drop i t) us j g)))
+names-times (suc n) p t vs m e =
+    times-parts p n t vs m e (λ v i us j f g h o. rw (h, f, names) (ap (λ (l : List (List ℕ)). v ∷ l) (names-times n p (drop i t) us j g)))
 
 -- where the rows parse, their names are compared
-pub distinct-rows : (s : List ℕ) (at n m : ℕ) (k : Row) (vs : List (List ℕ)) → times n (rowName k) (drop at s) ≡ good vs m → distinctNames s at n k ≡ distinct vs
+pub distinct-rows : (s : List ℕ) (at n m : ℕ) (k : Row) (vs : List (List ℕ)) → times n (rowName k) (drop at s) ≡ good vs m
+    → distinctNames s at n k ≡ distinct vs
 unfolding distinctNames
 distinct-rows s at n m k vs e = ap distinct (names-times n (rowName k) (drop at s) vs m e)
 
-pub distinct-tags : (s : List ℕ) (at n m : ℕ) (ts : List Tag) → times n tag (drop at s) ≡ good ts m → distinctNames s at n row.Tag ≡ distinct (tagNames ts)
+pub distinct-tags : (s : List ℕ) (at n m : ℕ) (ts : List Tag) → times n tag (drop at s) ≡ good ts m
+    → distinctNames s at n row.Tag ≡ distinct (tagNames ts)
 unfolding tagNames
-distinct-tags s at n m ts e = distinct-rows s at n m row.Tag (tagNames ts) (times-led tag (rowName row.Tag) (λ t. t .name) tag-row n (drop at s) ts m e)
+distinct-tags s at n m ts e = distinct-rows s at n m row.Tag (tagNames ts)
+    (times-led tag (rowName row.Tag) (λ t. t .name) tag-row n (drop at s) ts m e)
 
-pub distinct-definitions : (s : List ℕ) (at n m : ℕ) (ds : List Definition) → times n definition (drop at s) ≡ good ds m → distinctNames s at n row.Definition ≡ distinct (definedNames ds)
+pub distinct-definitions : (s : List ℕ) (at n m : ℕ) (ds : List Definition) → times n definition (drop at s) ≡ good ds m
+    → distinctNames s at n row.Definition ≡ distinct (definedNames ds)
 unfolding definedNames
-distinct-definitions s at n m ds e = distinct-rows s at n m row.Definition (definedNames ds) (times-led definition (rowName row.Definition) (λ d. d .name) definition-row n (drop at s) ds m e)
+distinct-definitions s at n m ds e = distinct-rows s at n m row.Definition (definedNames ds)
+    (times-led definition (rowName row.Definition) (λ d. d .name) definition-row n (drop at s) ds m e)
 
-pub distinct-set-up : (s : List ℕ) (at n m : ℕ) (ss : List Section) → times n setUpSection (drop at s) ≡ good ss m → distinctNames s at n row.SetUp ≡ distinct (sectionNames ss)
+pub distinct-set-up : (s : List ℕ) (at n m : ℕ) (ss : List Section) → times n setUpSection (drop at s) ≡ good ss m
+    → distinctNames s at n row.SetUp ≡ distinct (sectionNames ss)
 unfolding sectionNames
-distinct-set-up s at n m ss e = distinct-rows s at n m row.SetUp (sectionNames ss) (times-led setUpSection (rowName row.SetUp) (λ s. s .name) set-up-row n (drop at s) ss m e)
+distinct-set-up s at n m ss e = distinct-rows s at n m row.SetUp (sectionNames ss)
+    (times-led setUpSection (rowName row.SetUp) (λ s. s .name) set-up-row n (drop at s) ss m e)
 
-pub distinct-changes : (s : List ℕ) (at n m : ℕ) (cs : List Change) → times n change (drop at s) ≡ good cs m → distinctNames s at n row.Change ≡ distinct (changeNames cs)
+pub distinct-changes : (s : List ℕ) (at n m : ℕ) (cs : List Change) → times n change (drop at s) ≡ good cs m
+    → distinctNames s at n row.Change ≡ distinct (changeNames cs)
 unfolding changeNames
-distinct-changes s at n m cs e = distinct-rows s at n m row.Change (changeNames cs) (times-led change (rowName row.Change) (λ c. c .name) change-row n (drop at s) cs m e)
+distinct-changes s at n m cs e = distinct-rows s at n m row.Change (changeNames cs)
+    (times-led change (rowName row.Change) (λ c. c .name) change-row n (drop at s) cs m e)

@@ -29,7 +29,8 @@ read-start s at w = simp sub-self
 pub one-fits : (w : ℕ) → 0 < 256 ^ (w - w)
 one-fits w = simp sub-self (omega arith)
 
-pub read-more : (s : List ℕ) (at w left n b : ℕ) → 0 < left → left ≤ w → at + w ≤ length s → n ≡ numberOf (take (w - left) (drop (at + left) s)) → b ≡ getD s (at + (left - 1)) 0 → n * 256 + b ≡ numberOf (take (w - (left - 1)) (drop (at + (left - 1)) s))
+pub read-more : (s : List ℕ) (at w left n b : ℕ) → 0 < left → left ≤ w → at + w ≤ length s → n ≡ numberOf (take (w - left) (drop (at + left) s))
+    → b ≡ getD s (at + (left - 1)) 0 → n * 256 + b ≡ numberOf (take (w - (left - 1)) (drop (at + (left - 1)) s))
 unfolding numberOf
 read-more s at w (suc left) n b h l f e g =
     let d : drop (at + left) s ≡ getD s (at + left) 0 ∷ drop (suc (at + left)) s = drop-cons s (at + left) 0 (omega arith) in
@@ -83,7 +84,8 @@ halves (a ∷ b ∷ []) = omega arith
 halves (a ∷ b ∷ c ∷ []) = omega arith
 halves (a ∷ b ∷ c ∷ d ∷ t) = omega arith
 
-pub read-halves : (s : List ℕ) (at w low high : ℕ) → w ≡ 8 → w ≤ length s → at ≤ length s - w → low ≡ numberOf (take 4 (drop at s)) → high ≡ numberOf (take 4 (drop (at + 4) s)) → low + high * 4294967296 ≡ readAt s at w
+pub read-halves : (s : List ℕ) (at w low high : ℕ) → w ≡ 8 → w ≤ length s → at ≤ length s - w → low ≡ numberOf (take 4 (drop at s))
+    → high ≡ numberOf (take 4 (drop (at + 4) s)) → low + high * 4294967296 ≡ readAt s at w
 read-halves s at w low high e l h f g =
     let q : at + 8 ≤ length s = omega arith in
     let i = halves (drop at s) in
@@ -133,14 +135,16 @@ write-start s at w n =
     let q : w - 0 ≡ w = omega arith in
     rw (p, q)
 
-pub write-more : (s s₀ : List ℕ) (at w n rest i : ℕ) → i < w → sets s (at + i) (bytesOf (w - i) rest) ≡ sets s₀ at (bytesOf w n) → sets (set s (at + i) (rest % 256)) (at + (i + 1)) (bytesOf (w - (i + 1)) (rest / 256)) ≡ sets s₀ at (bytesOf w n)
+pub write-more : (s s₀ : List ℕ) (at w n rest i : ℕ) → i < w → sets s (at + i) (bytesOf (w - i) rest) ≡ sets s₀ at (bytesOf w n)
+    → sets (set s (at + i) (rest % 256)) (at + (i + 1)) (bytesOf (w - (i + 1)) (rest / 256)) ≡ sets s₀ at (bytesOf w n)
 unfolding bytesOf
 write-more s s₀ at w n rest i h e =
     let p : w - i ≡ suc (w - (i + 1)) = omega arith in
     let q : at + (i + 1) ≡ suc (at + i) = omega arith in
     rw q (sym (rw p) ∙ e)
 
-pub write-end : (s s₀ : List ℕ) (at w n rest i : ℕ) → w ≤ i → i ≤ w → at + w ≤ length s → length s ≡ length s₀ → sets s (at + i) (bytesOf (w - i) rest) ≡ sets s₀ at (bytesOf w n) → s ≡ writeAt s₀ at w n
+pub write-end : (s s₀ : List ℕ) (at w n rest i : ℕ) → w ≤ i → i ≤ w → at + w ≤ length s → length s ≡ length s₀
+    → sets s (at + i) (bytesOf (w - i) rest) ≡ sets s₀ at (bytesOf w n) → s ≡ writeAt s₀ at w n
 unfolding writeAt bytesOf
 write-end s s₀ at w n rest i h k f l e =
     let p : w - i ≡ 0 = omega arith in
@@ -176,7 +180,8 @@ positive-casts n e = low-casts n (not-negative n e)
 pub positive-cast : (n : ℕ) → leZ (pos 0) (toZ w64 n) ≡ true → natAbs (toZ w64 n) ≡ n
 positive-cast n e = low-cast n (not-negative n e)
 
-pub negative-casts : (n : ℕ) → leZ (pos 0) (toZ w64 n) ≡ false → T (nonNeg (toZ w64 (18446744073709551615 - n))) × Fits w64 (natAbs (toZ w64 (18446744073709551615 - n)))
+pub negative-casts : (n : ℕ) → leZ (pos 0) (toZ w64 n) ≡ false
+    → T (nonNeg (toZ w64 (18446744073709551615 - n))) × Fits w64 (natAbs (toZ w64 (18446744073709551615 - n)))
 negative-casts n e = let h = negative n e in low-casts (18446744073709551615 - n) (omega arith)
 
 pub negative-cast : (n : ℕ) → n < 2 ^ 64 → leZ (pos 0) (toZ w64 n) ≡ false → 18446744073709551615 - natAbs (toZ w64 (18446744073709551615 - n)) ≡ n
@@ -188,4 +193,26 @@ negative-cast n f e =
 pub pattern-again : (n : ℕ) → n < 2 ^ 64 → toZ w64 (18446744073709551615 - (18446744073709551615 - n)) ≡ toZ w64 n
 pattern-again n h = let e : 18446744073709551615 - (18446744073709551615 - n) ≡ n = omega arith in ap (toZ w64) e
 
-pub ruleset laws = (needs, read-start, one-fits, read-more, more-fits, times-fits, sum-fits, read-end, end-fits, read-whole, read-halves, high-fits, halves-fit, read-wide, read-short, read-far, write-short, write-far, write-start, write-more, write-end)
+pub ruleset laws = (
+  needs,
+  read-start,
+  one-fits,
+  read-more,
+  more-fits,
+  times-fits,
+  sum-fits,
+  read-end,
+  end-fits,
+  read-whole,
+  read-halves,
+  high-fits,
+  halves-fit,
+  read-wide,
+  read-short,
+  read-far,
+  write-short,
+  write-far,
+  write-start,
+  write-more,
+  write-end,
+)

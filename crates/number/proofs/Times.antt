@@ -28,7 +28,8 @@ rank-high n h = omega arith
 
 -- a time is not after another exactly if its rank is not
 pub rank-order : (a b : ℤ) → SFits w64 a → SFits w64 b → leZ a b ≡ leb (rank (ofZ w64 a)) (rank (ofZ w64 b))
-rank-order (pos a) (pos b) f g = rw (rank-low a (f .sfits), rank-low b (g .sfits)) (same-test a b (a + 2 ^ 63) (b + 2 ^ 63) (λ p. omega arith) (λ p. omega arith))
+rank-order (pos a) (pos b) f g = rw (rank-low a (f .sfits), rank-low b (g .sfits))
+    (same-test a b (a + 2 ^ 63) (b + 2 ^ 63) (λ p. omega arith) (λ p. omega arith))
 rank-order (pos a) (negsuc b) f g = rw (rank-low a (f .sfits), rank-high b (g .sfits)) (sym (lt-leb (a + 2 ^ 63) (2 ^ 63 - suc b) (omega arith)))
 rank-order (negsuc a) (pos b) f g = rw (rank-high a (f .sfits), rank-low b (g .sfits)) (sym (le-leb (2 ^ 63 - suc a) (b + 2 ^ 63) (omega arith)))
 rank-order (negsuc a) (negsuc b) f g =

@@ -28,12 +28,14 @@ pub user-past : (f : List ℕ) (h : Header) → (h .index ≡ 0 → ⊥) → (h 
 unfolding notClosedBy
 user-past f h a b c e = rw (ne-eqb (h .index) 0 a, ne-eqb (h .user) 0 b, le-ltb (length f) (h .index) c, lt-ltb (length f) (h .user) e)
 
-pub user-high : (f : List ℕ) (h : Header) → (h .index ≡ 0 → ⊥) → (h .user ≡ 0 → ⊥) → h .index ≤ length f → h .user ≤ length f → 1099511115772 < h .user → true ≡ notClosedBy f h
+pub user-high : (f : List ℕ) (h : Header) → (h .index ≡ 0 → ⊥) → (h .user ≡ 0 → ⊥) → h .index ≤ length f → h .user ≤ length f
+    → 1099511115772 < h .user → true ≡ notClosedBy f h
 unfolding notClosedBy
 user-high f h a b c d e =
     rw (ne-eqb (h .index) 0 a, ne-eqb (h .user) 0 b, le-ltb (length f) (h .index) c, le-ltb (length f) (h .user) d, lt-ltb 1099511115772 (h .user) e)
 
-pub closed : (f : List ℕ) (h : Header) → (h .index ≡ 0 → ⊥) → (h .user ≡ 0 → ⊥) → h .index ≤ length f → h .user ≤ length f → h .user ≤ 1099511115772 → false ≡ notClosedBy f h
+pub closed : (f : List ℕ) (h : Header) → (h .index ≡ 0 → ⊥) → (h .user ≡ 0 → ⊥) → h .index ≤ length f → h .user ≤ length f
+    → h .user ≤ 1099511115772 → false ≡ notClosedBy f h
 unfolding notClosedBy
 closed f h a b c d e =
     rw (ne-eqb (h .index) 0 a, ne-eqb (h .user) 0 b, le-ltb (length f) (h .index) c, le-ltb (length f) (h .user) d, le-ltb 1099511115772 (h .user) e)

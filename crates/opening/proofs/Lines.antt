@@ -43,7 +43,8 @@ open-number : (f : List ℕ) (n : ℕ) → refusal f ≡ suc n → openingAs.Ref
 unfolding openOf openBy
 open-number f n e = rw e
 
-pub open-front-refused : (f : List ℕ) (r : Front) (n m : Refusal) → r ≡ frontOf f → r ≡ frontAs.Refused n → m ≡ frontRefusal r → openingAs.Refused m ≡ openOf f
+pub open-front-refused : (f : List ℕ) (r : Front) (n m : Refusal) → r ≡ frontOf f → r ≡ frontAs.Refused n → m ≡ frontRefusal r
+    → openingAs.Refused m ≡ openOf f
 unfolding refusal openingLines
 open-front-refused f r n m p q s = go (front-refuses f n (sym p ∙ q)) (s ∙ ap frontRefusal q)
   where
@@ -66,7 +67,8 @@ user-none : (f : List ℕ) → table (drop (userOffset f) f) ≡ bad → badUser
 unfolding badUser readUser exactly onward
 user-none f e = rw e
 
-user-long : (f : List ℕ) (ts : List Tag) (m : ℕ) → userOffset f ≤ length f → table (drop (userOffset f) f) ≡ good ts m → (userOffset f + m ≡ length f → ⊥) → badUser f ≡ true
+user-long : (f : List ℕ) (ts : List Tag) (m : ℕ) → userOffset f ≤ length f → table (drop (userOffset f) f) ≡ good ts m
+    → (userOffset f + m ≡ length f → ⊥) → badUser f ≡ true
 unfolding badUser readUser exactly onward
 user-long f ts m l e u = rw (e, ne-eqb m (length (drop (userOffset f) f)) (λ q. u (omega (arith, length-drop (userOffset f) f))))
 
@@ -96,7 +98,10 @@ frames-shown : (f : List ℕ) → areBytes f ≡ true → badIndex f ≡ false �
 unfolding badIndex counted walkOf
 frames-shown f b e =
     let few = walk-gives (headerCount f) (length (definedIn f)) (drop (walkStart f) f) (bytes-drop (walkStart f) f b) .few in
-    let enough = ltb-false (length (counted f .frames)) (headerCount f) (second-false (ltb 1000000 (headerCount f)) (ltb (length (counted f .frames)) (headerCount f)) (not (eqb (walkStart f + counted f .bytes) (indexOffset f))) (not (inOrder (counted f .frames))) (not (same (take (userOffset f - indexOffset f) (drop (indexOffset f) f)) (indexBytes (walkStart f) (counted f .frames)))) e) in
+    let enough = ltb-false (length (counted f .frames)) (headerCount f)
+    (second-false (ltb 1000000 (headerCount f)) (ltb (length (counted f .frames)) (headerCount f))
+    (not (eqb (walkStart f + counted f .bytes) (indexOffset f))) (not (inOrder (counted f .frames)))
+    (not (same (take (userOffset f - indexOffset f) (drop (indexOffset f) f)) (indexBytes (walkStart f) (counted f .frames)))) e) in
     omega arith
 
 module _ (f : List ℕ) (r : Front) (held : FrontHeld) (h : Header) (p : r ≡ frontOf f) (q : r ≡ frontAs.Whole held) (s : h ≡ headerOf f) where
@@ -119,7 +124,8 @@ module _ (f : List ℕ) (r : Front) (held : FrontHeld) (h : Header) (p : r ≡ f
 
   pub open-not-closed : (b : Bool) → b ≡ notClosedBy f h → b ≡ true → openingAs.Refused (plain 5) ≡ openOf f
   unfolding refusal openingLines
-  open-not-closed b t u = open-number f 4 (front-pass f _ passes ∙ line-holds 5 (notClosed f) _ (sym (closed-is f (passes .mark)) ∙ sym (ap (notClosedBy f) s) ∙ sym t ∙ u))
+  open-not-closed b t u = open-number f 4 (front-pass f _ passes
+      ∙ line-holds 5 (notClosed f) _ (sym (closed-is f (passes .mark)) ∙ sym (ap (notClosedBy f) s) ∙ sym t ∙ u))
 
   module _ (b : Bool) (t : b ≡ notClosedBy f h) (u : b ≡ false) where
     is-closed : notClosed f ≡ false
@@ -127,7 +133,8 @@ module _ (f : List ℕ) (r : Front) (held : FrontHeld) (h : Header) (p : r ≡ f
 
     user-there : userOffset f ≤ length f
     unfolding notClosed
-    user-there = ltb-false (length f) (userOffset f) (fourth-false (eqb (indexOffset f) 0) (eqb (userOffset f) 0) (ltb (length f) (indexOffset f)) (ltb (length f) (userOffset f)) (ltb largestUserOffset (userOffset f)) is-closed)
+    user-there = ltb-false (length f) (userOffset f) (fourth-false (eqb (indexOffset f) 0) (eqb (userOffset f) 0) (ltb (length f) (indexOffset f))
+        (ltb (length f) (userOffset f)) (ltb largestUserOffset (userOffset f)) is-closed)
 
     pub user-within : h .user ≤ length f
     user-within = rw header user-there
@@ -152,23 +159,48 @@ module _ (f : List ℕ) (r : Front) (held : FrontHeld) (h : Header) (p : r ≡ f
       unfolding refusal openingLines
       refused-7 e = open-number f 6 (behind _ ∙ line-pass 6 (badIndex f) _ index-right ∙ line-holds 7 (badUser f) _ e)
 
-      table-of : (t : TablePlace) → t ≡ tablePlaceOf (h .user) (table (drop (h .user) f)) → t ≡ tablePlaceOf (userOffset f) (table (drop (userOffset f) f))
+      table-of : (t : TablePlace) → t ≡ tablePlaceOf (h .user) (table (drop (h .user) f))
+          → t ≡ tablePlaceOf (userOffset f) (table (drop (userOffset f) f))
       table-of t e = e ∙ ap (λ (at : ℕ). tablePlaceOf at (table (drop at f))) (ap (λ (x : Header). x .user) header)
 
-      pub open-bad-user : (t : TablePlace) → t ≡ tablePlaceOf (h .user) (table (drop (h .user) f)) → t ≡ tableAs.Broken → openingAs.Refused (plain 7) ≡ openOf f
+      pub open-bad-user : (t : TablePlace) → t ≡ tablePlaceOf (h .user) (table (drop (h .user) f)) → t ≡ tableAs.Broken
+          → openingAs.Refused (plain 7) ≡ openOf f
       open-bad-user t e g = refused-7 (user-none f (table-none f (userOffset f) (sym (table-of t e) ∙ g)))
 
-      pub open-long-user : (t : TablePlace) (tags end : ℕ) → t ≡ tablePlaceOf (h .user) (table (drop (h .user) f)) → t ≡ tableAs.Whole tags end → (end ≡ length f → ⊥) → openingAs.Refused (plain 7) ≡ openOf f
+      pub open-long-user : (t : TablePlace) (tags end : ℕ) → t ≡ tablePlaceOf (h .user) (table (drop (h .user) f)) → t ≡ tableAs.Whole tags end
+          → (end ≡ length f → ⊥) → openingAs.Refused (plain 7) ≡ openOf f
       open-long-user t tags end e g x = go (table-found f (userOffset f) tags end (sym (table-of t e) ∙ g))
         where
-          go : ((ts : List Tag) × (m : ℕ) × (table (drop (userOffset f) f) ≡ good ts m) × (length ts ≡ tags) × (userOffset f + m ≡ end)) → openingAs.Refused (plain 7) ≡ openOf f
+          go : ((ts : List Tag) × (m : ℕ) × (table (drop (userOffset f) f) ≡ good ts m) × (length ts ≡ tags) × (userOffset f + m ≡ end))
+              → openingAs.Refused (plain 7) ≡ openOf f
           go (ts, m, a, i, j) = refused-7 (user-long f ts m user-there a (λ k. x (sym j ∙ k)))
 
-      pub opened : (t : TablePlace) (tags end : ℕ) → ((i : ℕ) → Fits w8 (getD f i 0)) → t ≡ tablePlaceOf (h .user) (table (drop (h .user) f)) → t ≡ tableAs.Whole tags end → end ≡ length f → openingAs.Opened (record { frames = h .count; sections = held .sections; «system_tags» = held .«system_tags»; «user_tags» = tags; system = held .system; start = held .start; index = h .index; user = h .user }) ≡ openOf f
+      pub opened : (t : TablePlace) (tags end : ℕ) → ((i : ℕ) → Fits w8 (getD f i 0)) → t ≡ tablePlaceOf (h .user) (table (drop (h .user) f))
+          → t ≡ tableAs.Whole tags end → end ≡ length f → openingAs.Opened
+          (record {
+            frames = h .count;
+            sections = held .sections;
+            «system_tags» = held .«system_tags»;
+            «user_tags» = tags;
+            system = held .system;
+            start = held .start;
+            index = h .index;
+            user = h .user;
+          }) ≡ openOf f
       unfolding openOf openBy heldOf shown frontHeld valueOr badUser
       opened t tags end b e g x = go (table-found f (userOffset f) tags end (sym (table-of t e) ∙ g))
         where
-          go : ((ts : List Tag) × (m : ℕ) × (table (drop (userOffset f) f) ≡ good ts m) × (length ts ≡ tags) × (userOffset f + m ≡ end)) → openingAs.Opened (record { frames = h .count; sections = held .sections; «system_tags» = held .«system_tags»; «user_tags» = tags; system = held .system; start = held .start; index = h .index; user = h .user }) ≡ openOf f
+          go : ((ts : List Tag) × (m : ℕ) × (table (drop (userOffset f) f) ≡ good ts m) × (length ts ≡ tags) × (userOffset f + m ≡ end))
+              → openingAs.Opened (record {
+                frames = h .count;
+                sections = held .sections;
+                «system_tags» = held .«system_tags»;
+                «user_tags» = tags;
+                system = held .system;
+                start = held .start;
+                index = h .index;
+                user = h .user;
+              }) ≡ openOf f
           go (ts, m, a, i, j) =
               let k : readUser f ≡ good ts m = user-read f ts m a (j ∙ x) in
               let o : refusal f ≡ 0 = passes-opens f (record { front = passes; closed = is-closed; index = index-right; user = rw k }) in
@@ -195,4 +227,16 @@ open-refuses f n e = go (refusal f) refl e
 pub opened-refusal : (r : Opening) (h : Held) → r ≡ openingAs.Opened h → plain 0 ≡ openRefusal r
 opened-refusal r h e = rw e
 
-pub ruleset laws = (needs, open-front-refused, held-few, held-start, open-not-closed, user-within, open-bad-index, open-bad-user, open-long-user, opened, opened-refusal)
+pub ruleset laws = (
+  needs,
+  open-front-refused,
+  held-few,
+  held-start,
+  open-not-closed,
+  user-within,
+  open-bad-index,
+  open-bad-user,
+  open-long-user,
+  opened,
+  opened-refusal,
+)

@@ -28,7 +28,8 @@ same-append (x ∷ a) b (y ∷ c) d l = go (eqb x y) (same-append a b c d (omega
     go false i = refl
 
 -- w bytes are those of a number exactly when they stand for it
-pub same-number : (w : ℕ) (s : List ℕ) (n : ℕ) → areBytes s ≡ true → w ≤ length s → n < 256 ^ w → same (take w s) (bytesOf w n) ≡ eqb (numberOf (take w s)) n
+pub same-number : (w : ℕ) (s : List ℕ) (n : ℕ) → areBytes s ≡ true → w ≤ length s → n < 256 ^ w
+    → same (take w s) (bytesOf w n) ≡ eqb (numberOf (take w s)) n
 same-number w s n b l h = go (eqb (numberOf (take w s)) n) refl
   where
     other : (e : Bool) → same (take w s) (bytesOf w n) ≡ e → (numberOf (take w s) ≡ n → ⊥) → e ≡ false
@@ -39,6 +40,7 @@ same-number w s n b l h = go (eqb (numberOf (take w s)) n) refl
     go true q =
         let v : numberOf (take w s) ≡ n = eqb-true (numberOf (take w s)) n q in
         let t : length (take w s) ≡ w = length-take-le w s l in
-        let p : bytesOf w n ≡ take w s = ap (bytesOf w) (sym v) ∙ ap (λ (k : ℕ). bytesOf k (numberOf (take w s))) (sym t) ∙ bytesOf-numberOf (take w s) (bytes-take w s b) in
+        let p : bytesOf w n ≡ take w s = ap (bytesOf w) (sym v) ∙ ap (λ (k : ℕ). bytesOf k (numberOf (take w s))) (sym t)
+        ∙ bytesOf-numberOf (take w s) (bytes-take w s b) in
         rw p (same-refl (take w s))
     go false q = other (same (take w s) (bytesOf w n)) refl (eqb-false (numberOf (take w s)) n q)

@@ -34,10 +34,12 @@ pub ends-broken : {A : Type 0} (p : Reader A) (s : List ℕ) (x : Place) → x �
 unfolding exactly
 ends-broken p s x e h = sym (end-broken (p s) (length s) (sym h ∙ e))
 
-pub ends-exact : {A : Type 0} (p : Reader A) (s : List ℕ) (x : Place) (q : ℕ) → x ≡ endOf 0 (p (drop 0 s)) → x ≡ End q → q ≡ length s → false ≡ isBad (exactly p s)
+pub ends-exact : {A : Type 0} (p : Reader A) (s : List ℕ) (x : Place) (q : ℕ) → x ≡ endOf 0 (p (drop 0 s)) → x ≡ End q → q ≡ length s
+    → false ≡ isBad (exactly p s)
 unfolding exactly
 ends-exact p s x q e h l = sym (end-whole (p s) (length s) q (sym h ∙ e) ∙ rw (eq-eqb q (length s) l))
 
-pub ends-other : {A : Type 0} (p : Reader A) (s : List ℕ) (x : Place) (q : ℕ) → x ≡ endOf 0 (p (drop 0 s)) → x ≡ End q → (q ≡ length s → ⊥) → true ≡ isBad (exactly p s)
+pub ends-other : {A : Type 0} (p : Reader A) (s : List ℕ) (x : Place) (q : ℕ) → x ≡ endOf 0 (p (drop 0 s)) → x ≡ End q → (q ≡ length s → ⊥)
+    → true ≡ isBad (exactly p s)
 unfolding exactly
 ends-other p s x q e h l = sym (end-whole (p s) (length s) q (sym h ∙ e) ∙ rw (ne-eqb q (length s) l))

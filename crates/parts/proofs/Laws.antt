@@ -17,7 +17,9 @@ use Rattle.parts.specs.Parts.{samePart, copied}
 
 -- ── Equal parts ──
 
-same-cons : (a b : List ℕ) (i j n : ℕ) → 0 < n → i < length a → j < length b → same (take n (drop i a)) (take n (drop j b)) ≡ (eqb (getD a i 0) (getD b j 0) && same (take (n - 1) (drop (i + 1) a)) (take (n - 1) (drop (j + 1) b)))
+same-cons : (a b : List ℕ) (i j n : ℕ) → 0 < n → i < length a → j < length b
+    → same (take n (drop i a)) (take n (drop j b)) ≡ (eqb (getD a i 0) (getD b j 0)
+    && same (take (n - 1) (drop (i + 1) a)) (take (n - 1) (drop (j + 1) b)))
 unfolding same
 same-cons a b i j (suc n) z h k =
     let p : i + 1 ≡ suc i = omega arith in
@@ -30,11 +32,13 @@ unfolding same
 same-done a b i j zero all z e = e
 same-done a b i j (suc n) all z e = absurd (omega arith)
 
-pub same-stop : (a b : List ℕ) (i j n : ℕ) (all : Bool) → 0 < n → i + n ≤ length a → j + n ≤ length b → (getD a i 0 ≡ getD b j 0 → ⊥) → same (take n (drop i a)) (take n (drop j b)) ≡ all → false ≡ all
+pub same-stop : (a b : List ℕ) (i j n : ℕ) (all : Bool) → 0 < n → i + n ≤ length a → j + n ≤ length b → (getD a i 0 ≡ getD b j 0 → ⊥)
+    → same (take n (drop i a)) (take n (drop j b)) ≡ all → false ≡ all
 same-stop a b i j n all z h k f g =
     sym (rw (ne-eqb (getD a i 0) (getD b j 0) f) at (same-cons a b i j n z (omega arith) (omega arith))) ∙ g
 
-pub same-step : (a b : List ℕ) (i j n : ℕ) (all : Bool) → 0 < n → i + n ≤ length a → j + n ≤ length b → getD a i 0 ≡ getD b j 0 → same (take n (drop i a)) (take n (drop j b)) ≡ all → same (take (n - 1) (drop (i + 1) a)) (take (n - 1) (drop (j + 1) b)) ≡ all
+pub same-step : (a b : List ℕ) (i j n : ℕ) (all : Bool) → 0 < n → i + n ≤ length a → j + n ≤ length b → getD a i 0 ≡ getD b j 0
+    → same (take n (drop i a)) (take n (drop j b)) ≡ all → same (take (n - 1) (drop (i + 1) a)) (take (n - 1) (drop (j + 1) b)) ≡ all
 same-step a b i j n all z h k f g =
     sym (rw (eq-eqb (getD a i 0) (getD b j 0) f) at (same-cons a b i j n z (omega arith) (omega arith))) ∙ g
 
@@ -61,7 +65,8 @@ unfolding samePart
 equal-far-other a b i j n l h = rw (not-there b j n (omega arith), and-false (has a i n))
 
 -- where both parts are there, it goes by their bytes
-pub equal-there : (a b : List ℕ) (i j n : ℕ) → n ≤ length a → i ≤ length a - n → n ≤ length b → j ≤ length b - n → same (take n (drop i a)) (take n (drop j b)) ≡ samePart a i b j n
+pub equal-there : (a b : List ℕ) (i j n : ℕ) → n ≤ length a → i ≤ length a - n → n ≤ length b → j ≤ length b - n
+    → same (take n (drop i a)) (take n (drop j b)) ≡ samePart a i b j n
 unfolding samePart
 equal-there a b i j n h k l m = rw (there a i n (omega arith), there b j n (omega arith))
 
@@ -95,16 +100,36 @@ copy-start f t i j n =
     let r : i + 0 ≡ i = omega arith in
     rw (p, q, r)
 
-pub copy-more : (f t t₀ : List ℕ) (i j n k : ℕ) → k < n → i + n ≤ length f → sets t (j + k) (take (n - k) (drop (i + k) f)) ≡ sets t₀ j (take n (drop i f)) → sets (set t (j + k) (getD f (i + k) 0)) (j + (k + 1)) (take (n - (k + 1)) (drop (i + (k + 1)) f)) ≡ sets t₀ j (take n (drop i f))
+pub copy-more : (f t t₀ : List ℕ) (i j n k : ℕ) → k < n → i + n ≤ length f
+    → sets t (j + k) (take (n - k) (drop (i + k) f)) ≡ sets t₀ j (take n (drop i f))
+    → sets (set t (j + k) (getD f (i + k) 0)) (j + (k + 1)) (take (n - (k + 1)) (drop (i + (k + 1)) f)) ≡ sets t₀ j (take n (drop i f))
 copy-more f t t₀ i j n k h l e =
     let p : n - k ≡ suc (n - (k + 1)) = omega arith in
     let q : j + (k + 1) ≡ suc (j + k) = omega arith in
     let r : i + (k + 1) ≡ suc (i + k) = omega arith in
     rw (q, r) (sym (rw (p, drop-cons f (i + k) 0 (omega arith))) ∙ e)
 
-pub copy-end : (f t t₀ : List ℕ) (i j n k : ℕ) → n ≤ k → k ≤ n → i + n ≤ length f → j + n ≤ length t → length t ≡ length t₀ → sets t (j + k) (take (n - k) (drop (i + k) f)) ≡ sets t₀ j (take n (drop i f)) → t ≡ copied f i t₀ j n
+pub copy-end : (f t t₀ : List ℕ) (i j n k : ℕ) → n ≤ k → k ≤ n → i + n ≤ length f → j + n ≤ length t → length t ≡ length t₀
+    → sets t (j + k) (take (n - k) (drop (i + k) f)) ≡ sets t₀ j (take n (drop i f)) → t ≡ copied f i t₀ j n
 copy-end f t t₀ i j n k h l p q o e =
     let z : n - k ≡ 0 = omega arith in
     sym (rw z) ∙ e ∙ sym (copied-there f t₀ i j n p (omega arith))
 
-pub ruleset laws = (needs, same-done, same-stop, same-step, equal-short, equal-far, equal-short-other, equal-far-other, equal-there, copied-short, copied-far, copied-no-room, copied-past, copy-start, copy-more, copy-end)
+pub ruleset laws = (
+  needs,
+  same-done,
+  same-stop,
+  same-step,
+  equal-short,
+  equal-far,
+  equal-short-other,
+  equal-far-other,
+  equal-there,
+  copied-short,
+  copied-far,
+  copied-no-room,
+  copied-past,
+  copy-start,
+  copy-more,
+  copy-end,
+)

@@ -33,5 +33,6 @@ module _ (s x y part : List ℕ) (at to n : ℕ) (e : x ≡ sets s at part) (h :
   pub write-behind : (v : ℕ) → y ≡ writeAt x to n v → y ≡ sets s at (part ++ bytesOf n v)
   write-behind v q = sets-behind s x y part (bytesOf n v) at to e h (q ∙ write-is x to n v same-room)
 
-  pub copy-behind : (from : List ℕ) (start : ℕ) → start + n ≤ length from → y ≡ copied from start x to n → y ≡ sets s at (part ++ take n (drop start from))
+  pub copy-behind : (from : List ℕ) (start : ℕ) → start + n ≤ length from → y ≡ copied from start x to n
+      → y ≡ sets s at (part ++ take n (drop start from))
   copy-behind from start k q = sets-behind s x y part (take n (drop start from)) at to e h (q ∙ copied-there from x start to n k same-room)

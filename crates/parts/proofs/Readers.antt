@@ -34,7 +34,8 @@ pub then-bad : {A B : Type 0} (p : Reader A) (q : A → Reader B) (t : List ℕ)
 unfolding _then_ onward
 then-bad p q t e = rw e
 
-pub then-onward : {A B : Type 0} (p : Reader A) (q : A → Reader B) (t : List ℕ) (x : A) (n : ℕ) → p t ≡ good x n → (p then q) t ≡ onward (q x (drop n t)) (λ y m. good y (n + m))
+pub then-onward : {A B : Type 0} (p : Reader A) (q : A → Reader B) (t : List ℕ) (x : A) (n : ℕ) → p t ≡ good x n
+    → (p then q) t ≡ onward (q x (drop n t)) (λ y m. good y (n + m))
 unfolding _then_ onward
 then-onward p q t x n e = rw e
 
@@ -45,7 +46,8 @@ end-later f bad at n = refl
 end-later f (good y m) at n = ap place.End (omega arith)
 
 -- the second is read where the first ends
-pub then-end : {A B : Type 0} (p : Reader A) (q : A → Reader B) (s : List ℕ) (at : ℕ) (x : A) (n : ℕ) → p (drop at s) ≡ good x n → endOf at ((p then q) (drop at s)) ≡ endOf (at + n) (q x (drop (at + n) s))
+pub then-end : {A B : Type 0} (p : Reader A) (q : A → Reader B) (s : List ℕ) (at : ℕ) (x : A) (n : ℕ) → p (drop at s) ≡ good x n
+    → endOf at ((p then q) (drop at s)) ≡ endOf (at + n) (q x (drop (at + n) s))
 then-end p q s at x n e = ap (endOf at) (then-onward p q (drop at s) x n e) ∙ rw (drop-drop n at s) (end-later (λ y. y) (q x (drop (at + n) s)) at n)
 
 -- ── Numbers, blocks and short strings at a place ──

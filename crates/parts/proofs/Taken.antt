@@ -14,7 +14,8 @@ use Rattle.layout.proofs.Readers.{number-good, then-good, times-suc-takes}
 -- ── Readers taken apart ──
 
 -- what one reader and then another read, each read its part of
-pub then-parts : {A B G : Type 0} (p : Reader A) (q : A → Reader B) (t : List ℕ) (y : B) (m : ℕ) → (p then q) t ≡ good y m → ((x : A) (n k : ℕ) → p t ≡ good x n → q x (drop n t) ≡ good y k → m ≡ n + k → G) → G
+pub then-parts : {A B G : Type 0} (p : Reader A) (q : A → Reader B) (t : List ℕ) (y : B) (m : ℕ) → (p then q) t ≡ good y m
+    → ((x : A) (n k : ℕ) → p t ≡ good x n → q x (drop n t) ≡ good y k → m ≡ n + k → G) → G
 unfolding _then_ onward
 then-parts {A} {B} {G} p q t y m e w = go (p t) refl e
   where
@@ -27,7 +28,8 @@ then-parts {A} {B} {G} p q t y m e w = go (p t) refl e
     go (good x n) f h = second x n (q x (drop n t)) f refl h
 
 -- what was read, and another value made of it
-pub give-parts : {A B G : Type 0} (p : Reader A) (f : A → B) (t : List ℕ) (y : B) (m : ℕ) → (p then λ a. give (f a)) t ≡ good y m → ((x : A) → p t ≡ good x m → y ≡ f x → G) → G
+pub give-parts : {A B G : Type 0} (p : Reader A) (f : A → B) (t : List ℕ) (y : B) (m : ℕ) → (p then λ a. give (f a)) t ≡ good y m
+    → ((x : A) → p t ≡ good x m → y ≡ f x → G) → G
 unfolding give
 give-parts p f t y m e w =
     then-parts p (λ a. give (f a)) t y m e (λ x n k g h i.
@@ -61,30 +63,38 @@ number-read s at w e h = number-there w s at e (omega arith) (omega arith)
 pub block-short : (n : ℕ) (s : List ℕ) (at : ℕ) → length s - at < n → block n (drop at s) ≡ bad
 block-short n s at h = end-bad (block n (drop at s)) at (sym (block-cut n s at h))
 
-pub then-next-bad : {A B : Type 0} (p : Reader A) (next : A → Reader B) (s : List ℕ) (a : A) (n : ℕ) → p s ≡ good a n → next a (drop n s) ≡ bad → (p then next) s ≡ bad
+pub then-next-bad : {A B : Type 0} (p : Reader A) (next : A → Reader B) (s : List ℕ) (a : A) (n : ℕ) → p s ≡ good a n → next a (drop n s) ≡ bad
+    → (p then next) s ≡ bad
 unfolding _then_ onward
 then-next-bad p next s a n e f = rw (e, f)
 
 -- ── What was read, taken apart ──
 
 -- a number, and what stands behind it
-pub number-then : {B : Type 0} (w : ℕ) (next : ℕ → Reader B) (s : List ℕ) (b : B) (k : ℕ) → (number w then next) s ≡ good b k → (w ≤ length s) × (m : ℕ) × (next (numberOf (take w s)) (drop w s) ≡ good b m) × (k ≡ w + m)
+pub number-then : {B : Type 0} (w : ℕ) (next : ℕ → Reader B) (s : List ℕ) (b : B) (k : ℕ) → (number w then next) s ≡ good b k
+    → (w ≤ length s) × (m : ℕ) × (next (numberOf (take w s)) (drop w s) ≡ good b m) × (k ≡ w + m)
 number-then {B} w next s b k e = outer (then-good (number w) next s b k e)
   where
-    inner : (a n m : ℕ) → next a (drop n s) ≡ good b m → k ≡ n + m → ((w ≤ length s) × (numberOf (take w s) ≡ a) × (w ≡ n)) → (w ≤ length s) × (m : ℕ) × (next (numberOf (take w s)) (drop w s) ≡ good b m) × (k ≡ w + m)
+    inner : (a n m : ℕ) → next a (drop n s) ≡ good b m → k ≡ n + m → ((w ≤ length s) × (numberOf (take w s) ≡ a) × (w ≡ n))
+        → (w ≤ length s) × (m : ℕ) × (next (numberOf (take w s)) (drop w s) ≡ good b m) × (k ≡ w + m)
     inner a n m f g (l, p, q) = (l, m, cc, cc)
 
-    outer : ((a : ℕ) × (n : ℕ) × (m : ℕ) × (number w s ≡ good a n) × (next a (drop n s) ≡ good b m) × (k ≡ n + m)) → (w ≤ length s) × (m : ℕ) × (next (numberOf (take w s)) (drop w s) ≡ good b m) × (k ≡ w + m)
+    outer : ((a : ℕ) × (n : ℕ) × (m : ℕ) × (number w s ≡ good a n) × (next a (drop n s) ≡ good b m) × (k ≡ n + m))
+        → (w ≤ length s) × (m : ℕ) × (next (numberOf (take w s)) (drop w s) ≡ good b m) × (k ≡ w + m)
     outer (a, n, m, f, g, h) = inner a n m g h (number-good w s a n f)
 
 -- a number that passes a test, and what stands behind it
-pub tested-then : {B : Type 0} (ok : ℕ → Bool) (w : ℕ) (next : ℕ → Reader B) (s : List ℕ) (b : B) (k : ℕ) → (only ok (number w) then next) s ≡ good b k → (w ≤ length s) × (ok (numberOf (take w s)) ≡ true) × (m : ℕ) × (next (numberOf (take w s)) (drop w s) ≡ good b m) × (k ≡ w + m)
+pub tested-then : {B : Type 0} (ok : ℕ → Bool) (w : ℕ) (next : ℕ → Reader B) (s : List ℕ) (b : B) (k : ℕ)
+    → (only ok (number w) then next) s ≡ good b k → (w ≤ length s) × (ok (numberOf (take w s)) ≡ true) × (m : ℕ)
+    × (next (numberOf (take w s)) (drop w s) ≡ good b m) × (k ≡ w + m)
 tested-then {B} ok w next s b k e = outer (then-good (only ok (number w)) next s b k e)
   where
-    inner : (a n m : ℕ) → next a (drop n s) ≡ good b m → k ≡ n + m → ok a ≡ true → ((w ≤ length s) × (numberOf (take w s) ≡ a) × (w ≡ n)) → (w ≤ length s) × (ok (numberOf (take w s)) ≡ true) × (m : ℕ) × (next (numberOf (take w s)) (drop w s) ≡ good b m) × (k ≡ w + m)
+    inner : (a n m : ℕ) → next a (drop n s) ≡ good b m → k ≡ n + m → ok a ≡ true → ((w ≤ length s) × (numberOf (take w s) ≡ a) × (w ≡ n))
+        → (w ≤ length s) × (ok (numberOf (take w s)) ≡ true) × (m : ℕ) × (next (numberOf (take w s)) (drop w s) ≡ good b m) × (k ≡ w + m)
     inner a n m f g t (l, p, q) = (l, cc, m, cc, cc)
 
-    outer : ((a : ℕ) × (n : ℕ) × (m : ℕ) × (only ok (number w) s ≡ good a n) × (next a (drop n s) ≡ good b m) × (k ≡ n + m)) → (w ≤ length s) × (ok (numberOf (take w s)) ≡ true) × (m : ℕ) × (next (numberOf (take w s)) (drop w s) ≡ good b m) × (k ≡ w + m)
+    outer : ((a : ℕ) × (n : ℕ) × (m : ℕ) × (only ok (number w) s ≡ good a n) × (next a (drop n s) ≡ good b m) × (k ≡ n + m))
+        → (w ≤ length s) × (ok (numberOf (take w s)) ≡ true) × (m : ℕ) × (next (numberOf (take w s)) (drop w s) ≡ good b m) × (k ≡ w + m)
     outer (a, n, m, f, g, h) = let o = only-parts ok (number w) s a n f in inner a n m g h (o .1) (number-good w s a n (o .0))
 
 -- ── In a row: the first, and those behind it ──
@@ -102,7 +112,8 @@ module _ {A : Type 0} (p : Reader A) where
       let q : suc n - 1 ≡ n = omega arith in
       rw (e, rw q at g)
 
-  pub times-cons : (n : ℕ) (s : List ℕ) (x : A) (a : ℕ) (xs : List A) (m : ℕ) → 0 < n → p s ≡ good x a → times (n - 1) p (drop a s) ≡ good xs m → times n p s ≡ good (x ∷ xs) (a + m)
+  pub times-cons : (n : ℕ) (s : List ℕ) (x : A) (a : ℕ) (xs : List A) (m : ℕ) → 0 < n → p s ≡ good x a → times (n - 1) p (drop a s) ≡ good xs m
+      → times n p s ≡ good (x ∷ xs) (a + m)
   times-cons zero s x a xs m k e g = absurd (omega arith)
   times-cons (suc n) s x a xs m k e g =
       let q : suc n - 1 ≡ n = omega arith in

@@ -54,10 +54,17 @@ Adds from place sheet piece.Broken ts = _≡_ {A = ℕ} 0 0
 -- no tag
 makes-none : (s t : List ℕ) (at : ℕ) → at ≤ length s → Makes s at t 0 0 0 []
 unfolding pieceBytes flatMap
-makes-none s t at l = record { bytes = refl; count = sym (tags-none 0 (omega arith)); firstThere = omega arith; secondThere = omega arith; short = omega arith }
+makes-none s t at l = record {
+  bytes = refl;
+  count = sym (tags-none 0 (omega arith));
+  firstThere = omega arith;
+  secondThere = omega arith;
+  short = omega arith;
+}
 
 -- a name with a value of the sheet
-with-adds : (s t : List ℕ) (at len end : ℕ) (v : Value) (e : Entry) → ((i : ℕ) → Fits w8 (getD s i 0)) → ((i : ℕ) → Fits w8 (getD t i 0)) → textOf (string (drop at s)) ≡ text.Whole len → Finds t v e → Adds s at t (withValue len v end) (tagWith (take len (drop (at + 1) s)) e)
+with-adds : (s t : List ℕ) (at len end : ℕ) (v : Value) (e : Entry) → ((i : ℕ) → Fits w8 (getD s i 0)) → ((i : ℕ) → Fits w8 (getD t i 0))
+    → textOf (string (drop at s)) ≡ text.Whole len → Finds t v e → Adds s at t (withValue len v end) (tagWith (take len (drop (at + 1) s)) e)
 unfolding Adds withValue pieceBytes valueIn tagWith tagBytes flatMap
 with-adds s t at len end (value.At p n) e w x h f =
     let l = string-parts s at len h .0 in
@@ -76,20 +83,32 @@ with-adds s t at len end value.Nothing e w x h f =
     rw (← f .found) (makes-none s t at (omega arith))
 
 -- the value of a tag is a short string behind its name
-row-value : (s : List ℕ) (at len end : ℕ) → rowOf at (rowName row.Tag (drop at s)) ≡ rowPlace.Whole len end → textOf (string (drop (at + 1 + len) s)) ≡ text.Whole (end - (at + 1 + len + 1))
-row-value s at len end e = value-text s (at + 1 + len) (end - (at + 1 + len + 1)) (tag-row-value s at len end (rowPlace.Whole len end) (sym e) refl .there)
+row-value : (s : List ℕ) (at len end : ℕ) → rowOf at (rowName row.Tag (drop at s)) ≡ rowPlace.Whole len end
+    → textOf (string (drop (at + 1 + len) s)) ≡ text.Whole (end - (at + 1 + len + 1))
+row-value s at len end e = value-text s (at + 1 + len) (end - (at + 1 + len + 1))
+    (tag-row-value s at len end (rowPlace.Whole len end) (sym e) refl .there)
 
 -- the whole of a tag that stays
-row-bytes : (s : List ℕ) (at len end : ℕ) → rowOf at (rowName row.Tag (drop at s)) ≡ rowPlace.Whole len end → take (end - at) (drop at s) ≡ tagBytes (tagWithName (take len (drop (at + 1) s)) (drop (at + 1 + len) s))
+row-bytes : (s : List ℕ) (at len end : ℕ) → rowOf at (rowName row.Tag (drop at s)) ≡ rowPlace.Whole len end
+    → take (end - at) (drop at s) ≡ tagBytes (tagWithName (take len (drop (at + 1) s)) (drop (at + 1 + len) s))
 unfolding tagBytes tagWithName valueOr
 row-bytes s at len end e =
     let (l, m, c) = tag-row-parts s at len end e in
     let v : textOf (string (drop (at + 1 + len) s)) ≡ text.Whole (end - (at + 1 + len + 1)) = row-value s at len end e in
     let a : end - at ≡ 1 + len + (1 + (end - (at + 1 + len + 1))) = omega arith in
     let b : at + (1 + len) ≡ at + 1 + len = omega arith in
-    rw (a, take-add (1 + len) (1 + (end - (at + 1 + len + 1))) (drop at s), drop-drop (1 + len) at s, b, string-bytes s at len (row-name row.Tag s at len end e), string-bytes s (at + 1 + len) (end - (at + 1 + len + 1)) v, c)
+    rw (
+      a,
+      take-add (1 + len) (1 + (end - (at + 1 + len + 1))) (drop at s),
+      drop-drop (1 + len) at s,
+      b,
+      string-bytes s at len (row-name row.Tag s at len end e),
+      string-bytes s (at + 1 + len) (end - (at + 1 + len + 1)) v,
+      c,
+    )
 
-kept-stays : (s t : List ℕ) (at len end : ℕ) → ((i : ℕ) → Fits w8 (getD s i 0)) → rowOf at (rowName row.Tag (drop at s)) ≡ rowPlace.Whole len end → Makes s at t (end - at) 0 0 (keptBy t (pair 0 (tagWithName (take len (drop (at + 1) s)) (drop (at + 1 + len) s))))
+kept-stays : (s t : List ℕ) (at len end : ℕ) → ((i : ℕ) → Fits w8 (getD s i 0)) → rowOf at (rowName row.Tag (drop at s)) ≡ rowPlace.Whole len end
+    → Makes s at t (end - at) 0 0 (keptBy t (pair 0 (tagWithName (take len (drop (at + 1) s)) (drop (at + 1 + len) s))))
 unfolding keptBy changedEntry tagWithName pieceBytes tagWith flatMap
 kept-stays s t at len end w h =
     let (m, b, c) = tag-row-parts s at len end h in
@@ -104,46 +123,67 @@ kept-stays s t at len end w h =
     }
 
 -- the tags of a row that is there
-row-made : {A : Type 0} (k : Row) (make : List ℕ → List ℕ → A) (adds : Beside A → List Tag) (s : List ℕ) (at len end other : ℕ) → rowOf at (rowName k (drop at s)) ≡ rowPlace.Whole len end → made (λ x. adds (pair other x)) [] (rowWith k make (drop at s)) ≡ adds (pair other (make (take len (drop (at + 1) s)) (drop (at + 1 + len) s)))
+row-made : {A : Type 0} (k : Row) (make : List ℕ → List ℕ → A) (adds : Beside A → List Tag) (s : List ℕ) (at len end other : ℕ)
+    → rowOf at (rowName k (drop at s)) ≡ rowPlace.Whole len end
+    → made (λ x. adds (pair other x)) [] (rowWith k make (drop at s)) ≡ adds
+    (pair other (make (take len (drop (at + 1) s)) (drop (at + 1 + len) s)))
 unfolding made
 row-made k make adds s at len end other e = row-makes k make s at len end e (λ m p q. rw p)
 
-kept-by : (s t : List ℕ) (at len end change : ℕ) → ((i : ℕ) → Fits w8 (getD s i 0)) → ((i : ℕ) → Fits w8 (getD t i 0)) → rowOf at (rowName row.Tag (drop at s)) ≡ rowPlace.Whole len end → Adds s at t (cond (eqb change 0) (piece.Whole (end - at) 0 0 end) (withValue len (changedValue t change) end)) (keptBy t (pair change (tagWithName (take len (drop (at + 1) s)) (drop (at + 1 + len) s))))
+kept-by : (s t : List ℕ) (at len end change : ℕ) → ((i : ℕ) → Fits w8 (getD s i 0)) → ((i : ℕ) → Fits w8 (getD t i 0))
+    → rowOf at (rowName row.Tag (drop at s)) ≡ rowPlace.Whole len end
+    → Adds s at t (cond (eqb change 0) (piece.Whole (end - at) 0 0 end) (withValue len (changedValue t change) end))
+    (keptBy t (pair change (tagWithName (take len (drop (at + 1) s)) (drop (at + 1 + len) s))))
 unfolding Adds keptBy changedEntry tagWithName
 kept-by s t at len end zero w x h = kept-stays s t at len end w h
 kept-by s t at len end (suc c) w x h =
-    rw (ne-eqb (suc c) 0 (λ z. omega arith)) (with-adds s t at len end (changedValue t (suc c)) _ w x (row-name row.Tag s at len end h) (changed-finds t (suc c) (changedValue t (suc c)) refl))
+    rw (ne-eqb (suc c) 0 (λ z. omega arith)) (with-adds s t at len end (changedValue t (suc c)) _ w x (row-name row.Tag s at len end h)
+    (changed-finds t (suc c) (changedValue t (suc c)) refl))
 
-new-by : (t : List ℕ) (at len end : ℕ) (b : Bool) → ((i : ℕ) → Fits w8 (getD t i 0)) → rowOf at (rowName row.Change (drop at t)) ≡ rowPlace.Whole len end → Adds t at t (cond b (piece.Whole 0 0 0 end) (withValue len (newValue t (at + 1 + len)) end)) (cond b [] (tagWith (take len (drop (at + 1) t)) (newIn (drop (at + 1 + len) t))))
+new-by : (t : List ℕ) (at len end : ℕ) (b : Bool) → ((i : ℕ) → Fits w8 (getD t i 0))
+    → rowOf at (rowName row.Change (drop at t)) ≡ rowPlace.Whole len end
+    → Adds t at t (cond b (piece.Whole 0 0 0 end) (withValue len (newValue t (at + 1 + len)) end))
+    (cond b [] (tagWith (take len (drop (at + 1) t)) (newIn (drop (at + 1 + len) t))))
 unfolding Adds
 new-by t at len end true x h = let l = string-parts t at len (row-name row.Change t at len end h) .0 in makes-none t t at (omega arith)
-new-by t at len end false x h = with-adds t t at len end (newValue t (at + 1 + len)) _ x x (row-name row.Change t at len end h) (new-finds t (at + 1 + len) (newValue t (at + 1 + len)) refl)
+new-by t at len end false x h = with-adds t t at len end (newValue t (at + 1 + len)) _ x x (row-name row.Change t at len end h)
+    (new-finds t (at + 1 + len) (newValue t (at + 1 + len)) refl)
 
-new-row : (t : List ℕ) (at len end tag : ℕ) → ((i : ℕ) → Fits w8 (getD t i 0)) → rowOf at (rowName row.Change (drop at t)) ≡ rowPlace.Whole len end → Adds t at t (cond (ltb 0 tag) (piece.Whole 0 0 0 end) (withValue len (newValue t (at + 1 + len)) end)) (newBy (pair tag (changeWithName (take len (drop (at + 1) t)) (drop (at + 1 + len) t))))
+new-row : (t : List ℕ) (at len end tag : ℕ) → ((i : ℕ) → Fits w8 (getD t i 0))
+    → rowOf at (rowName row.Change (drop at t)) ≡ rowPlace.Whole len end
+    → Adds t at t (cond (ltb 0 tag) (piece.Whole 0 0 0 end) (withValue len (newValue t (at + 1 + len)) end))
+    (newBy (pair tag (changeWithName (take len (drop (at + 1) t)) (drop (at + 1 + len) t))))
 unfolding newBy changeWithName
 new-row t at len end tag x h = new-by t at len end (ltb 0 tag) x h
 
-kept-adds : (s t : List ℕ) (at change : ℕ) (r : RowPlace) → ((i : ℕ) → Fits w8 (getD s i 0)) → ((i : ℕ) → Fits w8 (getD t i 0)) → rowOf at (rowName row.Tag (drop at s)) ≡ r → Adds s at t (keptRow at t change r) (rowAdds side.Kept s t at change)
+kept-adds : (s t : List ℕ) (at change : ℕ) (r : RowPlace) → ((i : ℕ) → Fits w8 (getD s i 0)) → ((i : ℕ) → Fits w8 (getD t i 0))
+    → rowOf at (rowName row.Tag (drop at s)) ≡ r → Adds s at t (keptRow at t change r) (rowAdds side.Kept s t at change)
 unfolding keptRow Adds rowAdds
 kept-adds s t at change rowPlace.Broken w x h = refl
-kept-adds s t at change (rowPlace.Whole len end) w x h = rw (row-made row.Tag tagWithName (keptBy t) s at len end change h) (kept-by s t at len end change w x h)
+kept-adds s t at change (rowPlace.Whole len end) w x h = rw (row-made row.Tag tagWithName (keptBy t) s at len end change h)
+    (kept-by s t at len end change w x h)
 
-new-adds : (s t : List ℕ) (at tag : ℕ) (r : RowPlace) → ((i : ℕ) → Fits w8 (getD t i 0)) → rowOf at (rowName row.Change (drop at t)) ≡ r → Adds t at t (newRow at t tag r) (rowAdds side.New s t at tag)
+new-adds : (s t : List ℕ) (at tag : ℕ) (r : RowPlace) → ((i : ℕ) → Fits w8 (getD t i 0)) → rowOf at (rowName row.Change (drop at t)) ≡ r
+    → Adds t at t (newRow at t tag r) (rowAdds side.New s t at tag)
 unfolding newRow Adds rowAdds
 new-adds s t at tag rowPlace.Broken x h = refl
 new-adds s t at tag (rowPlace.Whole len end) x h = rw (row-made row.Change changeWithName newBy t at len end tag h) (new-row t at len end tag x h)
 
-piece-adds : (x : Side) (s t : List ℕ) (at other : ℕ) → ((i : ℕ) → Fits w8 (getD s i 0)) → ((i : ℕ) → Fits w8 (getD t i 0)) → Adds (walkedIn x s t) at t (pieceAt x s at t other) (rowAdds x s t at other)
+piece-adds : (x : Side) (s t : List ℕ) (at other : ℕ) → ((i : ℕ) → Fits w8 (getD s i 0)) → ((i : ℕ) → Fits w8 (getD t i 0))
+    → Adds (walkedIn x s t) at t (pieceAt x s at t other) (rowAdds x s t at other)
 unfolding pieceAt keptAt newAt walkedIn
 piece-adds side.Kept s t at other w y = kept-adds s t at other _ w y refl
 piece-adds side.New s t at other w y = new-adds s t at other _ y refl
 
-pub piece-makes : (x : Side) (s t : List ℕ) (at other f v n e : ℕ) (p : Piece) → ((i : ℕ) → Fits w8 (getD s i 0)) → ((i : ℕ) → Fits w8 (getD t i 0)) → p ≡ pieceAt x s at t other → p ≡ piece.Whole f v n e → Makes (walkedIn x s t) at t f v n (rowAdds x s t at other)
+pub piece-makes : (x : Side) (s t : List ℕ) (at other f v n e : ℕ) (p : Piece) → ((i : ℕ) → Fits w8 (getD s i 0))
+    → ((i : ℕ) → Fits w8 (getD t i 0)) → p ≡ pieceAt x s at t other → p ≡ piece.Whole f v n e
+    → Makes (walkedIn x s t) at t f v n (rowAdds x s t at other)
 unfolding Adds
 piece-makes x s t at other f v n e p w y h k = rw (sym h ∙ k) at (piece-adds x s t at other w y)
 
 -- a tag that no change names is its row
-kept-whole : (s t : List ℕ) (at f v n e : ℕ) (r : RowPlace) → rowOf at (rowName row.Tag (drop at s)) ≡ r → keptRow at t 0 r ≡ piece.Whole f v n e → (f ≡ e - at) × (n ≡ 0) × (at ≤ e)
+kept-whole : (s t : List ℕ) (at f v n e : ℕ) (r : RowPlace) → rowOf at (rowName row.Tag (drop at s)) ≡ r → keptRow at t 0 r ≡ piece.Whole f v n e
+    → (f ≡ e - at) × (n ≡ 0) × (at ≤ e)
 unfolding keptRow
 kept-whole s t at f v n e rowPlace.Broken h k = let o : piece.Broken ≡ piece.Whole f v n e = k in let z : _≡_ {A = ℕ} 0 1 = cc in absurd (omega arith)
 kept-whole s t at f v n e (rowPlace.Whole len end) h k =
@@ -154,7 +194,8 @@ kept-whole s t at f v n e (rowPlace.Whole len end) h k =
     let d = tag-row-parts s at len end h .0 in
     (omega arith, omega arith, omega arith)
 
-pub piece-whole : (s t : List ℕ) (at other f v n e : ℕ) (p : Piece) → other ≡ 0 → p ≡ pieceAt side.Kept s at t other → p ≡ piece.Whole f v n e → (f ≡ e - at) × (n ≡ 0) × (at ≤ e)
+pub piece-whole : (s t : List ℕ) (at other f v n e : ℕ) (p : Piece) → other ≡ 0 → p ≡ pieceAt side.Kept s at t other → p ≡ piece.Whole f v n e
+    → (f ≡ e - at) × (n ≡ 0) × (at ≤ e)
 unfolding pieceAt keptAt
 piece-whole s t at other f v n e p z h k = kept-whole s t at f v n e _ refl (rw z at (sym h ∙ k))
 
@@ -165,13 +206,18 @@ module _ {A : Type 0} (k : Row) (make : List ℕ → List ℕ → A) (adds : Bes
   abbrev rest-adds : (at i : ℕ) → List Tag
   rest-adds at i = flatMap adds (beside (drop i others) (rows (length (drop i others)) (rowWith k make) (drop at s)))
 
-  rows-next : (at i len end : ℕ) → i < length others → rowOf at (rowName k (drop at s)) ≡ rowPlace.Whole len end → rest-adds at i ≡ made (λ x. adds (pair (getD others i 0) x)) [] (rowWith k make (drop at s)) ++ rest-adds end (i + 1)
+  rows-next : (at i len end : ℕ) → i < length others → rowOf at (rowName k (drop at s)) ≡ rowPlace.Whole len end
+      → rest-adds at i ≡ made (λ x. adds (pair (getD others i 0) x)) [] (rowWith k make (drop at s)) ++ rest-adds end (i + 1)
   unfolding flatMap
   rows-next at i len end h e =
       let l = length-drop i others in
       let m = length-drop (i + 1) others in
       let o : length (drop i others) - 1 ≡ length (drop (i + 1) others) = omega arith in
-      rw (beside-step k make others s i at (length (drop i others)) len end (rowPlace.Whole len end) (omega arith) (omega arith) (sym e) refl, o, row-made k make adds s at len end (getD others i 0) e)
+      rw (
+        beside-step k make others s i at (length (drop i others)) len end (rowPlace.Whole len end) (omega arith) (omega arith) (sym e) refl,
+        o,
+        row-made k make adds s at len end (getD others i 0) e,
+      )
 
   rows-broken : (at i : ℕ) → rowOf at (rowName k (drop at s)) ≡ rowPlace.Broken → rest-adds at i ≡ []
   unfolding flatMap
@@ -187,7 +233,8 @@ unfolding rowBehind withValue
 with-end len (value.At p n) end = refl
 with-end len value.Nothing end = refl
 
-choice-end : (b : Bool) (p q : Piece) (end : ℕ) → rowBehind p ≡ rowPlace.Whole 0 end → rowBehind q ≡ rowPlace.Whole 0 end → rowBehind (cond b p q) ≡ rowPlace.Whole 0 end
+choice-end : (b : Bool) (p q : Piece) (end : ℕ) → rowBehind p ≡ rowPlace.Whole 0 end → rowBehind q ≡ rowPlace.Whole 0 end
+    → rowBehind (cond b p q) ≡ rowPlace.Whole 0 end
 choice-end true p q end e f = e
 choice-end false p q end e f = f
 
@@ -206,29 +253,40 @@ unfolding newRow nameless rowBehind
 new-behind at t tag rowPlace.Broken = refl
 new-behind at t tag (rowPlace.Whole len end) = choice-end (ltb 0 tag) _ _ end refl (with-end len (newValue t (at + 1 + len)) end)
 
-behind-whole : {G : Type 0} (r : RowPlace) (f v n e : ℕ) (p : Piece) → p ≡ piece.Whole f v n e → rowBehind p ≡ nameless r → ((len : ℕ) → r ≡ rowPlace.Whole len e → G) → G
+behind-whole : {G : Type 0} (r : RowPlace) (f v n e : ℕ) (p : Piece) → p ≡ piece.Whole f v n e → rowBehind p ≡ nameless r
+    → ((len : ℕ) → r ≡ rowPlace.Whole len e → G) → G
 unfolding rowBehind nameless
-behind-whole rowPlace.Broken f v n e p h k w = let o : rowPlace.Whole 0 e ≡ rowPlace.Broken = rw h at k in let z : _≡_ {A = ℕ} 0 1 = cc in absurd (omega arith)
+behind-whole rowPlace.Broken f v n e p h k w = let o : rowPlace.Whole 0 e ≡ rowPlace.Broken = rw h at k in let z : _≡_ {A = ℕ} 0 1 =
+    cc in absurd (omega arith)
 behind-whole (rowPlace.Whole len end) f v n e p h k w = let o : rowPlace.Whole 0 e ≡ rowPlace.Whole 0 end = rw h at k in w len (cc)
 
 behind-broken : (r : RowPlace) (p : Piece) → p ≡ piece.Broken → rowBehind p ≡ nameless r → r ≡ rowPlace.Broken
 unfolding rowBehind nameless
 behind-broken rowPlace.Broken p h k = refl
-behind-broken (rowPlace.Whole len end) p h k = let o : rowPlace.Broken ≡ rowPlace.Whole 0 end = rw h at k in let z : _≡_ {A = ℕ} 0 1 = cc in absurd (omega arith)
+behind-broken (rowPlace.Whole len end) p h k = let o : rowPlace.Broken ≡ rowPlace.Whole 0 end = rw h at k in let z : _≡_ {A = ℕ} 0 1 =
+    cc in absurd (omega arith)
 
 pub added-done : (x : Side) (s t others : List ℕ) (at i : ℕ) → length others ≤ i → addedBy x s t at (drop i others) ≡ []
 unfolding addedBy flatMap beside
 added-done side.Kept s t others at i h = rw (drop-of-length-le others {i = i} h)
 added-done side.New s t others at i h = rw (drop-of-length-le others {i = i} h)
 
-pub added-stop : (x : Side) (s t others : List ℕ) (at i other : ℕ) (p : Piece) → p ≡ pieceAt x s at t other → p ≡ piece.Broken → addedBy x s t at (drop i others) ≡ []
+pub added-stop : (x : Side) (s t others : List ℕ) (at i other : ℕ) (p : Piece) → p ≡ pieceAt x s at t other → p ≡ piece.Broken
+    → addedBy x s t at (drop i others) ≡ []
 unfolding addedBy pieceAt keptAt newAt
-added-stop side.Kept s t others at i other p e f = rows-broken row.Tag tagWithName (keptBy t) s others at i (behind-broken (rowOf at (rowName row.Tag (drop at s))) (keptRow at t other (rowOf at (rowName row.Tag (drop at s)))) (sym e ∙ f) (kept-behind at t other _))
-added-stop side.New s t others at i other p e f = rows-broken row.Change changeWithName newBy t others at i (behind-broken (rowOf at (rowName row.Change (drop at t))) (newRow at t other (rowOf at (rowName row.Change (drop at t)))) (sym e ∙ f) (new-behind at t other _))
+added-stop side.Kept s t others at i other p e f = rows-broken row.Tag tagWithName (keptBy t) s others at i
+    (behind-broken (rowOf at (rowName row.Tag (drop at s))) (keptRow at t other (rowOf at (rowName row.Tag (drop at s)))) (sym e ∙ f)
+    (kept-behind at t other _))
+added-stop side.New s t others at i other p e f = rows-broken row.Change changeWithName newBy t others at i
+    (behind-broken (rowOf at (rowName row.Change (drop at t))) (newRow at t other (rowOf at (rowName row.Change (drop at t)))) (sym e ∙ f)
+    (new-behind at t other _))
 
-pub added-next : (x : Side) (s t others : List ℕ) (at i f v n e : ℕ) (p : Piece) → i < length others → p ≡ pieceAt x s at t (getD others i 0) → p ≡ piece.Whole f v n e → addedBy x s t at (drop i others) ≡ rowAdds x s t at (getD others i 0) ++ addedBy x s t e (drop (i + 1) others)
+pub added-next : (x : Side) (s t others : List ℕ) (at i f v n e : ℕ) (p : Piece) → i < length others → p ≡ pieceAt x s at t (getD others i 0)
+    → p ≡ piece.Whole f v n e → addedBy x s t at (drop i others) ≡ rowAdds x s t at (getD others i 0) ++ addedBy x s t e (drop (i + 1) others)
 unfolding addedBy pieceAt keptAt newAt rowAdds
 added-next side.Kept s t others at i f v n e p h a b =
-    behind-whole (rowOf at (rowName row.Tag (drop at s))) f v n e (keptRow at t (getD others i 0) (rowOf at (rowName row.Tag (drop at s)))) (sym a ∙ b) (kept-behind at t (getD others i 0) _) (λ len c. rows-next row.Tag tagWithName (keptBy t) s others at i len e h c)
+    behind-whole (rowOf at (rowName row.Tag (drop at s))) f v n e (keptRow at t (getD others i 0) (rowOf at (rowName row.Tag (drop at s))))
+    (sym a ∙ b) (kept-behind at t (getD others i 0) _) (λ len c. rows-next row.Tag tagWithName (keptBy t) s others at i len e h c)
 added-next side.New s t others at i f v n e p h a b =
-    behind-whole (rowOf at (rowName row.Change (drop at t))) f v n e (newRow at t (getD others i 0) (rowOf at (rowName row.Change (drop at t)))) (sym a ∙ b) (new-behind at t (getD others i 0) _) (λ len c. rows-next row.Change changeWithName newBy t others at i len e h c)
+    behind-whole (rowOf at (rowName row.Change (drop at t))) f v n e (newRow at t (getD others i 0) (rowOf at (rowName row.Change (drop at t))))
+    (sym a ∙ b) (new-behind at t (getD others i 0) _) (λ len c. rows-next row.Change changeWithName newBy t others at i len e h c)

@@ -40,7 +40,8 @@ pub known-end : (s : List ℕ) (at len end : ℕ) (r : RowPlace) → r ≡ rowOf
 known-end s at len end r e f = let l = tag-row-parts s at len end (sym e ∙ f) .0 in omega arith
 
 -- a row begins with its name
-pub row-name : (k : Row) (s : List ℕ) (at len end : ℕ) → rowOf at (rowName k (drop at s)) ≡ rowPlace.Whole len end → textOf (string (drop at s)) ≡ text.Whole len
+pub row-name : (k : Row) (s : List ℕ) (at len end : ℕ) → rowOf at (rowName k (drop at s)) ≡ rowPlace.Whole len end
+    → textOf (string (drop at s)) ≡ text.Whole len
 unfolding rowName textOf
 row-name k s at len end e =
     let (l, j, p, q) = row-parts k s at len end e in
@@ -49,7 +50,8 @@ row-name k s at len end e =
     rw f (ap text.Whole (ap length (sym b) ∙ part-length s at len l))))
 
 -- a short string with its length byte
-pub string-bytes : (s : List ℕ) (at n : ℕ) → textOf (string (drop at s)) ≡ text.Whole n → take (1 + n) (drop at s) ≡ shortString (take n (drop (at + 1) s))
+pub string-bytes : (s : List ℕ) (at n : ℕ) → textOf (string (drop at s)) ≡ text.Whole n
+    → take (1 + n) (drop at s) ≡ shortString (take n (drop (at + 1) s))
 unfolding shortString
 string-bytes s at n e =
     let (l, o, p) = string-parts s at n e in
@@ -74,19 +76,37 @@ unfolding valueLength
 value-short s (value.At p n) w h = string-short s p n w (value-text s p n h)
 value-short s value.Nothing w h = omega arith
 
-pub changed-finds : (s : List ℕ) (at : ℕ) (v : Value) → v ≡ changedValue s at → Finds s v (changeMakes (rowWith row.Change changeWithName (drop at s)))
+pub changed-finds : (s : List ℕ) (at : ℕ) (v : Value) → v ≡ changedValue s at
+    → Finds s v (changeMakes (rowWith row.Change changeWithName (drop at s)))
 unfolding changedValue changedRow made changeWithName valueIn Stands
 changed-finds s at v e = rw e (go (rowOf at (rowName row.Change (drop at s))) refl)
   where
-    go : (r : RowPlace) → rowOf at (rowName row.Change (drop at s)) ≡ r → Finds s (changedRow s at r) (changeMakes (rowWith row.Change changeWithName (drop at s)))
-    go rowPlace.Broken f = record { found = rw (row-makes-none row.Change changeWithName (drop at s) (row-broken (rowName row.Change (drop at s)) at f)); there = refl }
-    go (rowPlace.Whole len end) f = row-makes row.Change changeWithName s at len end f (λ m p q. rw p (new-finds s (at + 1 + len) (newValue s (at + 1 + len)) refl))
+    go : (r : RowPlace) → rowOf at (rowName row.Change (drop at s)) ≡ r
+        → Finds s (changedRow s at r) (changeMakes (rowWith row.Change changeWithName (drop at s)))
+    go rowPlace.Broken f = record {
+      found = rw (row-makes-none row.Change changeWithName (drop at s)
+          (row-broken (rowName row.Change (drop at s)) at f));
+      there = refl;
+    }
+    go (rowPlace.Whole len end) f = row-makes row.Change changeWithName s at len end f
+        (λ m p q. rw p (new-finds s (at + 1 + len) (newValue s (at + 1 + len)) refl))
 
-pub short-kept : (s t : List ℕ) (at len end change : ℕ) (r : RowPlace) (v : Value) → ((i : ℕ) → Fits w8 (getD s i 0)) → ((i : ℕ) → Fits w8 (getD t i 0)) → r ≡ rowOf at (rowName row.Tag (drop at s)) → r ≡ rowPlace.Whole len end → v ≡ changedValue t change → Short len v
-short-kept s t at len end change r v w x h g f = record { name = string-short s at len w (row-name row.Tag s at len end (sym h ∙ g)); value = value-short t v x (changed-finds t change v f .there) }
+pub short-kept : (s t : List ℕ) (at len end change : ℕ) (r : RowPlace) (v : Value) → ((i : ℕ) → Fits w8 (getD s i 0))
+    → ((i : ℕ) → Fits w8 (getD t i 0)) → r ≡ rowOf at (rowName row.Tag (drop at s)) → r ≡ rowPlace.Whole len end → v ≡ changedValue t change
+    → Short len v
+short-kept s t at len end change r v w x h g f =
+    record {
+      name = string-short s at len w (row-name row.Tag s at len end (sym h ∙ g));
+      value = value-short t v x (changed-finds t change v f .there);
+    }
 
-pub short-new : (s : List ℕ) (at len end : ℕ) (r : RowPlace) (v : Value) → ((i : ℕ) → Fits w8 (getD s i 0)) → r ≡ rowOf at (rowName row.Change (drop at s)) → r ≡ rowPlace.Whole len end → v ≡ newValue s (at + 1 + len) → Short len v
-short-new s at len end r v w h g f = record { name = string-short s at len w (row-name row.Change s at len end (sym h ∙ g)); value = value-short s v w (new-finds s (at + 1 + len) v f .there) }
+pub short-new : (s : List ℕ) (at len end : ℕ) (r : RowPlace) (v : Value) → ((i : ℕ) → Fits w8 (getD s i 0))
+    → r ≡ rowOf at (rowName row.Change (drop at s)) → r ≡ rowPlace.Whole len end → v ≡ newValue s (at + 1 + len) → Short len v
+short-new s at len end r v w h g f =
+    record {
+      name = string-short s at len w (row-name row.Change s at len end (sym h ∙ g));
+      value = value-short s v w (new-finds s (at + 1 + len) v f .there);
+    }
 
 pub short-fits : (len p n : ℕ) (v : Value) → Short len v → v ≡ value.At p n → Fits w64 (1 + n)
 unfolding valueLength
@@ -102,39 +122,48 @@ pub with-at : (len p n end : ℕ) (v : Value) → v ≡ value.At p n → piece.W
 unfolding withValue
 with-at len p n end v e = rw e
 
-pub changed-broken : (s : List ℕ) (at : ℕ) (r : RowPlace) → r ≡ rowOf at (rowName row.Change (drop at s)) → r ≡ rowPlace.Broken → value.Nothing ≡ changedValue s at
+pub changed-broken : (s : List ℕ) (at : ℕ) (r : RowPlace) → r ≡ rowOf at (rowName row.Change (drop at s)) → r ≡ rowPlace.Broken
+    → value.Nothing ≡ changedValue s at
 unfolding changedValue changedRow
 changed-broken s at r e f = rw (← e, f)
 
-pub changed-there : (s : List ℕ) (at len end : ℕ) (r : RowPlace) (v : Value) → r ≡ rowOf at (rowName row.Change (drop at s)) → r ≡ rowPlace.Whole len end → v ≡ newValue s (at + 1 + len) → v ≡ changedValue s at
+pub changed-there : (s : List ℕ) (at len end : ℕ) (r : RowPlace) (v : Value) → r ≡ rowOf at (rowName row.Change (drop at s))
+    → r ≡ rowPlace.Whole len end → v ≡ newValue s (at + 1 + len) → v ≡ changedValue s at
 unfolding changedValue changedRow
 changed-there s at len end r v e f g = rw (← e, f) g
 
-pub whole-broken : (s : List ℕ) (at : ℕ) (r : RowPlace) → r ≡ rowOf at (rowName row.Tag (drop at s)) → r ≡ rowPlace.Broken → piece.Broken ≡ wholeAt s at
+pub whole-broken : (s : List ℕ) (at : ℕ) (r : RowPlace) → r ≡ rowOf at (rowName row.Tag (drop at s)) → r ≡ rowPlace.Broken
+    → piece.Broken ≡ wholeAt s at
 unfolding wholeAt wholeRow
 whole-broken s at r e f = rw (← e, f)
 
-pub whole-there : (s : List ℕ) (at len end : ℕ) (r : RowPlace) → r ≡ rowOf at (rowName row.Tag (drop at s)) → r ≡ rowPlace.Whole len end → piece.Whole (end - at) 0 0 end ≡ wholeAt s at
+pub whole-there : (s : List ℕ) (at len end : ℕ) (r : RowPlace) → r ≡ rowOf at (rowName row.Tag (drop at s)) → r ≡ rowPlace.Whole len end
+    → piece.Whole (end - at) 0 0 end ≡ wholeAt s at
 unfolding wholeAt wholeRow
 whole-there s at len end r e f = rw (← e, f)
 
-pub tag-broken : (s t : List ℕ) (at change : ℕ) (r : RowPlace) → r ≡ rowOf at (rowName row.Tag (drop at s)) → r ≡ rowPlace.Broken → piece.Broken ≡ changedAt s at t change
+pub tag-broken : (s t : List ℕ) (at change : ℕ) (r : RowPlace) → r ≡ rowOf at (rowName row.Tag (drop at s)) → r ≡ rowPlace.Broken
+    → piece.Broken ≡ changedAt s at t change
 unfolding changedAt changedTag
 tag-broken s t at change r e f = rw (← e, f)
 
-pub tag-takes : (s t : List ℕ) (at len end change : ℕ) (r : RowPlace) (v : Value) (q : Piece) → r ≡ rowOf at (rowName row.Tag (drop at s)) → r ≡ rowPlace.Whole len end → v ≡ changedValue t change → q ≡ withValue len v end → q ≡ changedAt s at t change
+pub tag-takes : (s t : List ℕ) (at len end change : ℕ) (r : RowPlace) (v : Value) (q : Piece) → r ≡ rowOf at (rowName row.Tag (drop at s))
+    → r ≡ rowPlace.Whole len end → v ≡ changedValue t change → q ≡ withValue len v end → q ≡ changedAt s at t change
 unfolding changedAt changedTag
 tag-takes s t at len end change r v q e f h o = rw (← e, f, ← h) o
 
-pub new-broken : (s : List ℕ) (at tag : ℕ) (r : RowPlace) → r ≡ rowOf at (rowName row.Change (drop at s)) → r ≡ rowPlace.Broken → piece.Broken ≡ newAt at s tag
+pub new-broken : (s : List ℕ) (at tag : ℕ) (r : RowPlace) → r ≡ rowOf at (rowName row.Change (drop at s)) → r ≡ rowPlace.Broken
+    → piece.Broken ≡ newAt at s tag
 unfolding newAt newRow
 new-broken s at tag r e f = rw (← e, f)
 
-pub new-old : (s : List ℕ) (at len end tag : ℕ) (r : RowPlace) → r ≡ rowOf at (rowName row.Change (drop at s)) → r ≡ rowPlace.Whole len end → 0 < tag → piece.Whole 0 0 0 end ≡ newAt at s tag
+pub new-old : (s : List ℕ) (at len end tag : ℕ) (r : RowPlace) → r ≡ rowOf at (rowName row.Change (drop at s)) → r ≡ rowPlace.Whole len end
+    → 0 < tag → piece.Whole 0 0 0 end ≡ newAt at s tag
 unfolding newAt newRow
 new-old s at len end tag r e f g = rw (← e, f, lt-ltb 0 tag g)
 
-pub new-takes : (s : List ℕ) (at len end tag : ℕ) (r : RowPlace) (v : Value) (q : Piece) → r ≡ rowOf at (rowName row.Change (drop at s)) → r ≡ rowPlace.Whole len end → tag ≤ 0 → v ≡ newValue s (at + 1 + len) → q ≡ withValue len v end → q ≡ newAt at s tag
+pub new-takes : (s : List ℕ) (at len end tag : ℕ) (r : RowPlace) (v : Value) (q : Piece) → r ≡ rowOf at (rowName row.Change (drop at s))
+    → r ≡ rowPlace.Whole len end → tag ≤ 0 → v ≡ newValue s (at + 1 + len) → q ≡ withValue len v end → q ≡ newAt at s tag
 unfolding newAt newRow
 new-takes s at len end tag r v q e f g h o = rw (← e, f, le-ltb 0 tag g, ← h) o
 
@@ -161,7 +190,8 @@ pub piece-whole : (x : Side) (s t : List ℕ) (at other : ℕ) (q : Piece) → x
 unfolding pieceAt keptAt wholeAt
 piece-whole x s t at other q e z f = rw (e, z) (f ∙ whole-kept t at _)
 
-pub piece-changed : (x : Side) (s t : List ℕ) (at other : ℕ) (q : Piece) → x ≡ side.Kept → (other ≡ 0 → ⊥) → q ≡ namedAt x s at t other → q ≡ pieceAt x s at t other
+pub piece-changed : (x : Side) (s t : List ℕ) (at other : ℕ) (q : Piece) → x ≡ side.Kept → (other ≡ 0 → ⊥) → q ≡ namedAt x s at t other
+    → q ≡ pieceAt x s at t other
 unfolding pieceAt keptAt changedAt namedAt
 piece-changed x s t at other q e z f = rw e (rw e at f ∙ changed-kept t at other _ z)
 
@@ -169,4 +199,28 @@ pub piece-new : (x : Side) (s t : List ℕ) (at other : ℕ) (q : Piece) → x �
 unfolding pieceAt namedAt
 piece-new x s t at other q e f = rw e (rw e at f)
 
-pub ruleset laws = (needs, row-name-place, row-fits-2, known-end, short-kept, short-new, short-fits, with-nothing, with-at, changed-broken, changed-there, whole-broken, whole-there, tag-broken, tag-takes, new-broken, new-old, new-takes, named-kept, named-new, piece-whole, piece-changed, piece-new)
+pub ruleset laws = (
+  needs,
+  row-name-place,
+  row-fits-2,
+  known-end,
+  short-kept,
+  short-new,
+  short-fits,
+  with-nothing,
+  with-at,
+  changed-broken,
+  changed-there,
+  whole-broken,
+  whole-there,
+  tag-broken,
+  tag-takes,
+  new-broken,
+  new-old,
+  new-takes,
+  named-kept,
+  named-new,
+  piece-whole,
+  piece-changed,
+  piece-new,
+)

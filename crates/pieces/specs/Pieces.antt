@@ -47,7 +47,8 @@ changedAt table place sheet change = changedTag sheet change (rowOf place (rowNa
 
 -- a tag of the table, by the place of its change in the sheet, or 0
 unfoldable pub keptRow : (place : ℕ) → (sheet : List ℕ) → (change : ℕ) → RowPlace → Piece
-keptRow place sheet change (rowPlace.Whole len end) = cond (eqb change 0) (piece.Whole (end - place) 0 0 end) (withValue len (changedValue sheet change) end)
+keptRow place sheet change (rowPlace.Whole len end) = cond (eqb change 0) (piece.Whole (end - place) 0 0 end)
+    (withValue len (changedValue sheet change) end)
 keptRow place sheet change rowPlace.Broken = piece.Broken
 
 unfoldable pub keptAt : (table : List ℕ) → (place : ℕ) → (sheet : List ℕ) → (change : ℕ) → Piece

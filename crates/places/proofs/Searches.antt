@@ -31,7 +31,8 @@ use Rattle.places.proofs.Walks.{mark-done, mark-stop, mark-step, change
 -- ── What is stored, change by change ──
 
 module _ (f : List ℕ → ℕ → ℕ) where
-  stored-more : (n : ℕ) (s : List ℕ) (at : ℕ) (ps : List ℕ) (i : ℕ) (v : List ℕ) (m : ℕ) → rowName row.Change (drop at s) ≡ good v m → stored f (suc n) s at ps i ≡ stored f n s (at + m) (set ps i (f v at)) (i + 1)
+  stored-more : (n : ℕ) (s : List ℕ) (at : ℕ) (ps : List ℕ) (i : ℕ) (v : List ℕ) (m : ℕ) → rowName row.Change (drop at s) ≡ good v m
+      → stored f (suc n) s at ps i ≡ stored f n s (at + m) (set ps i (f v at)) (i + 1)
   unfolding stored
   stored-more n s at ps i v m e = rw (e, stored)
 
@@ -48,7 +49,9 @@ module _ (f : List ℕ → ℕ → ℕ) where
   stored-before zero s at ps i j h = ap (λ (x : List ℕ). getD x j 0) (not-stored s at ps i)
   stored-before (suc n) s at ps i j h = go (rowName row.Change (drop at s)) refl (stored-before n s)
     where
-      go : (r : Parsed (List ℕ)) → rowName row.Change (drop at s) ≡ r → ((at : ℕ) (ps : List ℕ) (i j : ℕ) → j < i → getD (stored f n s at ps i) j 0 ≡ getD ps j 0) → getD (stored f (suc n) s at ps i) j 0 ≡ getD ps j 0
+      go : (r : Parsed (List ℕ)) → rowName row.Change (drop at s) ≡ r
+          → ((at : ℕ) (ps : List ℕ) (i j : ℕ) → j < i → getD (stored f n s at ps i) j 0 ≡ getD ps j 0)
+          → getD (stored f (suc n) s at ps i) j 0 ≡ getD ps j 0
       go bad e ih = ap (λ (x : List ℕ). getD x j 0) (stored-none n s at ps i e)
       go (good v m) e ih =
           ap (λ (x : List ℕ). getD x j 0) (stored-more n s at ps i v m e)
@@ -59,19 +62,24 @@ module _ (f : List ℕ → ℕ → ℕ) where
   stored-length zero s at ps i = ap length (not-stored s at ps i)
   stored-length (suc n) s at ps i = go (rowName row.Change (drop at s)) refl (stored-length n s)
     where
-      go : (r : Parsed (List ℕ)) → rowName row.Change (drop at s) ≡ r → ((at : ℕ) (ps : List ℕ) (i : ℕ) → length (stored f n s at ps i) ≡ length ps) → length (stored f (suc n) s at ps i) ≡ length ps
+      go : (r : Parsed (List ℕ)) → rowName row.Change (drop at s) ≡ r
+          → ((at : ℕ) (ps : List ℕ) (i : ℕ) → length (stored f n s at ps i) ≡ length ps) → length (stored f (suc n) s at ps i) ≡ length ps
       go bad e ih = ap length (stored-none n s at ps i e)
       go (good v m) e ih = ap length (stored-more n s at ps i v m e) ∙ ih (at + m) (set ps i (f v at)) (i + 1) ∙ length-set ps i (f v at)
 
-  pub stored-whole : (n : ℕ) (s : List ℕ) (at : ℕ) (ps : List ℕ) (i : ℕ) → stored f (length (names n (rowName row.Change) (drop at s))) s at ps i ≡ stored f n s at ps i
+  pub stored-whole : (n : ℕ) (s : List ℕ) (at : ℕ) (ps : List ℕ) (i : ℕ)
+      → stored f (length (names n (rowName row.Change) (drop at s))) s at ps i ≡ stored f n s at ps i
   stored-whole zero s at ps i = rw (no-names (rowName row.Change) (drop at s))
   stored-whole (suc n) s at ps i = go (rowName row.Change (drop at s)) refl (stored-whole n s)
     where
-      go : (r : Parsed (List ℕ)) → rowName row.Change (drop at s) ≡ r → ((at : ℕ) (ps : List ℕ) (i : ℕ) → stored f (length (names n (rowName row.Change) (drop at s))) s at ps i ≡ stored f n s at ps i) → stored f (length (names (suc n) (rowName row.Change) (drop at s))) s at ps i ≡ stored f (suc n) s at ps i
+      go : (r : Parsed (List ℕ)) → rowName row.Change (drop at s) ≡ r
+          → ((at : ℕ) (ps : List ℕ) (i : ℕ) → stored f (length (names n (rowName row.Change) (drop at s))) s at ps i ≡ stored f n s at ps i)
+          → stored f (length (names (suc n) (rowName row.Change) (drop at s))) s at ps i ≡ stored f (suc n) s at ps i
       go bad e ih = rw (names-none n (rowName row.Change) (drop at s) e) (not-stored s at ps i ∙ sym (stored-none n s at ps i e))
       go (good v m) e ih =
           rw (names-next n (rowName row.Change) s at v m e)
-          (stored-more (length (names n (rowName row.Change) (drop (at + m) s))) s at ps i v m e ∙ ih (at + m) (set ps i (f v at)) (i + 1) ∙ sym (stored-more n s at ps i v m e))
+          (stored-more (length (names n (rowName row.Change) (drop (at + m) s))) s at ps i v m e ∙ ih (at + m) (set ps i (f v at)) (i + 1)
+          ∙ sym (stored-more n s at ps i v m e))
 
   kept-room : (s : List ℕ) (at n : ℕ) (ps : List ℕ) (i : ℕ) → Kept f s at n ps i → i + n ≤ length ps
   kept-room s at n ps i k =
@@ -79,12 +87,16 @@ module _ (f : List ℕ → ℕ → ℕ) where
       let r = k .room in
       omega arith
 
-  kept-next : (s : List ℕ) (at n : ℕ) (ps : List ℕ) (i : ℕ) (v : List ℕ) (m : ℕ) → rowName row.Change (drop at s) ≡ good v m → Kept f s at (suc n) ps i → (getD ps i 0 ≡ f v at) × Kept f s (at + m) n ps (i + 1)
+  kept-next : (s : List ℕ) (at n : ℕ) (ps : List ℕ) (i : ℕ) (v : List ℕ) (m : ℕ) → rowName row.Change (drop at s) ≡ good v m
+      → Kept f s at (suc n) ps i → (getD ps i 0 ≡ f v at) × Kept f s (at + m) n ps (i + 1)
   kept-next s at n ps i v m e k =
       let a : ps ≡ stored f n s (at + m) (set (k .before) i (f v at)) (i + 1) = k .stores ∙ stored-more n s at (k .before) i v m e in
       let r = k .room in
-      let l = length-set (k .before) i (f v at) in
-      (ap (λ (x : List ℕ). getD x i 0) a ∙ stored-before n s (at + m) (set (k .before) i (f v at)) (i + 1) i (omega arith) ∙ getD-set-same (k .before) i (f v at) 0 (omega arith), record { before = set (k .before) i (f v at); room = omega arith; stores = a })
+      let l = length-set (k .before) i (f v at) in (
+        ap (λ (x : List ℕ). getD x i 0) a ∙ stored-before n s (at + m) (set (k .before) i (f v at)) (i + 1) i (omega arith)
+            ∙ getD-set-same (k .before) i (f v at) 0 (omega arith),
+        record { before = set (k .before) i (f v at); room = omega arith; stores = a },
+      )
 
 -- ── Storing it ──
 
@@ -94,14 +106,19 @@ mark-long ms₀ ms after m e f = ap length e ∙ length-marked ms m ∙ f
 -- the whole changes, counted one by one
 module _ (sheet : List ℕ) (place passed left all : ℕ) (e : passed + length (names left (rowName row.Change) (drop place sheet)) ≡ all) where
   pub whole-done : left ≤ 0 → passed ≡ all
-  whole-done h = let o : length (names left (rowName row.Change) (drop place sheet)) ≡ 0 = ap length (names-done row.Change sheet place left h) in omega arith
+  whole-done h = let o : length (names left (rowName row.Change) (drop place sheet)) ≡ 0 =
+      ap length (names-done row.Change sheet place left h) in omega arith
 
   pub whole-stop : (r : RowPlace) → r ≡ rowOf place (rowName row.Change (drop place sheet)) → r ≡ rowPlace.Broken → passed ≡ all
-  whole-stop r f g = let o : length (names left (rowName row.Change) (drop place sheet)) ≡ 0 = ap length (names-stop row.Change sheet place left r f g) in omega arith
+  whole-stop r f g = let o : length (names left (rowName row.Change) (drop place sheet)) ≡ 0 =
+      ap length (names-stop row.Change sheet place left r f g) in omega arith
 
-  pub whole-step : (len end : ℕ) (r : RowPlace) → 0 < left → r ≡ rowOf place (rowName row.Change (drop place sheet)) → r ≡ rowPlace.Whole len end → passed + 1 + length (names (left - 1) (rowName row.Change) (drop end sheet)) ≡ all
+  pub whole-step : (len end : ℕ) (r : RowPlace) → 0 < left → r ≡ rowOf place (rowName row.Change (drop place sheet)) → r ≡ rowPlace.Whole len end
+      → passed + 1 + length (names (left - 1) (rowName row.Change) (drop end sheet)) ≡ all
   whole-step len end r h f g =
-      let o : length (names left (rowName row.Change) (drop place sheet)) ≡ suc (length (names (left - 1) (rowName row.Change) (drop end sheet))) = ap length (names-step row.Change sheet place left len end r h f g) in
+      let o : length (names left (rowName row.Change) (drop place sheet)) ≡ suc
+      (length (names (left - 1) (rowName row.Change) (drop end sheet))) =
+      ap length (names-step row.Change sheet place left len end r h f g) in
       omega arith
 
 -- what is stored so far, and what is left to store
@@ -113,7 +130,8 @@ pub record Storing (f : List ℕ → ℕ → ℕ) (sheet : List ℕ) (k : ℕ) (
 pub storing-start : (f : List ℕ → ℕ → ℕ) (sheet : List ℕ) (k : ℕ) (ps : List ℕ) → k ≤ length ps → Storing f sheet k ps ps 1 0 k
 storing-start f sheet k ps h = record { room = omega arith; long = refl; rest = refl }
 
-module _ (f : List ℕ → ℕ → ℕ) (sheet : List ℕ) (k : ℕ) (ps₀ ps : List ℕ) (place passed left : ℕ) (w : Storing f sheet k ps₀ ps place passed left) where
+module _ (f : List ℕ → ℕ → ℕ) (sheet : List ℕ) (k : ℕ) (ps₀ ps : List ℕ) (place passed left : ℕ)
+    (w : Storing f sheet k ps₀ ps place passed left) where
   pub storing-room : 0 < left → passed < length ps
   storing-room h = let r = w .room in omega arith
 
@@ -135,9 +153,12 @@ module _ (f : List ℕ → ℕ → ℕ) (sheet : List ℕ) (k : ℕ) (ps₀ ps :
     where
       go : (l : ℕ) → left ≡ l → ps ≡ stored f k sheet 1 ps₀ 0
       go zero o = sym (rw o (not-stored f sheet place ps passed)) ∙ w .rest
-      go (suc l) o = sym (rw o (stored-none f l sheet place ps passed (row-broken (rowName row.Change (drop place sheet)) place (sym a ∙ b)))) ∙ w .rest
+      go (suc l) o = sym (rw o (stored-none f l sheet place ps passed (row-broken (rowName row.Change (drop place sheet)) place (sym a ∙ b))))
+          ∙ w .rest
 
-  storing-step : (len end : ℕ) (r : RowPlace) (x : ℕ) → 0 < left → r ≡ rowOf place (rowName row.Change (drop place sheet)) → r ≡ rowPlace.Whole len end → x ≡ f (take len (drop (place + 1) sheet)) place → Storing f sheet k ps₀ (set ps passed x) end (passed + 1) (left - 1)
+  storing-step : (len end : ℕ) (r : RowPlace) (x : ℕ) → 0 < left → r ≡ rowOf place (rowName row.Change (drop place sheet))
+      → r ≡ rowPlace.Whole len end → x ≡ f (take len (drop (place + 1) sheet)) place
+      → Storing f sheet k ps₀ (set ps passed x) end (passed + 1) (left - 1)
   storing-step len end r x h a b c =
       let o = w .room in
       let l = length-set ps passed x in
@@ -150,29 +171,41 @@ module _ (f : List ℕ → ℕ → ℕ) (sheet : List ℕ) (k : ℕ) (ps₀ ps :
           let j : suc n - 1 ≡ n = omega arith in
           rw (o, j, z, c) (sym (rw o (stored-more f n sheet place ps passed (take len (drop (place + 1) sheet)) m q)) ∙ w .rest)
 
-module _ (sheet : List ℕ) (k : ℕ) (ps₀ ps : List ℕ) (place passed left len end : ℕ) (r : RowPlace) (h : 0 < left) (a : r ≡ rowOf place (rowName row.Change (drop place sheet))) (b : r ≡ rowPlace.Whole len end) where
-  pub mark-stored : (m : ℕ) → m ≡ markOf sheet (place + 1) len → Storing changeMark sheet k ps₀ ps place passed left → Storing changeMark sheet k ps₀ (set ps passed m) end (passed + 1) (left - 1)
+module _ (sheet : List ℕ) (k : ℕ) (ps₀ ps : List ℕ) (place passed left len end : ℕ) (r : RowPlace) (h : 0 < left)
+    (a : r ≡ rowOf place (rowName row.Change (drop place sheet))) (b : r ≡ rowPlace.Whole len end) where
+  pub mark-stored : (m : ℕ) → m ≡ markOf sheet (place + 1) len → Storing changeMark sheet k ps₀ ps place passed left
+      → Storing changeMark sheet k ps₀ (set ps passed m) end (passed + 1) (left - 1)
   unfolding changeMark
-  mark-stored m c w = storing-step changeMark sheet k ps₀ ps place passed left w len end r m h a b (c ∙ of-there sheet (place + 1) len (row-name-there row.Change sheet place len end r a b))
+  mark-stored m c w = storing-step changeMark sheet k ps₀ ps place passed left w len end r m h a b
+      (c ∙ of-there sheet (place + 1) len (row-name-there row.Change sheet place len end r a b))
 
-  pub start-stored : Storing changeStart sheet k ps₀ ps place passed left → Storing changeStart sheet k ps₀ (set ps passed place) end (passed + 1) (left - 1)
+  pub start-stored : Storing changeStart sheet k ps₀ ps place passed left
+      → Storing changeStart sheet k ps₀ (set ps passed place) end (passed + 1) (left - 1)
   unfolding changeStart
   start-stored w = storing-step changeStart sheet k ps₀ ps place passed left w len end r place h a b refl
 
 -- ── The changes that are known ──
 
-pub known-start : (sheet ks ps : List ℕ) (k w : ℕ) → k ≤ 64 → w ≡ length (changeNamesAt sheet k) → ks ≡ stored changeMark k sheet 1 (replicate 64 0) 0 → ps ≡ stored changeStart k sheet 1 (replicate 64 0) 0 → Known sheet 1 w ks ps 0
+pub known-start : (sheet ks ps : List ℕ) (k w : ℕ) → k ≤ 64 → w ≡ length (changeNamesAt sheet k)
+    → ks ≡ stored changeMark k sheet 1 (replicate 64 0) 0 → ps ≡ stored changeStart k sheet 1 (replicate 64 0) 0 → Known sheet 1 w ks ps 0
 known-start sheet ks ps k w l f a b =
     let o = length-replicate {A = ℕ} 64 0 in
     let few : length (changeNamesAt sheet k) ≤ k = names-few k (rowName row.Change) (drop 1 sheet) in
     record {
       whole = rw f (ap length (names-whole k (rowName row.Change) (drop 1 sheet)));
       marks = record { before = replicate 64 0; room = omega arith; stores = a ∙ rw f (sym (stored-whole changeMark k sheet 1 (replicate 64 0) 0)) };
-      places = record { before = replicate 64 0; room = omega arith; stores = b ∙ rw f (sym (stored-whole changeStart k sheet 1 (replicate 64 0) 0)) };
+      places = record {
+        before = replicate 64 0;
+        room = omega arith;
+        stores = b
+            ∙ rw f (sym (stored-whole changeStart k sheet 1 (replicate 64 0) 0));
+      };
     }
 
 -- the first of them, which is whole, and the others
-known-next : {G : Type 0} (s : List ℕ) (at n : ℕ) (ks ps : List ℕ) (i : ℕ) → 0 < n → Known s at n ks ps i → ((v : List ℕ) (m : ℕ) → rowName row.Change (drop at s) ≡ good v m → getD ks i 0 ≡ markFor v → getD ps i 0 ≡ at → Known s (at + m) (n - 1) ks ps (i + 1) → G) → G
+known-next : {G : Type 0} (s : List ℕ) (at n : ℕ) (ks ps : List ℕ) (i : ℕ) → 0 < n → Known s at n ks ps i
+    → ((v : List ℕ) (m : ℕ) → rowName row.Change (drop at s) ≡ good v m → getD ks i 0 ≡ markFor v → getD ps i 0 ≡ at
+    → Known s (at + m) (n - 1) ks ps (i + 1) → G) → G
 unfolding changeMark changeStart
 known-next s at zero ks ps i h k w = absurd (omega arith)
 known-next {G} s at (suc n) ks ps i h k w = go (rowName row.Change (drop at s)) refl
@@ -185,7 +218,8 @@ known-next {G} s at (suc n) ks ps i h k w = go (rowName row.Change (drop at s)) 
     go (good v m) e =
         let (a, b) = kept-next changeMark s at n ks i v m e (k .marks) in
         let (c, d) = kept-next changeStart s at n ps i v m e (k .places) in
-        let o : length (names (suc n) (rowName row.Change) (drop at s)) ≡ suc (length (names n (rowName row.Change) (drop (at + m) s))) = ap length (names-next n (rowName row.Change) s at v m e) in
+        let o : length (names (suc n) (rowName row.Change) (drop at s)) ≡ suc (length (names n (rowName row.Change) (drop (at + m) s))) =
+        ap length (names-next n (rowName row.Change) s at v m e) in
         let q = k .whole in
         let j : suc n - 1 ≡ n = omega arith in
         w v m e a c (rw j (record { whole = omega arith; marks = b; places = d }))
@@ -193,9 +227,11 @@ known-next {G} s at (suc n) ks ps i h k w = go (rowName row.Change (drop at s)) 
 -- ── One change ──
 
 one-name : (s : List ℕ) (at : ℕ) (v : List ℕ) (m : ℕ) → rowName row.Change (drop at s) ≡ good v m → names 1 (rowName row.Change) (drop at s) ≡ v ∷ []
-one-name s at v m e = names-next 0 (rowName row.Change) s at v m e ∙ ap (λ (l : List (List ℕ)). v ∷ l) (no-names (rowName row.Change) (drop (at + m) s))
+one-name s at v m e = names-next 0 (rowName row.Change) s at v m e
+    ∙ ap (λ (l : List (List ℕ)). v ∷ l) (no-names (rowName row.Change) (drop (at + m) s))
 
-one-among : (name s : List ℕ) (at : ℕ) (v : List ℕ) (m : ℕ) → rowName row.Change (drop at s) ≡ good v m → among name (names 1 (rowName row.Change) (drop at s)) ≡ same name v
+one-among : (name s : List ℕ) (at : ℕ) (v : List ℕ) (m : ℕ) → rowName row.Change (drop at s) ≡ good v m
+    → among name (names 1 (rowName row.Change) (drop at s)) ≡ same name v
 unfolding among
 one-among name s at v m e = ap (among name) (one-name s at v m e) ∙ go (same name v)
   where
@@ -215,17 +251,22 @@ other-mark name (v ∷ []) known e d = go (same name v) refl
     go false h = refl
 
 module _ (a sheet : List ℕ) (here len place : ℕ) (h : here + len ≤ length a) where
-  pub named-other : (mark known : ℕ) → mark ≡ markOf a here len → map markFor (names 1 (rowName row.Change) (drop place sheet)) ≡ known ∷ [] → (known ≡ mark → ⊥) → false ≡ among (take len (drop here a)) (names 1 (rowName row.Change) (drop place sheet))
+  pub named-other : (mark known : ℕ) → mark ≡ markOf a here len → map markFor (names 1 (rowName row.Change) (drop place sheet)) ≡ known ∷ []
+      → (known ≡ mark → ⊥) → false ≡ among (take len (drop here a)) (names 1 (rowName row.Change) (drop place sheet))
   named-other mark known e f d =
       other-mark (take len (drop here a)) (names 1 (rowName row.Change) (drop place sheet)) known f (λ o. d (o ∙ sym (of-there a here len h) ∙ sym e))
 
-  named-by : (f : NameFound) → f ≡ findName a here len sheet place 1 row.Change → isFound f ≡ among (take len (drop here a)) (names 1 (rowName row.Change) (drop place sheet))
-  named-by f e = ap isFound (e ∙ find-there a sheet here len place 1 row.Change h) ∙ sym (among-found (take len (drop here a)) 1 (rowName row.Change) sheet 0 place)
+  named-by : (f : NameFound) → f ≡ findName a here len sheet place 1 row.Change
+      → isFound f ≡ among (take len (drop here a)) (names 1 (rowName row.Change) (drop place sheet))
+  named-by f e = ap isFound (e ∙ find-there a sheet here len place 1 row.Change h)
+      ∙ sym (among-found (take len (drop here a)) 1 (rowName row.Change) sheet 0 place)
 
-  pub named-found : (f : NameFound) (i p : ℕ) → f ≡ findName a here len sheet place 1 row.Change → f ≡ found.At i p → true ≡ among (take len (drop here a)) (names 1 (rowName row.Change) (drop place sheet))
+  pub named-found : (f : NameFound) (i p : ℕ) → f ≡ findName a here len sheet place 1 row.Change → f ≡ found.At i p
+      → true ≡ among (take len (drop here a)) (names 1 (rowName row.Change) (drop place sheet))
   named-found f i p e g = sym (ap isFound g) ∙ named-by f e
 
-  pub named-nothing : (f : NameFound) → f ≡ findName a here len sheet place 1 row.Change → f ≡ found.Nothing → false ≡ among (take len (drop here a)) (names 1 (rowName row.Change) (drop place sheet))
+  pub named-nothing : (f : NameFound) → f ≡ findName a here len sheet place 1 row.Change → f ≡ found.Nothing
+      → false ≡ among (take len (drop here a)) (names 1 (rowName row.Change) (drop place sheet))
   named-nothing f e g = sym (ap isFound g) ∙ named-by f e
 
 -- ── The search ──
@@ -263,21 +304,61 @@ module _ (table : List ℕ) (here len : ℕ) (sheet : List ℕ) (k : ℕ) (ks ps
         go (suc l) h o = absurd (omega arith)
 
     -- what the row's name tells
-    search-by : {G : Type 0} (r : Bool) → 0 < left → r ≡ among (take len (drop here table)) (names 1 (rowName row.Change) (drop (getD ps passed 0) sheet)) → ((at m : ℕ) → getD ps passed 0 ≡ at → Known sheet (at + m) (left - 1) ks ps (passed + 1) → cond r (found.At passed at) (found (take len (drop here table)) (left - 1) (rowName row.Change) sheet (passed + 1) (at + m)) ≡ findName table here len sheet 1 k row.Change → G) → G
+    search-by : {G : Type 0} (r : Bool) → 0 < left → r ≡ among (take len (drop here table))
+        (names 1 (rowName row.Change) (drop (getD ps passed 0) sheet))
+        → ((at m : ℕ) → getD ps passed 0 ≡ at → Known sheet (at + m) (left - 1) ks ps (passed + 1)
+        → cond r (found.At passed at) (found (take len (drop here table)) (left - 1) (rowName row.Change) sheet (passed + 1) (at + m)) ≡ findName
+        table here len sheet 1 k row.Change → G) → G
     search-by {G} r h f g =
         known-next sheet (w .at) left ks ps passed h (w .known) (λ v m e a b c. g (w .at) m b c (go left refl v m e b))
       where
-        go : (l : ℕ) → left ≡ l → (v : List ℕ) (m : ℕ) → rowName row.Change (drop (w .at) sheet) ≡ good v m → getD ps passed 0 ≡ w .at → cond r (found.At passed (w .at)) (found (take len (drop here table)) (left - 1) (rowName row.Change) sheet (passed + 1) (w .at + m)) ≡ findName table here len sheet 1 k row.Change
+        go : (l : ℕ) → left ≡ l → (v : List ℕ) (m : ℕ) → rowName row.Change (drop (w .at) sheet) ≡ good v m → getD ps passed 0 ≡ w .at
+            → cond r (found.At passed (w .at)) (found (take len (drop here table)) (left - 1) (rowName row.Change) sheet (passed + 1)
+            (w .at + m)) ≡ findName table here len sheet 1 k row.Change
         go zero o v m e b = absurd (omega arith)
         go (suc l) o v m e b =
             let j : suc l - 1 ≡ l = omega arith in
             let x : r ≡ same (take len (drop here table)) v = rw b at f ∙ one-among (take len (drop here table)) sheet (w .at) v m e in
             rw (o, j, x) (sym (rw o (found-more (take len (drop here table)) l (rowName row.Change) sheet passed (w .at) v m e)) ∙ w .rest)
 
-    pub search-hit : (r : Bool) → 0 < left → r ≡ among (take len (drop here table)) (names 1 (rowName row.Change) (drop (getD ps passed 0) sheet)) → r ≡ true → found.At passed (getD ps passed 0) ≡ findName table here len sheet 1 k row.Change
+    pub search-hit : (r : Bool) → 0 < left → r ≡ among (take len (drop here table)) (names 1 (rowName row.Change) (drop (getD ps passed 0) sheet))
+        → r ≡ true → found.At passed (getD ps passed 0) ≡ findName table here len sheet 1 k row.Change
     search-hit r h f t = search-by r h f (λ at m b c d. rw b (rw t at d))
 
-    pub search-step : (r : Bool) → 0 < left → r ≡ among (take len (drop here table)) (names 1 (rowName row.Change) (drop (getD ps passed 0) sheet)) → r ≡ false → Searching table here len sheet k ks ps (passed + 1) (left - 1)
+    pub search-step : (r : Bool) → 0 < left → r ≡ among (take len (drop here table))
+        (names 1 (rowName row.Change) (drop (getD ps passed 0) sheet)) → r ≡ false
+        → Searching table here len sheet k ks ps (passed + 1) (left - 1)
     search-step r h f t = search-by r h f (λ at m b c d. record { at = at + m; known = c; rest = rw t at d })
 
-pub ruleset laws = (needs, row-name-there, row-name-place, whole-done, whole-stop, whole-step, mark-long, mark-done, mark-stop, mark-step, change-unmarked, storing-start, storing-room, storing-fits, storing-long, storing-done, storing-stop, mark-stored, start-stored, named-other, named-found, named-nothing, search-start, search-marks, search-places, search-fits, search-row, search-done, search-hit, search-step)
+pub ruleset laws = (
+  needs,
+  row-name-there,
+  row-name-place,
+  whole-done,
+  whole-stop,
+  whole-step,
+  mark-long,
+  mark-done,
+  mark-stop,
+  mark-step,
+  change-unmarked,
+  storing-start,
+  storing-room,
+  storing-fits,
+  storing-long,
+  storing-done,
+  storing-stop,
+  mark-stored,
+  start-stored,
+  named-other,
+  named-found,
+  named-nothing,
+  search-start,
+  search-marks,
+  search-places,
+  search-fits,
+  search-row,
+  search-done,
+  search-hit,
+  search-step,
+)

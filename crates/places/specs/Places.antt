@@ -80,7 +80,8 @@ placing named places = record { named = named; places = places }
 unfoldable pub placedBy : (table : List ℕ) → (at : ℕ) → (sheet named places : List ℕ) → Placing
 placedBy table at sheet named places =
     cond (ltb mostChanges (length places)) (placing named places)
-    (placing (listed (changePlace sheet (length places)) (tagNamesAt table at (length named)) named 0) (walked (changeFound sheet (length places)) (length named) table at places))
+    (placing (listed (changePlace sheet (length places)) (tagNamesAt table at (length named)) named 0)
+    (walked (changeFound sheet (length places)) (length named) table at places))
 
 -- ── As the code finds them ──
 

@@ -50,7 +50,8 @@ opens f r h e g = open-opens f h (sym e ∙ g) .0
 holds : (f : List ℕ) (r : Opening) (h : Held) → r ≡ openOf f → r ≡ openingAs.Opened h → h ≡ heldOf f
 holds f r h e g = open-opens f h (sym e ∙ g) .1
 
-refused-with : (f : List ℕ) (r : Opening) (q n : Refusal) → r ≡ openOf f → r ≡ openingAs.Refused q → n ≡ openRefusal r → (k : ℕ) × (refusal f ≡ suc k) × (n ≡ plain (suc k))
+refused-with : (f : List ℕ) (r : Opening) (q n : Refusal) → r ≡ openOf f → r ≡ openingAs.Refused q → n ≡ openRefusal r
+    → (k : ℕ) × (refusal f ≡ suc k) × (n ≡ plain (suc k))
 refused-with f r q n e g h =
     let (k, p, m) = open-refuses f q (sym e ∙ g) in
     (k, m, h ∙ ap openRefusal g ∙ p)
@@ -69,7 +70,8 @@ eight-passed f b o e = opening-pass f (line 8 b ∷ []) (opens-passes f o) ∙ l
 
 -- ── Finding an item ──
 
-pub find-refused : (f : List ℕ) (r : Opening) (q n : Refusal) (it : Item) → r ≡ openOf f → r ≡ openingAs.Refused q → n ≡ openRefusal r → Refused n ≡ findOf f it
+pub find-refused : (f : List ℕ) (r : Opening) (q n : Refusal) (it : Item) → r ≡ openOf f → r ≡ openingAs.Refused q → n ≡ openRefusal r
+    → Refused n ≡ findOf f it
 unfolding findOf foundBy itemRefusal
 find-refused f r q n it e g h =
     let (k, p, m) = refused-with f r q n e g h in
@@ -85,7 +87,8 @@ found-item f it o = go (noSuchItem (shown f) it) refl
     go true e = rw (eight-holds f (noSuchItem (shown f) it) o e, e)
     go false e = rw (eight-passed f (noSuchItem (shown f) it) o e, e)
 
-pub find-opened : (f : List ℕ) (r : Opening) (h : Held) (it : Item) (x : Found) → Bytes f → r ≡ openOf f → r ≡ openingAs.Opened h → x ≡ heldFound f h it → x ≡ findOf f it
+pub find-opened : (f : List ℕ) (r : Opening) (h : Held) (it : Item) (x : Found) → Bytes f → r ≡ openOf f → r ≡ openingAs.Opened h
+    → x ≡ heldFound f h it → x ≡ findOf f it
 unfolding findOf
 find-opened f r h it x b e g u = u ∙ shown-item f b (opens f r h e g) h (holds f r h e g) it ∙ found-item f (itemOf it) (opens f r h e g)
 
@@ -112,7 +115,8 @@ part-none : (f : List ℕ) (it : Item) (n : Refusal) → findOf f it ≡ Refused
 unfolding findOf foundBy itemPart partOf
 part-none f it n e = go (itemRefusal f (itemOf it)) refl e
   where
-    go : (m : ℕ) → itemRefusal f (itemOf it) ≡ m → foundBy m (itemPart f (itemOf it)) ≡ Refused n → itemPart f (itemOf it) ≡ record { start = 0; len = 0 }
+    go : (m : ℕ) → itemRefusal f (itemOf it) ≡ m → foundBy m (itemPart f (itemOf it)) ≡ Refused n
+        → itemPart f (itemOf it) ≡ record { start = 0; len = 0 }
     go zero p u = let z : _≡_ {A = ℕ} 0 1 = cc in absurd (omega arith)
     go (suc k) p u = rw p
 
@@ -142,30 +146,37 @@ found-ends f it start len b e = go (refusal f) refl (noSuchItem (shown f) (itemO
         let z : _≡_ {A = ℕ} 0 1 = cc in
         absurd (omega arith)
     go zero p false q =
-        let g : At start len ≡ At (itemStart (shown f) (itemOf it)) (length (itemBytes (shown f) (itemOf it))) = sym e ∙ rw (eight-passed f (noSuchItem (shown f) (itemOf it)) p q) in
+        let g : At start len ≡ At (itemStart (shown f) (itemOf it)) (length (itemBytes (shown f) (itemOf it))) =
+        sym e ∙ rw (eight-passed f (noSuchItem (shown f) (itemOf it)) p q) in
         let s : start ≡ itemStart (shown f) (itemOf it) = cc in
         let l : len ≡ length (itemBytes (shown f) (itemOf it)) = cc in
         omega (arith, here f b p (item-stands (shown f) (itemOf it) (legal f b p) q) .inside)
 
-pub end-fits : (f : List ℕ) (it : Item) (start len : ℕ) (r : Found) → Bytes f → length f < 2 ^ 64 → r ≡ findOf f it → r ≡ At start len → Fits w64 (start + len)
+pub end-fits : (f : List ℕ) (it : Item) (start len : ℕ) (r : Found) → Bytes f → length f < 2 ^ 64 → r ≡ findOf f it → r ≡ At start len
+    → Fits w64 (start + len)
 end-fits f it start len r b h e g = let l = found-ends f it start len b (sym e ∙ g) in record { fits = omega arith }
 
 pub end-within : (f : List ℕ) (it : Item) (start len : ℕ) (r : Found) → Bytes f → r ≡ findOf f it → r ≡ At start len → start + len ≤ length f
 end-within f it start len r b e g = found-ends f it start len b (sym e ∙ g)
 
-pub part-refused : (block offset : ℕ) (f : List ℕ) (it : Item) (n : Refusal) (r : Found) → r ≡ findOf f it → r ≡ Refused n → record { block = block; offset = offset; bytes = [] } ≡ read.partOf (record { block = block; offset = offset; bytes = f }) (itemPart f (itemOf it))
+pub part-refused : (block offset : ℕ) (f : List ℕ) (it : Item) (n : Refusal) (r : Found) → r ≡ findOf f it → r ≡ Refused n
+    → record { block = block; offset = offset; bytes = [] } ≡ read.partOf (record { block = block; offset = offset; bytes = f })
+    (itemPart f (itemOf it))
 unfolding read.partOf
 part-refused block offset f it n r e g =
     let z : 0 + offset ≡ offset = omega arith in
     rw (part-none f it n (sym e ∙ g), z)
 
-pub part-found : (block offset : ℕ) (f : List ℕ) (it : Item) (start len : ℕ) (r : Found) → r ≡ findOf f it → r ≡ At start len → record { block = block; offset = start + offset; bytes = take (start + len - start) (drop start f) } ≡ read.partOf (record { block = block; offset = offset; bytes = f }) (itemPart f (itemOf it))
+pub part-found : (block offset : ℕ) (f : List ℕ) (it : Item) (start len : ℕ) (r : Found) → r ≡ findOf f it → r ≡ At start len
+    → record { block = block; offset = start + offset; bytes = take (start + len - start) (drop start f) } ≡ read.partOf
+    (record { block = block; offset = offset; bytes = f }) (itemPart f (itemOf it))
 unfolding read.partOf
 part-found block offset f it start len r e g = rw (part-some f it start len (sym e ∙ g), add-sub-cancel-left)
 
 -- ── Frames ──
 
-pub frame-refused : (f : List ℕ) (r : Opening) (q n : Refusal) (i : ℕ) → r ≡ openOf f → r ≡ openingAs.Refused q → n ≡ openRefusal r → frameAs.Refused n ≡ frameReadOf f i
+pub frame-refused : (f : List ℕ) (r : Opening) (q n : Refusal) (i : ℕ) → r ≡ openOf f → r ≡ openingAs.Refused q → n ≡ openRefusal r
+    → frameAs.Refused n ≡ frameReadOf f i
 unfolding frameReadOf frameBy frameRefusal
 frame-refused f r q n i e g h =
     let (k, p, m) = refused-with f r q n e g h in
@@ -179,17 +190,35 @@ shown-frame f h i b o e = go (le-or-lt (length (shown f .frames)) i)
   where
     go : (length (shown f .frames) ≤ i) ⊎ (i < length (shown f .frames)) → heldFrame f h i ≡ frameReadOf f i
     go (inl l) =
-        let u : frameReadOf f i ≡ frameAs.Refused (plain 8) = rw (eight-holds f (noSuchFrame (shown f) i) o (rw (le-ltb i (length (shown f .frames)) l))) in
+        let u : frameReadOf f i ≡ frameAs.Refused (plain 8) =
+        rw (eight-holds f (noSuchFrame (shown f) i) o (rw (le-ltb i (length (shown f .frames)) l))) in
         sym (frame-nowhere f h i _ refl (sym (place-past f (h .frames) (h .index) i (omega (arith, held-frames f b o h e))))) ∙ sym u
     go (inr l) =
         let x : Frame = frameOf (shown f) i in
-        let p : framePlace f (h .frames) (h .index) i ≡ End (frameStart (shown f) i) = shown-place f b o (h .frames) (h .index) i (held-frames f b o h e) (held-index f b o h e) (omega (arith, held-frames f b o h e)) in
-        let u : frameReadOf f i ≡ frameAs.Frame (frameStart (shown f) i) (length (frameBytes x)) (toZ w64 (x .time)) (x .exposure) = rw (eight-passed f (noSuchFrame (shown f) i) o (rw (lt-ltb i (length (shown f .frames)) l))) in
+        let p : framePlace f (h .frames) (h .index) i ≡ End (frameStart (shown f) i) =
+        shown-place f b o (h .frames) (h .index) i (held-frames f b o h e) (held-index f b o h e) (omega (arith, held-frames f b o h e)) in
+        let u : frameReadOf f i ≡ frameAs.Frame (frameStart (shown f) i) (length (frameBytes x)) (toZ w64 (x .time)) (x .exposure) =
+        rw (eight-passed f (noSuchFrame (shown f) i) o (rw (lt-ltb i (length (shown f .frames)) l))) in
         let a : frameStart (shown f) i + length (frameBytes x) - frameStart (shown f) i ≡ length (frameBytes x) = omega arith in
-        let w : frameFrom (frameStart (shown f) i) (frameAt f (frameStart (shown f) i) (length (shown f .sections))) ≡ frameAs.Frame (frameStart (shown f) i) (length (frameBytes x)) (toZ w64 (x .time)) (x .exposure) = rw (frame-here f b o i l, a) in
+        let w : frameFrom (frameStart (shown f) i) (frameAt f (frameStart (shown f) i) (length (shown f .sections))) ≡ frameAs.Frame
+        (frameStart (shown f) i) (length (frameBytes x)) (toZ w64 (x .time)) (x .exposure) = rw (frame-here f b o i l, a) in
         frame-there f h i _ (frameStart (shown f) i) refl p ∙ rw (held-sections f b o h e) w ∙ sym u
 
-pub frame-opened : (f : List ℕ) (r : Opening) (h : Held) (i : ℕ) (x : FrameRead) → Bytes f → r ≡ openOf f → r ≡ openingAs.Opened h → x ≡ heldFrame f h i → x ≡ frameReadOf f i
+pub frame-opened : (f : List ℕ) (r : Opening) (h : Held) (i : ℕ) (x : FrameRead) → Bytes f → r ≡ openOf f → r ≡ openingAs.Opened h
+    → x ≡ heldFrame f h i → x ≡ frameReadOf f i
 frame-opened f r h i x b e g u = u ∙ shown-frame f h i b (opens f r h e g) (holds f r h e g)
 
-pub ruleset laws = (needs, end-fits, end-within, part-refused, part-found, frame-refused, frame-opened, find-refused, find-opened, refusal-found, none-refused, refused-so)
+pub ruleset laws = (
+  needs,
+  end-fits,
+  end-within,
+  part-refused,
+  part-found,
+  frame-refused,
+  frame-opened,
+  find-refused,
+  find-opened,
+  refusal-found,
+  none-refused,
+  refused-so,
+)

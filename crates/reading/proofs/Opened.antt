@@ -33,7 +33,10 @@ unfoldable pub definitionStart : Recording → ℕ → ℕ
 definitionStart r i = 34 + length (definitionListBytes 0 (take i (r .sections)))
 
 unfoldable pub definitionOf : Recording → ℕ → Definition
-definitionOf r i = record { name = getD (r .sections) i noSection .name; offset = definitionsEnd (r .sections) + length (configurationsBytes (take i (r .sections))) }
+definitionOf r i = record {
+  name = getD (r .sections) i noSection .name;
+  offset = definitionsEnd (r .sections) + length (configurationsBytes (take i (r .sections)));
+}
 
 -- where the size of a frame's section stands
 unfoldable pub sizeStart : Recording → (i j : ℕ) → ℕ
@@ -83,49 +86,71 @@ module _ (f : List ℕ) (b : Bytes f) (o : refusal f ≡ 0) where
 
   defined-stand : Stands f 34 (flatMap definitionBytes defined)
   unfolding defined definitionsBytes
-  defined-stand = rw defined-bytes (stands-back (length (shown f .sections) ∷ []) (definitionListBytes (definitionsEnd (shown f .sections)) (shown f .sections)) (here (definitions-stand (shown f))))
+  defined-stand = rw defined-bytes (stands-back (length (shown f .sections) ∷ [])
+      (definitionListBytes (definitionsEnd (shown f .sections)) (shown f .sections)) (here (definitions-stand (shown f))))
 
   defined-fit : every legalDefinition defined ≡ true
   unfolding defined systemStart
-  defined-fit = defined-legal (definitionsEnd (shown f .sections)) (shown f .sections) (legal .sectionsLegal) (omega (arith, order .system, order .frames, order .index, order .limit))
+  defined-fit = defined-legal (definitionsEnd (shown f .sections)) (shown f .sections) (legal .sectionsLegal)
+      (omega (arith, order .system, order .frames, order .index, order .limit))
 
   defined-count : length defined ≡ length (shown f .sections)
   unfolding defined
   defined-count = length-defined _ (shown f .sections)
 
-  pub definitions-ahead : (i : ℕ) → i ≤ length (shown f .sections) → endOf 34 (times i (rowName row.Definition) (drop 34 f)) ≡ End (definitionStart (shown f) i)
+  pub definitions-ahead : (i : ℕ) → i ≤ length (shown f .sections)
+      → endOf 34 (times i (rowName row.Definition) (drop 34 f)) ≡ End (definitionStart (shown f) i)
   unfolding defined definitionStart endOf
   definitions-ahead i h =
-      rw (times-led definition (rowName row.Definition) (λ d. d .name) definition-row i (drop 34 f) _ _ (ahead-read definition-exact defined i (omega (arith, defined-count)) defined-fit defined-stand), ← defined-ahead (definitionsEnd (shown f .sections)) i (shown f .sections))
+      rw (
+        times-led definition (rowName row.Definition) (λ d. d .name) definition-row i (drop 34 f) _ _
+            (ahead-read definition-exact defined i (omega (arith, defined-count)) defined-fit defined-stand),
+        ← defined-ahead (definitionsEnd (shown f .sections)) i (shown f .sections),
+      )
 
   definition-stands : (i : ℕ) → i < length (shown f .sections) → Stands f (definitionStart (shown f) i) (definitionBytes (definitionOf (shown f) i))
   unfolding defined definitionStart definitionOf
   definition-stands i h =
-      rw (← defined-ahead (definitionsEnd (shown f .sections)) i (shown f .sections), ← defined-one (definitionsEnd (shown f .sections)) i (shown f .sections) h)
+      rw (
+        ← defined-ahead (definitionsEnd (shown f .sections)) i (shown f .sections),
+        ← defined-one (definitionsEnd (shown f .sections)) i (shown f .sections) h,
+      )
       (stands-one definitionBytes defined i noDefinition (omega (arith, defined-count)) defined-stand)
 
-  pub definition-here : (i : ℕ) → i < length (shown f .sections) → definition (drop (definitionStart (shown f) i) f) ≡ good (definitionOf (shown f) i) (length (definitionBytes (definitionOf (shown f) i)))
+  pub definition-here : (i : ℕ) → i < length (shown f .sections)
+      → definition (drop (definitionStart (shown f) i) f) ≡ good (definitionOf (shown f) i) (length (definitionBytes (definitionOf (shown f) i)))
   unfolding defined definitionStart definitionOf
   definition-here i h =
-      rw (← defined-ahead (definitionsEnd (shown f .sections)) i (shown f .sections), ← defined-one (definitionsEnd (shown f .sections)) i (shown f .sections) h)
+      rw (
+        ← defined-ahead (definitionsEnd (shown f .sections)) i (shown f .sections),
+        ← defined-one (definitionsEnd (shown f .sections)) i (shown f .sections) h,
+      )
       (one-read definition-exact defined i noDefinition (omega (arith, defined-count)) defined-fit defined-stand)
 
   -- the next definition starts where this one ends
-  pub definition-next : (i : ℕ) → i < length (shown f .sections) → definitionStart (shown f) i + length (definitionBytes (definitionOf (shown f) i)) ≡ definitionStart (shown f) (suc i)
+  pub definition-next : (i : ℕ) → i < length (shown f .sections)
+      → definitionStart (shown f) i + length (definitionBytes (definitionOf (shown f) i)) ≡ definitionStart (shown f) (suc i)
   unfolding definitionStart definitionOf
   definition-next i h = omega (arith, defined-next (definitionsEnd (shown f .sections)) i (shown f .sections) h)
 
-  pub name-here : (i : ℕ) → i < length (shown f .sections) → string (drop (definitionStart (shown f) i) f) ≡ good (getD (shown f .sections) i noSection .name) (length (shortString (getD (shown f .sections) i noSection .name)))
+  pub name-here : (i : ℕ) → i < length (shown f .sections) → string (drop (definitionStart (shown f) i) f) ≡ good
+      (getD (shown f .sections) i noSection .name) (length (shortString (getD (shown f .sections) i noSection .name)))
   unfolding definitionBytes definitionOf
   name-here i h =
       let n : List ℕ = getD (shown f .sections) i noSection .name in
       let s = stands-front (shortString n) (bytesOf 8 (definitionOf (shown f) i .offset)) (definition-stands i h) in
-      rw (s .stands) (string-exact .takes n (s .rest) (sectionName-short n (section-name (getD (shown f .sections) i noSection) (every-one legalSection (shown f .sections) i noSection (legal .sectionsLegal) h))))
+      rw (s .stands) (string-exact .takes n (s .rest) (sectionName-short n
+      (section-name (getD (shown f .sections) i noSection)
+      (every-one legalSection (shown f .sections) i noSection (legal .sectionsLegal) h))))
 
   -- ── Frames ──
 
   index-stands : Stands f (framesEnd (shown f)) (indexBytes (framesStart (shown f)) (shown f .frames))
-  index-stands = here (record { rest = tableBytes (shown f .user); stands = drop-index (shown f); inside = omega (arith, length-index (framesStart (shown f)) (shown f .frames), user-start (shown f), length-encode (shown f)) })
+  index-stands = here (record {
+    rest = tableBytes (shown f .user);
+    stands = drop-index (shown f);
+    inside = omega (arith, length-index (framesStart (shown f)) (shown f .frames), user-start (shown f), length-encode (shown f));
+  })
 
   -- a frame's index entry says where the frame starts
   pub frame-place : (i : ℕ) → i < length (shown f .frames) → readAt f (framesEnd (shown f) + 4 + 16 * i + 4) 8 ≡ frameStart (shown f) i
@@ -133,18 +158,23 @@ module _ (f : List ℕ) (b : Bytes f) (o : refusal f ≡ 0) where
   frame-place i h =
       let fs : List Frame = shown f .frames in
       let at : ℕ = framesStart (shown f) + length (flatMap frameBytes (take i fs)) in
-      let s = stands-at (framesEnd (shown f) + 4) (rw length-bytesOf) (stands-back (bytesOf 4 (length fs)) (entriesBytes (firstTime fs) (framesStart (shown f)) fs) index-stands) in
+      let s = stands-at (framesEnd (shown f) + 4) (rw length-bytesOf)
+      (stands-back (bytesOf 4 (length fs)) (entriesBytes (firstTime fs) (framesStart (shown f)) fs) index-stands) in
       let e = entry-stands (firstTime fs) (framesStart (shown f)) fs i h s in
       let x : Frame = getD fs i noFrame in
-      let t = stands-back (bytesOf 4 (rank (x .time) - rank (firstTime fs))) (bytesOf 8 at) (stands-front (bytesOf 4 (rank (x .time) - rank (firstTime fs)) ++ bytesOf 8 at) (bytesOf 4 (length (frameBytes x))) e) in
+      let t = stands-back (bytesOf 4 (rank (x .time) - rank (firstTime fs))) (bytesOf 8 at)
+      (stands-front (bytesOf 4 (rank (x .time) - rank (firstTime fs)) ++ bytesOf 8 at) (bytesOf 4 (length (frameBytes x))) e) in
       let w : at ≤ framesEnd (shown f) = frame-within i in
-      number-stands 8 at (omega arith) (omega (arith, order .index, order .limit)) (stands-at (framesEnd (shown f) + 4 + 16 * i + 4) (rw length-bytesOf) t)
+      number-stands 8 at (omega arith) (omega (arith, order .index, order .limit))
+      (stands-at (framesEnd (shown f) + 4 + 16 * i + 4) (rw length-bytesOf) t)
 
-  pub frame-here : (i : ℕ) → i < length (shown f .frames) → frame (length (shown f .sections)) (drop (frameStart (shown f) i) f) ≡ good (frameOf (shown f) i) (length (frameBytes (frameOf (shown f) i)))
+  pub frame-here : (i : ℕ) → i < length (shown f .frames) → frame (length (shown f .sections)) (drop (frameStart (shown f) i) f) ≡ good
+      (frameOf (shown f) i) (length (frameBytes (frameOf (shown f) i)))
   unfolding frameOf
   frame-here i h =
       let s = here (frame-stands (shown f) i h) in
-      rw (s .stands) (frame-exact (length (shown f .sections)) .takes (frameOf (shown f) i) (s .rest) (every-one (legalFrame (length (shown f .sections))) (shown f .frames) i noFrame (legal .framesLegal) h))
+      rw (s .stands) (frame-exact (length (shown f .sections)) .takes (frameOf (shown f) i) (s .rest)
+      (every-one (legalFrame (length (shown f .sections))) (shown f .frames) i noFrame (legal .framesLegal) h))
 
   frame-fits : (i : ℕ) → i < length (shown f .frames) → legalFrame (length (shown f .sections)) (frameOf (shown f) i) ≡ true
   unfolding frameOf
@@ -154,19 +184,26 @@ module _ (f : List ℕ) (b : Bytes f) (o : refusal f ≡ 0) where
   frame-section-count i h = frame-sections (length (shown f .sections)) (frameOf (shown f) i) (frame-fits i h)
 
   -- its sections stand behind its head
-  sections-stand : (i : ℕ) → i < length (shown f .frames) → Stands f (frameStart (shown f) i + 16) (flatMap sizedBytes (frameOf (shown f) i .sections))
+  sections-stand : (i : ℕ) → i < length (shown f .frames) → Stands f (frameStart (shown f) i + 16)
+      (flatMap sizedBytes (frameOf (shown f) i .sections))
   unfolding frameBytes
   sections-stand i h =
       let x : Frame = frameOf (shown f) i in
-      stands-at (frameStart (shown f) i + 16) (rw length-head) (stands-back (frameHeadBytes (x .time) (x .exposure)) (flatMap sizedBytes (x .sections)) (here (frame-stands (shown f) i h)))
+      stands-at (frameStart (shown f) i + 16) (rw length-head)
+      (stands-back (frameHeadBytes (x .time) (x .exposure)) (flatMap sizedBytes (x .sections)) (here (frame-stands (shown f) i h)))
 
   sections-fit : (i : ℕ) → i < length (shown f .frames) → every (λ s. leb (length s) longestSection) (frameOf (shown f) i .sections) ≡ true
   sections-fit i h = frame-legal (length (shown f .sections)) (frameOf (shown f) i) .1 (frame-fits i h) .3
 
-  pub sections-ahead : (i j : ℕ) → i < length (shown f .frames) → j < length (shown f .sections) → endOf (frameStart (shown f) i + 16) (times j sized (drop (frameStart (shown f) i + 16) f)) ≡ End (sizeStart (shown f) i j)
+  pub sections-ahead : (i j : ℕ) → i < length (shown f .frames) → j < length (shown f .sections)
+      → endOf (frameStart (shown f) i + 16) (times j sized (drop (frameStart (shown f) i + 16) f)) ≡ End (sizeStart (shown f) i j)
   unfolding sizeStart endOf
-  sections-ahead i j h k = rw (ahead-read sized-exact (frameOf (shown f) i .sections) j (omega (arith, frame-section-count i h)) (sections-fit i h) (sections-stand i h))
+  sections-ahead i j h k = rw (ahead-read sized-exact (frameOf (shown f) i .sections) j (omega (arith, frame-section-count i h))
+      (sections-fit i h) (sections-stand i h))
 
-  pub section-here : (i j : ℕ) → i < length (shown f .frames) → j < length (shown f .sections) → sized (drop (sizeStart (shown f) i j) f) ≡ good (getD (frameOf (shown f) i .sections) j []) (length (sizedBytes (getD (frameOf (shown f) i .sections) j [])))
+  pub section-here : (i j : ℕ) → i < length (shown f .frames) → j < length (shown f .sections)
+      → sized (drop (sizeStart (shown f) i j) f) ≡ good (getD (frameOf (shown f) i .sections) j [])
+      (length (sizedBytes (getD (frameOf (shown f) i .sections) j [])))
   unfolding sizeStart
-  section-here i j h k = one-read sized-exact (frameOf (shown f) i .sections) j [] (omega (arith, frame-section-count i h)) (sections-fit i h) (sections-stand i h)
+  section-here i j h k = one-read sized-exact (frameOf (shown f) i .sections) j [] (omega (arith, frame-section-count i h)) (sections-fit i h)
+      (sections-stand i h)

@@ -44,11 +44,13 @@ pub shape-broken : (r : Recorder) (s : List ℕ) (p : Place) → p ≡ sectionsA
 unfolding badShape stateOf sectionsAt
 shape-broken r s = ends-broken (times (r .sections) sized) s
 
-pub shape-exact : (r : Recorder) (s : List ℕ) (p : Place) (q : ℕ) → p ≡ sectionsAt s 0 (r .sections) → p ≡ End q → q ≡ length s → false ≡ badShape (stateOf r) s
+pub shape-exact : (r : Recorder) (s : List ℕ) (p : Place) (q : ℕ) → p ≡ sectionsAt s 0 (r .sections) → p ≡ End q → q ≡ length s
+    → false ≡ badShape (stateOf r) s
 unfolding badShape stateOf sectionsAt
 shape-exact r s = ends-exact (times (r .sections) sized) s
 
-pub shape-other : (r : Recorder) (s : List ℕ) (p : Place) (q : ℕ) → p ≡ sectionsAt s 0 (r .sections) → p ≡ End q → (q ≡ length s → ⊥) → true ≡ badShape (stateOf r) s
+pub shape-other : (r : Recorder) (s : List ℕ) (p : Place) (q : ℕ) → p ≡ sectionsAt s 0 (r .sections) → p ≡ End q → (q ≡ length s → ⊥)
+    → true ≡ badShape (stateOf r) s
 unfolding badShape stateOf sectionsAt
 shape-other r s = ends-other (times (r .sections) sized) s
 
@@ -62,12 +64,14 @@ clock-later : (r : Recorder) (t : ℕ) → (r .frames ≡ 0 → ⊥) → badCloc
 unfolding badClock stateOf
 clock-later r t h = rw (ne-eqb (r .frames) 0 h)
 
-pub clock-kept : (r : Recorder) (t f l : ℕ) (x y : ℤ) (b : Bool) → (r .frames ≡ 0 → ⊥) → f ≡ ofZ w64 x → l ≡ ofZ w64 y → x ≡ r .first → y ≡ r .last → b ≡ follows f l t → b ≡ true → false ≡ badClock (stateOf r) t
+pub clock-kept : (r : Recorder) (t f l : ℕ) (x y : ℤ) (b : Bool) → (r .frames ≡ 0 → ⊥) → f ≡ ofZ w64 x → l ≡ ofZ w64 y → x ≡ r .first
+    → y ≡ r .last → b ≡ follows f l t → b ≡ true → false ≡ badClock (stateOf r) t
 clock-kept r t f l x y b h p q i j e k =
     let v : follows (ofZ w64 (r .first)) (ofZ w64 (r .last)) t ≡ true = cc in
     sym (clock-later r t h ∙ rw v)
 
-pub clock-broken : (r : Recorder) (t f l : ℕ) (x y : ℤ) (b : Bool) → (r .frames ≡ 0 → ⊥) → f ≡ ofZ w64 x → l ≡ ofZ w64 y → x ≡ r .first → y ≡ r .last → b ≡ follows f l t → b ≡ false → true ≡ badClock (stateOf r) t
+pub clock-broken : (r : Recorder) (t f l : ℕ) (x y : ℤ) (b : Bool) → (r .frames ≡ 0 → ⊥) → f ≡ ofZ w64 x → l ≡ ofZ w64 y → x ≡ r .first
+    → y ≡ r .last → b ≡ follows f l t → b ≡ false → true ≡ badClock (stateOf r) t
 clock-broken r t f l x y b h p q i j e k =
     let v : follows (ofZ w64 (r .first)) (ofZ w64 (r .last)) t ≡ false = cc in
     sym (clock-later r t h ∙ rw v)
@@ -106,10 +110,13 @@ module _ (r : Recorder) (time : ℕ) (s : List ℕ) (notes room : ℕ) where
   add-lines = refl
 
   pub add-stage : (t : Bool) → t ≡ isRunning (stageOf (r .stage)) → t ≡ false → plain 12 ≡ plain (addRefusal (stateOf r) time s notes room)
-  add-stage t e h = ap plain (sym (line-holds 12 stopped lines14 (or-left (not (isRunning (stageOf (r .stage)))) (brokenState (stateOf r)) (rw (sym e ∙ h)))) ∙ add-lines)
+  add-stage t e h = ap plain
+      (sym (line-holds 12 stopped lines14 (or-left (not (isRunning (stageOf (r .stage)))) (brokenState (stateOf r)) (rw (sym e ∙ h))))
+      ∙ add-lines)
 
   pub add-broken : (b : Bool) → b ≡ brokenState (stateOf r) → b ≡ true → plain 12 ≡ plain (addRefusal (stateOf r) time s notes room)
-  add-broken b e h = ap plain (sym (line-holds 12 stopped lines14 (or-right (not (isRunning (stageOf (r .stage)))) (brokenState (stateOf r)) (sym e ∙ h))) ∙ add-lines)
+  add-broken b e h = ap plain
+      (sym (line-holds 12 stopped lines14 (or-right (not (isRunning (stageOf (r .stage)))) (brokenState (stateOf r)) (sym e ∙ h))) ∙ add-lines)
 
   -- the stage takes the call, and the state is sound
   module _ (t b : Bool) (te : t ≡ isRunning (stageOf (r .stage))) (th : t ≡ true) (be : b ≡ brokenState (stateOf r)) (bh : b ≡ false) where
@@ -127,7 +134,8 @@ module _ (r : Recorder) (time : ℕ) (s : List ℕ) (notes room : ℕ) where
       onward15 : firstOf lines15 ≡ addRefusal (stateOf r) time s notes room
       onward15 = sym (line-pass 14 (badShape (stateOf r) s) lines15 (sym xe ∙ xh)) ∙ onward14
 
-      pub add-full : (f : Bool) → f ≡ fullWith (r .end) (r .frames) (16 + length s) → f ≡ true → plain 15 ≡ plain (addRefusal (stateOf r) time s notes room)
+      pub add-full : (f : Bool) → f ≡ fullWith (r .end) (r .frames) (16 + length s) → f ≡ true
+          → plain 15 ≡ plain (addRefusal (stateOf r) time s notes room)
       add-full f e h = ap plain (sym (line-holds 15 (fullWith (r .end) (r .frames) (16 + length s)) lines13 (sym e ∙ h)) ∙ onward15)
 
       -- there is place for one more
@@ -144,15 +152,20 @@ module _ (r : Recorder) (time : ℕ) (s : List ℕ) (notes room : ℕ) where
           onward9 = sym (line-pass 13 (badClock (stateOf r) time) lines9 (sym ke ∙ kh)) ∙ onward13
 
           pub add-room : room < 16 + length s → plain 9 ≡ plain (addRefusal (stateOf r) time s notes room)
-          add-room h = ap plain (sym (line-holds 9 short [] (or-left (ltb room (16 + length s)) (ltb notes (indexLength (r .frames + 1))) (lt-ltb room (16 + length s) h))) ∙ onward9)
+          add-room h = ap plain (sym
+              (line-holds 9 short [] (or-left (ltb room (16 + length s)) (ltb notes (indexLength (r .frames + 1)))
+              (lt-ltb room (16 + length s) h))) ∙ onward9)
 
           pub add-notes : notes < 4 + 16 * (r .frames + 1) → plain 9 ≡ plain (addRefusal (stateOf r) time s notes room)
-          add-notes h = ap plain (sym (line-holds 9 short [] (or-right (ltb room (16 + length s)) (ltb notes (indexLength (r .frames + 1))) (lt-ltb notes (indexLength (r .frames + 1)) h))) ∙ onward9)
+          add-notes h = ap plain (sym (line-holds 9 short []
+              (or-right (ltb room (16 + length s)) (ltb notes (indexLength (r .frames + 1))) (lt-ltb notes (indexLength (r .frames + 1)) h)))
+              ∙ onward9)
 
           pub add-taken : 16 + length s ≤ room → 4 + 16 * (r .frames + 1) ≤ notes → plain 0 ≡ plain (addRefusal (stateOf r) time s notes room)
           add-taken h i =
               ap plain
-              (sym (line-pass 9 short [] (not-or (ltb room (16 + length s)) (ltb notes (indexLength (r .frames + 1))) (le-ltb room (16 + length s) h) (le-ltb notes (indexLength (r .frames + 1)) i)) ∙ no-lines) ∙ onward9)
+              (sym (line-pass 9 short [] (not-or (ltb room (16 + length s)) (ltb notes (indexLength (r .frames + 1)))
+              (le-ltb room (16 + length s) h) (le-ltb notes (indexLength (r .frames + 1)) i)) ∙ no-lines) ∙ onward9)
 
 -- what is known where no number is given
 pub record Addable (r : Recorder) (s : List ℕ) (notes room : ℕ) : Type 0 where
@@ -161,10 +174,12 @@ pub record Addable (r : Recorder) (s : List ℕ) (notes room : ℕ) : Type 0 whe
   pub fits : 16 + length s ≤ room
   pub notesFit : 4 + 16 * (r .frames + 1) ≤ notes
 
-pub addable : (r : Recorder) (time : ℕ) (s : List ℕ) (notes room : ℕ) (n : Refusal) → n ≡ plain (addRefusal (stateOf r) time s notes room) → n .number ≡ 0 → Addable r s notes room
+pub addable : (r : Recorder) (time : ℕ) (s : List ℕ) (notes room : ℕ) (n : Refusal) → n ≡ plain (addRefusal (stateOf r) time s notes room)
+    → n .number ≡ 0 → Addable r s notes room
 unfolding fullWith tooLong stateOf
 addable r time s notes room n e h =
-    let a = line-clear 11 (stopped r time s notes room) (lines14 r time s notes room) (add-lines r time s notes room ∙ sym (number-is n (addRefusal (stateOf r) time s notes room) e) ∙ h) in
+    let a = line-clear 11 (stopped r time s notes room) (lines14 r time s notes room)
+    (add-lines r time s notes room ∙ sym (number-is n (addRefusal (stateOf r) time s notes room) e) ∙ h) in
     let b = line-clear 13 (badShape (stateOf r) s) (lines15 r time s notes room) (a .1) in
     let c = line-clear 14 (fullWith (r .end) (r .frames) (16 + length s)) (lines13 r time s notes room) (b .1) in
     let d = line-clear 12 (badClock (stateOf r) time) (lines9 r time s notes room) (c .1) in
@@ -194,13 +209,16 @@ add-order : (st : State) (t e : ℕ) (s notes : List ℕ) (room : ℕ) → addRe
 unfolding addRefusal addLines fullWith
 add-order st t e s notes room = rw (frame-length t e s)
 
-pub refused-add : (r : Recorder) (time x : ℤ) (s notes out : List ℕ) (e t : ℕ) (n : Refusal) → t ≡ ofZ w64 x → x ≡ time → n ≡ plain (addRefusal (stateOf r) t s (length notes) (length out)) → (n .number ≡ 0 → ⊥) → made (record { state = r; piece = Refused n }) notes out ≡ addOf r time e s notes out
+pub refused-add : (r : Recorder) (time x : ℤ) (s notes out : List ℕ) (e t : ℕ) (n : Refusal) → t ≡ ofZ w64 x → x ≡ time
+    → n ≡ plain (addRefusal (stateOf r) t s (length notes) (length out)) → (n .number ≡ 0 → ⊥)
+    → made (record { state = r; piece = Refused n }) notes out ≡ addOf r time e s notes out
 unfolding addOf layout.add
 refused-add r time x s notes out e t n p q f h =
     let i : t ≡ ofZ w64 time = p ∙ ap (ofZ w64) q in
     rw (← i) (refused-made r (stateOf r) notes out n _ _ (f ∙ ap plain (add-order (stateOf r) t e s notes (length out))) h)
 
-module _ (r : Recorder) (t : ℕ) (s : List ℕ) (notes room : ℕ) (n : Refusal) (e : n ≡ plain (addRefusal (stateOf r) t s notes room)) (h : n .number ≡ 0) where
+module _ (r : Recorder) (t : ℕ) (s : List ℕ) (notes room : ℕ) (n : Refusal) (e : n ≡ plain (addRefusal (stateOf r) t s notes room))
+    (h : n .number ≡ 0) where
   pub frames-more : Fits w64 (r .frames + 1)
   frames-more = let a = addable r t s notes room n e h in record { fits = omega arith }
 
@@ -208,7 +226,20 @@ module _ (r : Recorder) (t : ℕ) (s : List ℕ) (notes room : ℕ) (n : Refusal
   end-more = let a = addable r t s notes room n e h in record { fits = omega arith }
 
 -- an accepted frame call, each part said in other words
-added-by : (r : Recorder) (first last : ℤ) (s notes out u v : List ℕ) (e t : ℕ) (n : Refusal) (len : ℕ) → n ≡ plain (addRefusal (stateOf r) t s (length notes) (length out)) → n .number ≡ 0 → first ≡ toZ w64 (firstAfter (stateOf r) t) → last ≡ toZ w64 t → len ≡ length (framePiece t e s) → u ≡ noted (stateOf r) t e s notes → v ≡ filled out (framePiece t e s) → made (record { state = record { stage = Running; sections = r .sections; frames = r .frames + 1; first = first; last = last; end = r .end + len }; piece = Given (r .end) len }) u v ≡ madeOf r out (layout.add (stateOf r) t e s notes (length out))
+added-by : (r : Recorder) (first last : ℤ) (s notes out u v : List ℕ) (e t : ℕ) (n : Refusal) (len : ℕ)
+    → n ≡ plain (addRefusal (stateOf r) t s (length notes) (length out)) → n .number ≡ 0 → first ≡ toZ w64 (firstAfter (stateOf r) t)
+    → last ≡ toZ w64 t → len ≡ length (framePiece t e s) → u ≡ noted (stateOf r) t e s notes → v ≡ filled out (framePiece t e s)
+    → made (record {
+      state = record {
+        stage = Running;
+        sections = r .sections;
+        frames = r .frames + 1;
+        first = first;
+        last = last;
+        end = r .end + len;
+      };
+      piece = Given (r .end) len;
+    }) u v ≡ madeOf r out (layout.add (stateOf r) t e s notes (length out))
 unfolding layout.add added stateOf recorderOf toStage
 added-by r first last s notes out u v e t n len g h a b c d f =
     rw (a, b, c, d, f)
@@ -221,22 +252,59 @@ added-by r first last s notes out u v e t n len g h a b c d f =
     })
     (g ∙ ap plain (add-order (stateOf r) t e s notes (length out))) h refl)
 
-noted-by : (r : Recorder) (t e d : ℕ) (s notes : List ℕ) → d ≡ sinceFirst (firstAfter (stateOf r) t) t → notedAt notes (r .frames + 1) d (r .end) (16 + length s) ≡ noted (stateOf r) t e s notes
+noted-by : (r : Recorder) (t e d : ℕ) (s notes : List ℕ) → d ≡ sinceFirst (firstAfter (stateOf r) t) t
+    → notedAt notes (r .frames + 1) d (r .end) (16 + length s) ≡ noted (stateOf r) t e s notes
 unfolding notedAt noted entryBytes sinceFirst stateOf
 noted-by r t e d s notes h = rw (h, frame-length t e s)
 
 pub added-made : (r : Recorder) (time x z : ℤ) (s notes out u v : List ℕ) (e t : ℕ) (n : Refusal) (f : ℕ)
     → t ≡ ofZ w64 x → x ≡ time → n ≡ plain (addRefusal (stateOf r) t s (length notes) (length out)) → n .number ≡ 0
     → f ≡ firstAfter (stateOf r) t → z ≡ toZ w64 f → toZ w64 (ofZ w64 z) ≡ z → lent u v ≡ frameAdded (r .frames + 1) f t e (r .end) s notes out
-    → made (record { state = record { stage = Running; sections = r .sections; frames = r .frames + 1; first = toZ w64 (ofZ w64 z); last = toZ w64 (ofZ w64 time); end = r .end + (16 + length s) }; piece = Given (r .end) (16 + length s) }) u v ≡ addOf r time e s notes out
+    → made (record {
+      state = record {
+        stage = Running;
+        sections = r .sections;
+        frames = r .frames + 1;
+        first = toZ w64 (ofZ w64 z);
+        last = toZ w64 (ofZ w64 time);
+        end = r .end + (16 + length s);
+      };
+      piece = Given (r .end) (16 + length s);
+    }) u v ≡ addOf r time e s notes
+    out
 unfolding addOf
 added-made r time x z s notes out u v e t n f p q g h i j k l =
     let a = addable r t s (length notes) (length out) n g h in
     let i′ : t ≡ ofZ w64 time = p ∙ ap (ofZ w64) q in
     let o : length (framePiece t e s) ≤ length out = rw (frame-length t e s) (a .fits) in
     let (w, y) = added-is s notes out u v (r .frames + 1) f t e (r .end) l (omega arith) (omega (arith, a .fewer)) (a .notesFit) (a .fits) in
-    added-by r (toZ w64 (ofZ w64 z)) (toZ w64 (ofZ w64 time)) s notes out u v e t n (16 + length s) g h (k ∙ j ∙ ap (toZ w64) i) (ap (toZ w64) (sym i′)) (sym (frame-length t e s))
+    added-by r (toZ w64 (ofZ w64 z)) (toZ w64 (ofZ w64 time)) s notes out u v e t n (16 + length s) g h (k ∙ j ∙ ap (toZ w64) i)
+    (ap (toZ w64) (sym i′)) (sym (frame-length t e s))
     (w ∙ noted-by r t e (sinceFirst f t) s notes (ap (λ (x : ℕ). sinceFirst x t) i)) (y ∙ filled-is out (framePiece t e s) o)
     ∙ ap (λ (x : ℕ). madeOf r out (layout.add (stateOf r) x e s notes (length out))) i′
 
-pub ruleset addings = (shape-broken, shape-exact, shape-other, clock-first, clock-kept, clock-broken, after-first, after-later, add-stage, add-broken, add-shape, add-full, add-clock, add-room, add-notes, add-taken, more-fits, more-entries-fit, more-index-fits, refused-add, frames-more, end-more, added-made)
+pub ruleset addings = (
+  shape-broken,
+  shape-exact,
+  shape-other,
+  clock-first,
+  clock-kept,
+  clock-broken,
+  after-first,
+  after-later,
+  add-stage,
+  add-broken,
+  add-shape,
+  add-full,
+  add-clock,
+  add-room,
+  add-notes,
+  add-taken,
+  more-fits,
+  more-entries-fit,
+  more-index-fits,
+  refused-add,
+  frames-more,
+  end-more,
+  added-made,
+)

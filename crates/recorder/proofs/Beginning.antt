@@ -34,7 +34,8 @@ unfolding bytesOf
 zeros = refl
 
 -- 12 "the recorder's stage does not take this call"
-pub begin-stage : (r : Recorder) (s system notes out : List ℕ) (t : Bool) → t ≡ isFresh (stageOf (r .stage)) → t ≡ false → made (record { state = r; piece = Refused (plain 12) }) notes out ≡ beginOf r s system notes out
+pub begin-stage : (r : Recorder) (s system notes out : List ℕ) (t : Bool) → t ≡ isFresh (stageOf (r .stage)) → t ≡ false
+    → made (record { state = r; piece = Refused (plain 12) }) notes out ≡ beginOf r s system notes out
 unfolding beginOf layout.begin beginLines stateOf
 begin-stage r s system notes out t e h =
     let k : firstOf (beginLines (stateOf r) s system notes (length out)) ≡ 12 = line-holds 12 _ _ (rw (sym e ∙ h)) in
@@ -54,11 +55,13 @@ module _ (r : Recorder) (s system notes out : List ℕ) (t : Bool) (te : t ≡ i
     leaves : v ≡ firstPieceOf s system (length notes) out .out
     leaves = ap (λ (m : beginning.Made). m .out) e
 
-    pub begin-refused : (q m : Refusal) → p ≡ first.Refused q → m ≡ refusalOf p → made (record { state = r; piece = Refused m }) notes v ≡ beginOf r s system notes out
+    pub begin-refused : (q m : Refusal) → p ≡ first.Refused q → m ≡ refusalOf p
+        → made (record { state = r; piece = Refused m }) notes v ≡ beginOf r s system notes out
     unfolding beginOf layout.begin firstPieceOf pieceBy refusalOf
     begin-refused q m f g = go (pieceRefusal s system (length notes) (length out)) refl
       where
-        go : (n : ℕ) → pieceRefusal s system (length notes) (length out) ≡ n → made (record { state = r; piece = Refused m }) notes v ≡ beginOf r s system notes out
+        go : (n : ℕ) → pieceRefusal s system (length notes) (length out) ≡ n
+            → made (record { state = r; piece = Refused m }) notes v ≡ beginOf r s system notes out
         go zero k =
             let z : first.Written _ _ ≡ first.Refused q = sym (answers ∙ ap (λ (n : ℕ). pieceBy n s system out .answer) k) ∙ f in
             let w : _≡_ {A = ℕ} 0 1 = cc in
@@ -67,19 +70,30 @@ module _ (r : Recorder) (s system notes out : List ℕ) (t : Bool) (te : t ≡ i
             let a : p ≡ first.Refused (plain (suc n)) = answers ∙ ap (λ (n : ℕ). pieceBy n s system out .answer) k in
             let b : v ≡ out = leaves ∙ ap (λ (n : ℕ). pieceBy n s system out .out) k in
             let c : m ≡ plain (suc n) = g ∙ ap refusalOf a in
-            rw b (refused-made r (stateOf r) notes out m _ _ (c ∙ ap plain (sym (behind ∙ k))) (λ z. let d : m .number ≡ suc n = ap (λ (x : Refusal). x .number) c in omega arith))
+            rw b (refused-made r (stateOf r) notes out m _ _ (c ∙ ap plain (sym (behind ∙ k)))
+            (λ z. let d : m .number ≡ suc n = ap (λ (x : Refusal). x .number) c in omega arith))
 
-    pub begun-made : (sections len : ℕ) (u : List ℕ) → p ≡ first.Written sections len → u ≡ writeAt notes 0 4 0 → made (record { state = record { stage = Running; sections = sections; frames = 0; first = pos 0; last = pos 0; end = len }; piece = Given 0 len }) u v ≡ beginOf r s system notes out
+    pub begun-made : (sections len : ℕ) (u : List ℕ) → p ≡ first.Written sections len → u ≡ writeAt notes 0 4 0
+        → made (record {
+          state = record { stage = Running; sections = sections; frames = 0; first = pos 0; last = pos 0; end = len };
+          piece = Given 0 len;
+        }) u v ≡ beginOf r s system notes out
     unfolding beginOf layout.begin begun recorderOf toStage firstPieceOf pieceBy
     begun-made sections len u f w = go (pieceRefusal s system (length notes) (length out)) refl
       where
-        go : (n : ℕ) → pieceRefusal s system (length notes) (length out) ≡ n → made (record { state = record { stage = Running; sections = sections; frames = 0; first = pos 0; last = pos 0; end = len }; piece = Given 0 len }) u v ≡ beginOf r s system notes out
+        go : (n : ℕ) → pieceRefusal s system (length notes) (length out) ≡ n
+            → made (record {
+              state = record { stage = Running; sections = sections; frames = 0; first = pos 0; last = pos 0; end = len };
+              piece = Given 0 len;
+            }) u v ≡ beginOf r s system notes out
         go zero k =
-            let a : p ≡ first.Written (length (sectionsOf s)) (length (firstPiece s system)) = answers ∙ ap (λ (n : ℕ). pieceBy n s system out .answer) k in
+            let a : p ≡ first.Written (length (sectionsOf s)) (length (firstPiece s system)) =
+            answers ∙ ap (λ (n : ℕ). pieceBy n s system out .answer) k in
             let b : v ≡ filled out (firstPiece s system) = leaves ∙ ap (λ (n : ℕ). pieceBy n s system out .out) k in
             let c : sections ≡ length (sectionsOf s) = cc in
             let d : len ≡ length (firstPiece s system) = cc in
-            let g : u ≡ sets notes 0 (replicate 4 0) = w ∙ write-is notes 0 4 0 (writable s system (length notes) (length out) k .notesFit) ∙ ap (sets notes 0) zeros in
+            let g : u ≡ sets notes 0 (replicate 4 0) = w ∙ write-is notes 0 4 0 (writable s system (length notes) (length out) k .notesFit)
+            ∙ ap (sets notes 0) zeros in
             rw (b, c, d, g)
             (accepted-made r (stateOf r) notes out (plain 0) _
             (record {
@@ -90,7 +104,8 @@ module _ (r : Recorder) (s system notes out : List ℕ) (t : Bool) (te : t ≡ i
             })
             (ap plain (sym (behind ∙ k))) refl refl)
         go (suc n) k =
-            let z : first.Refused (plain (suc n)) ≡ first.Written sections len = sym (answers ∙ ap (λ (n : ℕ). pieceBy n s system out .answer) k) ∙ f in
+            let z : first.Refused (plain (suc n)) ≡ first.Written sections len =
+            sym (answers ∙ ap (λ (n : ℕ). pieceBy n s system out .answer) k) ∙ f in
             let w : _≡_ {A = ℕ} 0 1 = cc in
             absurd (omega arith)
 

@@ -36,7 +36,8 @@ pub record Same (ch : Chain) (ss : Session) : Type 0 where
   pub sameNotes : ch .notes ≡ ss .notes
   pub samePieces : ch .pieces ≡ ss .pieces
 
-pieces-there : (self : Recorder) (out : List ℕ) (step : Step) → piecesIn (madeOf self out step .taken .piece) (madeOf self out step .out) ≡ pieceOf step (step .refused)
+pieces-there : (self : Recorder) (out : List ℕ) (step : Step)
+    → piecesIn (madeOf self out step .taken .piece) (madeOf self out step .out) ≡ pieceOf step (step .refused)
 unfolding madeOf takenOf answered piecesIn pieceOf
 pieces-there self out step = go (step .refused)
   where
@@ -44,7 +45,8 @@ pieces-there self out step = go (step .refused)
     go zero = ap (λ (b : List ℕ). layout.piece (step .piece .place) b ∷ []) (piece-there out (step .piece .bytes))
     go (suc n) = refl
 
-after-same : (ch : Chain) (ss : Session) (out : List ℕ) (step : Step) → Same ch ss → Held (madeOf (ch .recorder) out step .taken .state) → stateOf (madeOf (ch .recorder) out step .taken .state) ≡ step .state → Same (after ch (madeOf (ch .recorder) out step)) (passedOn ss step)
+after-same : (ch : Chain) (ss : Session) (out : List ℕ) (step : Step) → Same ch ss → Held (madeOf (ch .recorder) out step .taken .state)
+    → stateOf (madeOf (ch .recorder) out step .taken .state) ≡ step .state → Same (after ch (madeOf (ch .recorder) out step)) (passedOn ss step)
 unfolding after passedOn madeOf
 after-same ch ss out step s h e =
     record {
@@ -58,14 +60,17 @@ call-same : (ch : Chain) (ss : Session) (c : LentCall) → Typed c → Same ch s
 unfolding chained called callOf Typed beginOf addOf closeOf
 call-same ch ss (begins setUp system out) t s =
     let r = ch .recorder in
-    let e : layout.begin (stateOf r) setUp system (ch .notes) (length out) ≡ layout.begin (ss .state) setUp system (ss .notes) (length out) = rw (s .sameState, s .sameNotes) in
+    let e : layout.begin (stateOf r) setUp system (ch .notes) (length out) ≡ layout.begin (ss .state) setUp system (ss .notes) (length out) =
+    rw (s .sameState, s .sameNotes) in
     subst (λ (x : Step). Same (after ch (beginOf r setUp system (ch .notes) out)) (passedOn ss x)) e
     (after-same ch ss out _ s (begin-held r setUp system (ch .notes) out (s .held)) (begin-state r setUp system (ch .notes) out))
 call-same ch ss (adds time exposure sections out) t s =
     let r = ch .recorder in
-    let e : layout.add (stateOf r) (ofZ w64 time) exposure sections (ch .notes) (length out) ≡ layout.add (ss .state) (ofZ w64 time) exposure sections (ss .notes) (length out) = rw (s .sameState, s .sameNotes) in
+    let e : layout.add (stateOf r) (ofZ w64 time) exposure sections (ch .notes) (length out) ≡ layout.add (ss .state)
+    (ofZ w64 time) exposure sections (ss .notes) (length out) = rw (s .sameState, s .sameNotes) in
     subst (λ (x : Step). Same (after ch (addOf r time exposure sections (ch .notes) out)) (passedOn ss x)) e
-    (after-same ch ss out _ s (add-held r time exposure sections (ch .notes) out (s .held) (t .0)) (add-state r time exposure sections (ch .notes) out (s .held) (t .0)))
+    (after-same ch ss out _ s (add-held r time exposure sections (ch .notes) out (s .held) (t .0))
+    (add-state r time exposure sections (ch .notes) out (s .held) (t .0)))
 call-same ch ss (closes out) t s =
     let r = ch .recorder in
     let e : layout.close (stateOf r) (ch .notes) (length out) ≡ layout.close (ss .state) (ss .notes) (length out) = rw (s .sameState, s .sameNotes) in
@@ -74,7 +79,8 @@ call-same ch ss (closes out) t s =
 
 -- ── Any calls ──
 
-pub chain-same : (ch : Chain) (ss : Session) (calls : List LentCall) → AllTyped calls → Same ch ss → Same (chain ch calls) (session ss (map callOf calls))
+pub chain-same : (ch : Chain) (ss : Session) (calls : List LentCall) → AllTyped calls → Same ch ss
+    → Same (chain ch calls) (session ss (map callOf calls))
 unfolding chain session AllTyped
 chain-same ch ss [] t s = s
 chain-same ch ss (c ∷ cs) t s = chain-same (chained ch c) (called ss (callOf c)) cs (t .1) (call-same ch ss c (t .0) s)
@@ -85,7 +91,8 @@ typed-fits (begins setUp system out) t = and-true (areBytes setUp) (areBytes sys
 typed-fits (adds time exposure sections out) t =
     let a = ltb (ofZ w64 time) (2 ^ 64) in
     let b = ltb exposure (2 ^ 32) in
-    and-true (a && b) (areBytes sections) (and-true a b (lt-ltb (ofZ w64 time) (2 ^ 64) (fits-ofZ (t .0) .fits)) (lt-ltb exposure (2 ^ 32) (t .1))) (t .2)
+    and-true (a && b) (areBytes sections) (and-true a b (lt-ltb (ofZ w64 time) (2 ^ 64) (fits-ofZ (t .0) .fits))
+    (lt-ltb exposure (2 ^ 32) (t .1))) (t .2)
 typed-fits (closes out) t = refl
 
 pub calls-fit : (calls : List LentCall) → AllTyped calls → every callFits (map callOf calls) ≡ true
@@ -100,10 +107,12 @@ module _ (r : Recorder) (notes : List ℕ) (calls : List LentCall) (held : Held 
   abbrev ours : Session
   ours = session (startedFrom (stateOf r) notes) (map callOf calls)
 
-  pub chain-session : (stateOf (recording r notes calls .recorder) ≡ ours .state) × (recording r notes calls .notes ≡ ours .notes) × (recording r notes calls .pieces ≡ ours .pieces)
+  pub chain-session : (stateOf (recording r notes calls .recorder) ≡ ours .state) × (recording r notes calls .notes ≡ ours .notes)
+      × (recording r notes calls .pieces ≡ ours .pieces)
   unfolding recording
   chain-session =
-      let s = chain-same (record { recorder = r; notes = notes; pieces = [] }) (startedFrom (stateOf r) notes) calls typed (record { held = held; sameState = refl; sameNotes = refl; samePieces = refl }) in
+      let s = chain-same (record { recorder = r; notes = notes; pieces = [] }) (startedFrom (stateOf r) notes) calls typed
+      (record { held = held; sameState = refl; sameNotes = refl; samePieces = refl }) in
       (s .sameState, s .sameNotes, s .samePieces)
 
   begun : stateOf r .stage ≡ layout.fresh
@@ -143,7 +152,8 @@ module _ (r : Recorder) (notes : List ℕ) (calls : List LentCall) (held : Held 
       → (closedThere room (atCallFrom (stateOf r) notes (map callOf calls) q) .state .stage ≡ layout.closed)
       × Recovers (fileCut m (recording r notes calls)) (fileOf (closedThere room (atCallFrom (stateOf r) notes (map callOf calls) q))))
   chain-recovers m opening others p l =
-      rw (cut-is m) (cut-recovers-from (stateOf r) notes (map callOf calls) m opening others begun (calls-fit calls typed) (sym (chain-session .2) ∙ p) l)
+      rw (cut-is m) (cut-recovers-from (stateOf r) notes (map callOf calls) m opening others begun (calls-fit calls typed)
+      (sym (chain-session .2) ∙ p) l)
 
   -- and opening a cut file never shows anything but the whole recording
   pub chain-shows-whole : (m : ℕ)

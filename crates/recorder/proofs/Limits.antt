@@ -20,7 +20,8 @@ unfolding freshRecorder
 fresh-is = refl
 
 -- 12 is asked of the recorder's numbers, its times as patterns
-pub broken-is : (r : Recorder) (f l : ℕ) (x y : ℤ) (b : Bool) → f ≡ ofZ w64 x → l ≡ ofZ w64 y → x ≡ r .first → y ≡ r .last → b ≡ brokenState (stateWith (r .stage) (r .sections) (r .frames) f l (r .end)) → b ≡ brokenState (stateOf r)
+pub broken-is : (r : Recorder) (f l : ℕ) (x y : ℤ) (b : Bool) → f ≡ ofZ w64 x → l ≡ ofZ w64 y → x ≡ r .first → y ≡ r .last
+    → b ≡ brokenState (stateWith (r .stage) (r .sections) (r .frames) f l (r .end)) → b ≡ brokenState (stateOf r)
 unfolding stateOf
 broken-is r f l x y b p q u v e =
     let m : f ≡ ofZ w64 (r .first) = p ∙ ap (ofZ w64) u in

@@ -33,11 +33,13 @@ use Rattle.repair.specs.declared.Walked.the-variants.{InOrder, OutOfOrde
 
 -- ── What the walk answered ──
 
-walked-well : (w : Walk) (start count end common : ℕ) → walkedAll w start ≡ InOrder count end common → (inOrder (w .frames) ≡ true) × (length (w .frames) ≡ count) × (start + w .bytes ≡ end) × (commonBehind 0 0 (w .frames) ≡ common)
+walked-well : (w : Walk) (start count end common : ℕ) → walkedAll w start ≡ InOrder count end common
+    → (inOrder (w .frames) ≡ true) × (length (w .frames) ≡ count) × (start + w .bytes ≡ end) × (commonBehind 0 0 (w .frames) ≡ common)
 unfolding walkedAll
 walked-well w start count end common e = go (inOrder (w .frames)) e
   where
-    go : (b : Bool) → cond b (InOrder (length (w .frames)) (start + w .bytes) (commonBehind 0 0 (w .frames))) OutOfOrder ≡ InOrder count end common → (b ≡ true) × (length (w .frames) ≡ count) × (start + w .bytes ≡ end) × (commonBehind 0 0 (w .frames) ≡ common)
+    go : (b : Bool) → cond b (InOrder (length (w .frames)) (start + w .bytes) (commonBehind 0 0 (w .frames))) OutOfOrder ≡ InOrder count end
+        common → (b ≡ true) × (length (w .frames) ≡ count) × (start + w .bytes ≡ end) × (commonBehind 0 0 (w .frames) ≡ common)
     go true q = (refl, cc, cc, cc)
     go false q = let z : _≡_ {A = ℕ} 0 1 = cc in absurd (omega arith)
 
@@ -52,11 +54,13 @@ walked-ill w start e = go (inOrder (w .frames)) e
 -- ── Refused ──
 
 -- a refused call answers its number and leaves the output
-pub refused-made : (out : List ℕ) (refused n : ℕ) (r : Repair) → refused ≡ suc n → made (Refused (plain (suc n))) out ≡ madeOf out (repairAnswer refused r)
+pub refused-made : (out : List ℕ) (refused n : ℕ) (r : Repair) → refused ≡ suc n
+    → made (Refused (plain (suc n))) out ≡ madeOf out (repairAnswer refused r)
 unfolding madeOf repairAnswer answerOf filled
 refused-made out refused n r e = rw e
 
-refused-walk : (w : Walk) (start n : ℕ) (out : List ℕ) → firstOf (walkLines w start (length out)) ≡ suc n → made (Refused (plain (suc n))) out ≡ walkRepaired w start out
+refused-walk : (w : Walk) (start n : ℕ) (out : List ℕ) → firstOf (walkLines w start (length out)) ≡ suc n
+    → made (Refused (plain (suc n))) out ≡ walkRepaired w start out
 unfolding walkRepaired
 refused-walk w start n out e = refused-made out (firstOf (walkLines w start (length out))) n (keeping w start) e
 
@@ -64,12 +68,14 @@ clock-made : (w : Walk) (start : ℕ) (out : List ℕ) → walkedAll w start ≡
 unfolding walkLines
 clock-made w start out e = refused-walk w start 12 out (line-holds 13 _ _ (walked-ill w start e))
 
-pub frames-clock : (f out : List ℕ) (k start : ℕ) (r : declared.Walked) → r ≡ walkedIn f k start → r ≡ OutOfOrder → made (Refused (plain 13)) out ≡ framesRepaired f k start out
+pub frames-clock : (f out : List ℕ) (k start : ℕ) (r : declared.Walked) → r ≡ walkedIn f k start → r ≡ OutOfOrder
+    → made (Refused (plain 13)) out ≡ framesRepaired f k start out
 unfolding walkedIn framesRepaired
 frames-clock f out k start r p q = clock-made (walk 1000000 k (drop start f)) start out (sym p ∙ q)
 
 -- the lines 13 and 15, and then 9, of a walk in order
-pass-clock : (w : Walk) (start room count end common : ℕ) → walkedAll w start ≡ InOrder count end common → firstOf (walkLines w start room) ≡ firstOf (line 15 (tooLong end count) ∷ line 9 (noRoom room (length (tailOf w start))) ∷ [])
+pass-clock : (w : Walk) (start room count end common : ℕ) → walkedAll w start ≡ InOrder count end common
+    → firstOf (walkLines w start room) ≡ firstOf (line 15 (tooLong end count) ∷ line 9 (noRoom room (length (tailOf w start))) ∷ [])
 unfolding walkLines
 pass-clock w start room count end common e =
     let (o, c, b, m) = walked-well w start count end common e in
@@ -83,29 +89,43 @@ not-long : (end count : ℕ) → end + (4 + 16 * count) ≤ 1099511115772 → to
 unfolding tooLong
 not-long end count h = le-ltb (2 ^ 40) (end + (4 + 16 * count) + 512004) (omega arith)
 
-long-made : (w : Walk) (start count end common : ℕ) (out : List ℕ) → walkedAll w start ≡ InOrder count end common → 1099511115772 < end + (4 + 16 * count) → made (Refused (plain 15)) out ≡ walkRepaired w start out
-long-made w start count end common out e h = refused-walk w start 14 out (pass-clock w start (length out) count end common e ∙ line-holds 15 _ _ (is-long end count h))
+long-made : (w : Walk) (start count end common : ℕ) (out : List ℕ) → walkedAll w start ≡ InOrder count end common
+    → 1099511115772 < end + (4 + 16 * count) → made (Refused (plain 15)) out ≡ walkRepaired w start out
+long-made w start count end common out e h = refused-walk w start 14 out
+    (pass-clock w start (length out) count end common e ∙ line-holds 15 _ _ (is-long end count h))
 
-pub frames-far : (f out : List ℕ) (k start count end common : ℕ) (r : declared.Walked) → r ≡ walkedIn f k start → r ≡ InOrder count end common → 1099511115772 < end → made (Refused (plain 15)) out ≡ framesRepaired f k start out
+pub frames-far : (f out : List ℕ) (k start count end common : ℕ) (r : declared.Walked) → r ≡ walkedIn f k start → r ≡ InOrder count end common
+    → 1099511115772 < end → made (Refused (plain 15)) out ≡ framesRepaired f k start out
 unfolding walkedIn framesRepaired
 frames-far f out k start count end common r p q h = long-made (walk 1000000 k (drop start f)) start count end common out (sym p ∙ q) (omega arith)
 
-pub frames-long : (f out : List ℕ) (k start count end common : ℕ) (r : declared.Walked) → r ≡ walkedIn f k start → r ≡ InOrder count end common → 1099511115772 < end + (4 + 16 * count) → made (Refused (plain 15)) out ≡ framesRepaired f k start out
+pub frames-long : (f out : List ℕ) (k start count end common : ℕ) (r : declared.Walked) → r ≡ walkedIn f k start → r ≡ InOrder count end common
+    → 1099511115772 < end + (4 + 16 * count) → made (Refused (plain 15)) out ≡ framesRepaired f k start out
 unfolding walkedIn framesRepaired
 frames-long f out k start count end common r p q h = long-made (walk 1000000 k (drop start f)) start count end common out (sym p ∙ q) h
 
 length-tail : (w : Walk) (start count end common : ℕ) → walkedAll w start ≡ InOrder count end common → length (tailOf w start) ≡ 4 + 16 * count + 4
 unfolding tailOf tableBytes bytesOf flatMap
 length-tail w start count end common e =
-    omega (arith, length-append (indexBytes start (w .frames)) (tableBytes []), length-index start (w .frames), walked-well w start count end common e .1)
+    omega (
+      arith,
+      length-append (indexBytes start (w .frames)) (tableBytes []),
+      length-index start (w .frames),
+      walked-well w start count end common e .1,
+    )
 
-pass-long : (w : Walk) (start room count end common : ℕ) → walkedAll w start ≡ InOrder count end common → end + (4 + 16 * count) ≤ 1099511115772 → firstOf (walkLines w start room) ≡ firstOf (line 9 (noRoom room (4 + 16 * count + 4)) ∷ [])
-pass-long w start room count end common e h = pass-clock w start room count end common e ∙ line-pass 15 _ _ (not-long end count h) ∙ rw (length-tail w start count end common e)
+pass-long : (w : Walk) (start room count end common : ℕ) → walkedAll w start ≡ InOrder count end common → end + (4 + 16 * count) ≤ 1099511115772
+    → firstOf (walkLines w start room) ≡ firstOf (line 9 (noRoom room (4 + 16 * count + 4)) ∷ [])
+pass-long w start room count end common e h = pass-clock w start room count end common e ∙ line-pass 15 _ _ (not-long end count h)
+    ∙ rw (length-tail w start count end common e)
 
-room-made : (w : Walk) (start count end common : ℕ) (out : List ℕ) → walkedAll w start ≡ InOrder count end common → end + (4 + 16 * count) ≤ 1099511115772 → length out < 4 + 16 * count + 4 → made (Refused (plain 9)) out ≡ walkRepaired w start out
-room-made w start count end common out e h l = refused-walk w start 8 out (pass-long w start (length out) count end common e h ∙ line-holds 9 _ _ (lt-ltb (length out) (4 + 16 * count + 4) l))
+room-made : (w : Walk) (start count end common : ℕ) (out : List ℕ) → walkedAll w start ≡ InOrder count end common
+    → end + (4 + 16 * count) ≤ 1099511115772 → length out < 4 + 16 * count + 4 → made (Refused (plain 9)) out ≡ walkRepaired w start out
+room-made w start count end common out e h l = refused-walk w start 8 out
+    (pass-long w start (length out) count end common e h ∙ line-holds 9 _ _ (lt-ltb (length out) (4 + 16 * count + 4) l))
 
-pub frames-room : (f out : List ℕ) (k start count end common : ℕ) (r : declared.Walked) → r ≡ walkedIn f k start → r ≡ InOrder count end common → end + (4 + 16 * count) ≤ 1099511115772 → length out < 4 + 16 * count + 4 → made (Refused (plain 9)) out ≡ framesRepaired f k start out
+pub frames-room : (f out : List ℕ) (k start count end common : ℕ) (r : declared.Walked) → r ≡ walkedIn f k start → r ≡ InOrder count end common
+    → end + (4 + 16 * count) ≤ 1099511115772 → length out < 4 + 16 * count + 4 → made (Refused (plain 9)) out ≡ framesRepaired f k start out
 unfolding walkedIn framesRepaired
 frames-room f out k start count end common r p q h l = room-made (walk 1000000 k (drop start f)) start count end common out (sym p ∙ q) h l
 
@@ -116,15 +136,18 @@ walk-again : (most k : ℕ) (s : List ℕ) → areBytes s ≡ true → walk (len
 unfolding took
 walk-again most k s h =
     let g = walk-gives most k s h in
-    ap (λ (w : Walk). w .frames) (ap (walk (length (walk most k s .frames)) k) (g .front) ∙ walk-exactly (walk most k s .frames) k (drop (walk most k s .bytes) s) (g .legal))
+    ap (λ (w : Walk). w .frames) (ap (walk (length (walk most k s .frames)) k) (g .front)
+    ∙ walk-exactly (walk most k s .frames) k (drop (walk most k s .bytes) s) (g .legal))
 
-again-many : (f : List ℕ) (most k start count end common : ℕ) → areBytes f ≡ true → walkedAll (walk most k (drop start f)) start ≡ InOrder count end common → framesIn f k count start ≡ count
+again-many : (f : List ℕ) (most k start count end common : ℕ) → areBytes f ≡ true
+    → walkedAll (walk most k (drop start f)) start ≡ InOrder count end common → framesIn f k count start ≡ count
 unfolding framesIn
 again-many f most k start count end common h e =
     let c : length (walk most k (drop start f) .frames) ≡ count = walked-well (walk most k (drop start f)) start count end common e .1 in
     ap (λ (n : ℕ). length (walk n k (drop start f) .frames)) (sym c) ∙ ap length (walk-again most k (drop start f) (bytes-drop start f h)) ∙ c
 
-pub frames-again : (f : List ℕ) (k start count end common : ℕ) (r : declared.Walked) → ((i : ℕ) → Fits w8 (getD f i 0)) → r ≡ walkedIn f k start → r ≡ InOrder count end common → framesIn f k count start ≡ count
+pub frames-again : (f : List ℕ) (k start count end common : ℕ) (r : declared.Walked) → ((i : ℕ) → Fits w8 (getD f i 0)) → r ≡ walkedIn f k start
+    → r ≡ InOrder count end common → framesIn f k count start ≡ count
 unfolding walkedIn
 frames-again f k start count end common r s p q = again-many f 1000000 k start count end common (slice-bytes f s) (sym p ∙ q)
 
@@ -138,7 +161,8 @@ common-each (suc c) common size n h e = go (eqb common size) refl e
     go true t q = (eqb-true common size t ∙ q, q)
     go false t q = absurd (omega arith)
 
-alike-behind : (frames : List Frame) (count common n : ℕ) → 0 < count → commonBehind count common frames ≡ suc n → (common ≡ suc n) × (alike (suc n) frames ≡ true)
+alike-behind : (frames : List Frame) (count common n : ℕ) → 0 < count → commonBehind count common frames ≡ suc n
+    → (common ≡ suc n) × (alike (suc n) frames ≡ true)
 unfolding commonBehind alike
 alike-behind [] count common n h e = (e, refl)
 alike-behind (x ∷ xs) count common n h e =
@@ -155,56 +179,81 @@ common-alike (x ∷ xs) (suc n) e =
     let (l, a) = alike-behind xs (0 + 1) (length (frameBytes x)) n (omega arith) e in
     rw (eq-eqb (length (frameBytes x)) (suc n) l) a
 
-alike-again : (f : List ℕ) (most k start count end common : ℕ) → areBytes f ≡ true → walkedAll (walk most k (drop start f)) start ≡ InOrder count end common → alikeIn f k common count start ≡ true
+alike-again : (f : List ℕ) (most k start count end common : ℕ) → areBytes f ≡ true
+    → walkedAll (walk most k (drop start f)) start ≡ InOrder count end common → alikeIn f k common count start ≡ true
 unfolding alikeIn
 alike-again f most k start count end common h e =
     let (o, c, b, m) = walked-well (walk most k (drop start f)) start count end common e in
-    ap (λ (n : ℕ). alike common (walk n k (drop start f) .frames)) (sym c) ∙ ap (alike common) (walk-again most k (drop start f) (bytes-drop start f h)) ∙ common-alike (walk most k (drop start f) .frames) common m
+    ap (λ (n : ℕ). alike common (walk n k (drop start f) .frames)) (sym c)
+    ∙ ap (alike common) (walk-again most k (drop start f) (bytes-drop start f h)) ∙ common-alike (walk most k (drop start f) .frames) common m
 
-pub frames-alike : (f : List ℕ) (k start count end common : ℕ) (r : declared.Walked) → ((i : ℕ) → Fits w8 (getD f i 0)) → r ≡ walkedIn f k start → r ≡ InOrder count end common → alikeIn f k common count start ≡ true
+pub frames-alike : (f : List ℕ) (k start count end common : ℕ) (r : declared.Walked) → ((i : ℕ) → Fits w8 (getD f i 0)) → r ≡ walkedIn f k start
+    → r ≡ InOrder count end common → alikeIn f k common count start ≡ true
 unfolding walkedIn
 frames-alike f k start count end common r s p q = alike-again f 1000000 k start count end common (slice-bytes f s) (sym p ∙ q)
 
 -- the index that the code writes is that of the walked frames
-index-is : (f : List ℕ) (most k start count : ℕ) → areBytes f ≡ true → length (walk most k (drop start f) .frames) ≡ count → indexIn f k start count ≡ indexBytes start (walk most k (drop start f) .frames)
+index-is : (f : List ℕ) (most k start count : ℕ) → areBytes f ≡ true → length (walk most k (drop start f) .frames) ≡ count
+    → indexIn f k start count ≡ indexBytes start (walk most k (drop start f) .frames)
 unfolding indexIn entriesIn indexBytes
 index-is f most k start count h e =
-    rw (← e, walk-again most k (drop start f) (bytes-drop start f h), by-first (walk most k (drop start f) .frames) (readAt f (start + 4) 8) start (λ x xs q. walk-first f k start most x xs q) .1)
+    rw (
+      ← e,
+      walk-again most k (drop start f) (bytes-drop start f h),
+      by-first (walk most k (drop start f) .frames) (readAt f (start + 4) 8) start (λ x xs q. walk-first f k start most x xs q) .1,
+    )
 
-tail-is : (f out b : List ℕ) (most k start count end common : ℕ) → areBytes f ≡ true → walkedAll (walk most k (drop start f)) start ≡ InOrder count end common → b ≡ tailed f k start count out → b ≡ sets out 0 (tailOf (walk most k (drop start f)) start)
+tail-is : (f out b : List ℕ) (most k start count end common : ℕ) → areBytes f ≡ true
+    → walkedAll (walk most k (drop start f)) start ≡ InOrder count end common → b ≡ tailed f k start count out
+    → b ≡ sets out 0 (tailOf (walk most k (drop start f)) start)
 unfolding tailed tailOf
 tail-is f out b most k start count end common h e p =
     let c : length (walk most k (drop start f) .frames) ≡ count = walked-well (walk most k (drop start f)) start count end common e .1 in
-    let l : 0 + length (indexBytes start (walk most k (drop start f) .frames)) ≡ 4 + 16 * count = omega (arith, length-index start (walk most k (drop start f) .frames)) in
+    let l : 0 + length (indexBytes start (walk most k (drop start f) .frames)) ≡ 4 + 16 * count =
+    omega (arith, length-index start (walk most k (drop start f) .frames)) in
     rw (sets-append out 0 (indexBytes start (walk most k (drop start f) .frames)) (tableBytes []), l, ← index-is f most k start count h c) p
 
-kept-made : (w : Walk) (start count end common : ℕ) (out b : List ℕ) → walkedAll w start ≡ InOrder count end common → end + (4 + 16 * count) ≤ 1099511115772 → 4 + 16 * count + 4 ≤ length out → b ≡ sets out 0 (tailOf w start) → made (Kept end count end (end + (4 + 16 * count)) (4 + 16 * count + 4)) b ≡ walkRepaired w start out
+kept-made : (w : Walk) (start count end common : ℕ) (out b : List ℕ) → walkedAll w start ≡ InOrder count end common
+    → end + (4 + 16 * count) ≤ 1099511115772 → 4 + 16 * count + 4 ≤ length out → b ≡ sets out 0 (tailOf w start)
+    → made (Kept end count end (end + (4 + 16 * count)) (4 + 16 * count + 4)) b ≡ walkRepaired w start out
 unfolding walkRepaired madeOf repairAnswer answerOf keeping
 kept-made w start count end common out b e h l p =
     let (o, c, d, m) = walked-well w start count end common e in
     let t = length-tail w start count end common e in
-    let n : firstOf (walkLines w start (length out)) ≡ 0 = pass-long w start (length out) count end common e h ∙ line-pass 9 _ _ (le-ltb (length out) (4 + 16 * count + 4) l) ∙ no-lines in
+    let n : firstOf (walkLines w start (length out)) ≡ 0 = pass-long w start (length out) count end common e h
+    ∙ line-pass 9 _ _ (le-ltb (length out) (4 + 16 * count + 4) l) ∙ no-lines in
     rw (n, ← filled-is out (tailOf w start) (omega arith), ← p, c, d, t)
 
-pub frames-kept : (f out b : List ℕ) (k start count end common : ℕ) (r : declared.Walked) → ((i : ℕ) → Fits w8 (getD f i 0)) → r ≡ walkedIn f k start → r ≡ InOrder count end common → end + (4 + 16 * count) ≤ 1099511115772 → 4 + 16 * count + 4 ≤ length out → b ≡ tailed f k start count out → made (Kept end count end (end + (4 + 16 * count)) (4 + 16 * count + 4)) b ≡ framesRepaired f k start out
+pub frames-kept : (f out b : List ℕ) (k start count end common : ℕ) (r : declared.Walked) → ((i : ℕ) → Fits w8 (getD f i 0))
+    → r ≡ walkedIn f k start → r ≡ InOrder count end common → end + (4 + 16 * count) ≤ 1099511115772 → 4 + 16 * count + 4 ≤ length out
+    → b ≡ tailed f k start count out → made (Kept end count end (end + (4 + 16 * count)) (4 + 16 * count + 4)) b ≡ framesRepaired f k start out
 unfolding walkedIn framesRepaired
 frames-kept f out b k start count end common r s p q h l u =
-    kept-made (walk 1000000 k (drop start f)) start count end common out b (sym p ∙ q) h l (tail-is f out b 1000000 k start count end common (slice-bytes f s) (sym p ∙ q) u)
+    kept-made (walk 1000000 k (drop start f)) start count end common out b (sym p ∙ q) h l
+    (tail-is f out b 1000000 k start count end common (slice-bytes f s) (sym p ∙ q) u)
 
 -- ── The sums fit ──
 
-count-few : (f : List ℕ) (k start count end common : ℕ) (r : declared.Walked) → ((i : ℕ) → Fits w8 (getD f i 0)) → r ≡ walkedIn f k start → r ≡ InOrder count end common → count ≤ 1000000
+count-few : (f : List ℕ) (k start count end common : ℕ) (r : declared.Walked) → ((i : ℕ) → Fits w8 (getD f i 0)) → r ≡ walkedIn f k start
+    → r ≡ InOrder count end common → count ≤ 1000000
 unfolding walkedIn
 count-few f k start count end common r s p q =
-    omega (arith, walked-well (walk 1000000 k (drop start f)) start count end common (sym p ∙ q) .1, walk-gives 1000000 k (drop start f) (bytes-drop start f (slice-bytes f s)) .few)
+    omega (
+      arith,
+      walked-well (walk 1000000 k (drop start f)) start count end common (sym p ∙ q) .1,
+      walk-gives 1000000 k (drop start f) (bytes-drop start f (slice-bytes f s)) .few,
+    )
 
-pub entries-fit : (f : List ℕ) (k start count end common : ℕ) (r : declared.Walked) → ((i : ℕ) → Fits w8 (getD f i 0)) → r ≡ walkedIn f k start → r ≡ InOrder count end common → Fits w64 (16 * count)
+pub entries-fit : (f : List ℕ) (k start count end common : ℕ) (r : declared.Walked) → ((i : ℕ) → Fits w8 (getD f i 0)) → r ≡ walkedIn f k start
+    → r ≡ InOrder count end common → Fits w64 (16 * count)
 entries-fit f k start count end common r s p q = let c = count-few f k start count end common r s p q in record { fits = omega arith }
 
-pub index-fits : (f : List ℕ) (k start count end common : ℕ) (r : declared.Walked) → ((i : ℕ) → Fits w8 (getD f i 0)) → r ≡ walkedIn f k start → r ≡ InOrder count end common → Fits w64 (4 + 16 * count)
+pub index-fits : (f : List ℕ) (k start count end common : ℕ) (r : declared.Walked) → ((i : ℕ) → Fits w8 (getD f i 0)) → r ≡ walkedIn f k start
+    → r ≡ InOrder count end common → Fits w64 (4 + 16 * count)
 index-fits f k start count end common r s p q = let c = count-few f k start count end common r s p q in record { fits = omega arith }
 
-pub user-fits : (f : List ℕ) (k start count end common : ℕ) (r : declared.Walked) → ((i : ℕ) → Fits w8 (getD f i 0)) → r ≡ walkedIn f k start → r ≡ InOrder count end common → end ≤ 1099511115772 → Fits w64 (end + (4 + 16 * count))
+pub user-fits : (f : List ℕ) (k start count end common : ℕ) (r : declared.Walked) → ((i : ℕ) → Fits w8 (getD f i 0)) → r ≡ walkedIn f k start
+    → r ≡ InOrder count end common → end ≤ 1099511115772 → Fits w64 (end + (4 + 16 * count))
 user-fits f k start count end common r s p q h = let c = count-few f k start count end common r s p q in record { fits = omega arith }
 
 pub ruleset frames = (frames-clock, frames-far, frames-long, frames-room, frames-again, frames-alike, frames-kept, entries-fit, index-fits, user-fits)

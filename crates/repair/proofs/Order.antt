@@ -48,7 +48,8 @@ refused-repair : (f out : List ℕ) (n : ℕ) → repairRefusal f (length out) �
 unfolding repairOf repair
 refused-repair f out n e = refused-made out (repairRefusal f (length out)) n _ e
 
-pub repair-front : (f out : List ℕ) (r : Front) (n m : Refusal) → r ≡ frontOf f → r ≡ frontAs.Refused n → m ≡ frontRefusal r → made (Refused m) out ≡ repairOf f out
+pub repair-front : (f out : List ℕ) (r : Front) (n m : Refusal) → r ≡ frontOf f → r ≡ frontAs.Refused n → m ≡ frontRefusal r
+    → made (Refused m) out ≡ repairOf f out
 unfolding repairRefusal repairLines
 repair-front f out r n m p q s = go (front-refuses f n (sym p ∙ q)) (s ∙ ap frontRefusal q)
   where
@@ -75,11 +76,13 @@ module _ (f out : List ℕ) (r : Front) (held : FrontHeld) (p : r ≡ frontOf f)
   unfolding framesRepaired walkRepaired keeping tailOf repairOf repair walked walkOf keptLength keptCount tail
   frames-are e = rw (lines-are e)
 
-  pub repair-behind : (b : Bool) (a : Repaired) (new : List ℕ) → b ≡ eqb (refusal f) 0 → b ≡ false → made a new ≡ framesRepaired f (held .sections) (held .start) out → made a new ≡ repairOf f out
+  pub repair-behind : (b : Bool) (a : Repaired) (new : List ℕ) → b ≡ eqb (refusal f) 0 → b ≡ false
+      → made a new ≡ framesRepaired f (held .sections) (held .start) out → made a new ≡ repairOf f out
   unfolding frontHeld
   repair-behind b a new s t e = rw held-is at e ∙ frames-are (sym s ∙ t)
 
-pub start-there : (f : List ℕ) (r : Front) (held : FrontHeld) → ((i : ℕ) → Fits w8 (getD f i 0)) → r ≡ frontOf f → r ≡ frontAs.Whole held → held .start ≤ length f
+pub start-there : (f : List ℕ) (r : Front) (held : FrontHeld) → ((i : ℕ) → Fits w8 (getD f i 0)) → r ≡ frontOf f → r ≡ frontAs.Whole held
+    → held .start ≤ length f
 unfolding frontHeld
 start-there f r held b p q = rw (held-is f [] r held p q) (start-within f (slice-bytes f b) (passes f [] r held p q .system))
 

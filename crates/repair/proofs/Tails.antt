@@ -34,7 +34,8 @@ use Rattle.repair.specs.Repaired.{endIn, nextBy, framesIn, alike, alikeI
 -- ── An entry ──
 
 -- sixteen bytes become an entry's
-pub entry-filled : (s a b c : List ℕ) (first time offset size since : ℕ) → length s ≡ 16 → since ≡ sinceFirst first time → a ≡ writeAt s 0 4 since → b ≡ writeAt a 4 8 offset → c ≡ writeAt b 12 4 size → c ≡ entryBytes first time offset size
+pub entry-filled : (s a b c : List ℕ) (first time offset size since : ℕ) → length s ≡ 16 → since ≡ sinceFirst first time → a ≡ writeAt s 0 4 since
+    → b ≡ writeAt a 4 8 offset → c ≡ writeAt b 12 4 size → c ≡ entryBytes first time offset size
 unfolding entryBytes sinceFirst filled
 entry-filled s a b c first time offset size since h e p q r =
     let p′ : a ≡ sets s 0 (bytesOf 4 since) = p ∙ write-is s 0 4 since (omega arith) in
@@ -42,20 +43,32 @@ entry-filled s a b c first time offset size since h e p q r =
     let q′ : b ≡ sets a 4 (bytesOf 8 offset) = q ∙ write-is a 4 8 offset (omega arith) in
     let m : length b ≡ length a = ap length q′ ∙ length-sets a 4 (bytesOf 8 offset) in
     let r′ : c ≡ sets b 12 (bytesOf 4 size) = r ∙ write-is b 12 4 size (omega arith) in
-    let n : length (bytesOf 4 since ++ bytesOf 8 offset) ≡ 12 = length-append (bytesOf 4 since) (bytesOf 8 offset) ∙ rw (length-bytesOf 4 since, length-bytesOf 8 offset) in
-    let w : sets s 0 (bytesOf 4 since ++ bytesOf 8 offset ++ bytesOf 4 size) ≡ c = rw (sets-append s 0 (bytesOf 4 since ++ bytesOf 8 offset) (bytesOf 4 size), sets-append s 0 (bytesOf 4 since) (bytesOf 8 offset), n, length-bytesOf 4 since, ← p′, ← q′) (sym r′) in
-    rw (← e) (sym w ∙ sets-all (bytesOf 4 since ++ bytesOf 8 offset ++ bytesOf 4 size) s (length-append (bytesOf 4 since ++ bytesOf 8 offset) (bytesOf 4 size) ∙ rw (n, length-bytesOf 4 size, h)))
+    let n : length (bytesOf 4 since ++ bytesOf 8 offset) ≡ 12 =
+    length-append (bytesOf 4 since) (bytesOf 8 offset) ∙ rw (length-bytesOf 4 since, length-bytesOf 8 offset) in
+    let w : sets s 0 (bytesOf 4 since ++ bytesOf 8 offset ++ bytesOf 4 size) ≡ c =
+    rw (
+      sets-append s 0 (bytesOf 4 since ++ bytesOf 8 offset) (bytesOf 4 size),
+      sets-append s 0 (bytesOf 4 since) (bytesOf 8 offset),
+      n,
+      length-bytesOf 4 since,
+      ← p′,
+      ← q′,
+    ) (sym r′) in
+    rw (← e) (sym w ∙ sets-all (bytesOf 4 since ++ bytesOf 8 offset ++ bytesOf 4 size) s
+    (length-append (bytesOf 4 since ++ bytesOf 8 offset) (bytesOf 4 size) ∙ rw (n, length-bytesOf 4 size, h)))
   where
     sets-all : (vs l : List ℕ) → length vs ≡ length l → sets l 0 vs ≡ vs
     sets-all vs l g = filled-is l vs (omega arith) ∙ ap (λ (t : List ℕ). vs ++ t) (drop-of-length-le l {i = length vs} (omega arith)) ∙ append-nil vs
 
 -- the entry's part of the output, lent and given back
-pub entry-written : (out s : List ℕ) (at first time offset size : ℕ) → at + 16 ≤ length out → s ≡ entryBytes first time offset size → take at out ++ (s ++ drop (at + 16 - at) (drop at out)) ≡ sets out at (entryBytes first time offset size)
+pub entry-written : (out s : List ℕ) (at first time offset size : ℕ) → at + 16 ≤ length out → s ≡ entryBytes first time offset size
+    → take at out ++ (s ++ drop (at + 16 - at) (drop at out)) ≡ sets out at (entryBytes first time offset size)
 entry-written out s at first time offset size h e =
     let l : length (entryBytes first time offset size) ≡ 16 = length-entry first time offset size in
     let d : at + 16 - at ≡ 16 = omega arith in
     let m : at + length (entryBytes first time offset size) ≡ at + 16 = ap (λ (k : ℕ). at + k) l in
-    rw (e, d, drop-drop 16 at out) (sym (append-assoc (take at out) (entryBytes first time offset size) (drop (at + 16) out)) ∙ sym (rw m at (sets-eq (entryBytes first time offset size) out at (omega arith))))
+    rw (e, d, drop-drop 16 at out) (sym (append-assoc (take at out) (entryBytes first time offset size) (drop (at + 16) out))
+    ∙ sym (rw m at (sets-eq (entryBytes first time offset size) out at (omega arith))))
 
 pub entry-part : (out : List ℕ) (at : ℕ) → at + 16 ≤ length out → length (take (at + 16 - at) (drop at out)) ≡ 16
 entry-part out at h =
@@ -65,7 +78,8 @@ entry-part out at h =
 -- ── A frame that is known to stand ──
 
 -- the frame that stands where some are left, and as many as are left behind it
-stands : (f : List ℕ) (k left place : ℕ) → 0 < left → framesIn f k left place ≡ left → (next : ℕ) × (frameEnd f place k ≡ End next) × (framesIn f k (left - 1) next ≡ left - 1)
+stands : (f : List ℕ) (k left place : ℕ) → 0 < left → framesIn f k left place ≡ left
+    → (next : ℕ) × (frameEnd f place k ≡ End next) × (framesIn f k (left - 1) next ≡ left - 1)
 unfolding framesIn frameEnd endOf stopped longer
 stands f k left place h e = go (frame k (drop place f)) refl
   where
@@ -78,7 +92,8 @@ stands f k left place h e = go (frame k (drop place f)) refl
         (place + n, rw g, omega arith)
 
 -- where it ends, and as many behind it
-known : (f : List ℕ) (k left place next : ℕ) → 0 < left → framesIn f k left place ≡ left → next ≡ endIn (frameEnd f place k) → (frameEnd f place k ≡ End next) × (framesIn f k (left - 1) next ≡ left - 1)
+known : (f : List ℕ) (k left place next : ℕ) → 0 < left → framesIn f k left place ≡ left → next ≡ endIn (frameEnd f place k)
+    → (frameEnd f place k ≡ End next) × (framesIn f k (left - 1) next ≡ left - 1)
 unfolding endIn
 known f k left place next h e p =
     let (m, a, b) = stands f k left place h e in
@@ -90,13 +105,15 @@ pub next-ended : (f : List ℕ) (k place next : ℕ) (r : Place) → r ≡ frame
 unfolding endIn
 next-ended f k place next r p q = rw (sym p ∙ q)
 
-pub next-there : (f : List ℕ) (k place end : ℕ) (r : Place) → r ≡ frameEnd f place k → r ≡ Broken → frameEnd f place k ≡ End end → place ≡ endIn (frameEnd f place k)
+pub next-there : (f : List ℕ) (k place end : ℕ) (r : Place) → r ≡ frameEnd f place k → r ≡ Broken → frameEnd f place k ≡ End end
+    → place ≡ endIn (frameEnd f place k)
 next-there f k place end r p q e =
     let z : Broken ≡ End end = sym q ∙ p ∙ e in
     let w : _≡_ {A = ℕ} 0 1 = cc in
     absurd (omega arith)
 
-pub next-common : (f : List ℕ) (k place common : ℕ) → (common ≡ 0 → ⊥) → frameEnd f place k ≡ End (nextBy f place k common) → place + common ≡ endIn (frameEnd f place k)
+pub next-common : (f : List ℕ) (k place common : ℕ) → (common ≡ 0 → ⊥) → frameEnd f place k ≡ End (nextBy f place k common)
+    → place + common ≡ endIn (frameEnd f place k)
 unfolding nextBy endIn
 next-common f k place zero n e = absurd (n refl)
 next-common f k place (suc c) n e = rw e
@@ -106,10 +123,12 @@ end-there : (f : List ℕ) (k place next : ℕ) → ((i : ℕ) → Fits w8 (getD
 end-there f k place next b q =
     let (x, n, g, a, t, d) = ended f place k next q in
     let (o, z, r) = frame-exact k .gives (drop place f) x n (bytes-drop place f (slice-bytes f b)) g in
-    let l : length (drop place f) ≡ length (frameBytes x) + length (drop n (drop place f)) = ap length r ∙ length-append (frameBytes x) (drop n (drop place f)) in
+    let l : length (drop place f) ≡ length (frameBytes x) + length (drop n (drop place f)) =
+    ap length r ∙ length-append (frameBytes x) (drop n (drop place f)) in
     omega (arith, length-drop place f, end-within f place k next (End next) (sym q) refl)
 
-pub next-fits : (f : List ℕ) (k place common : ℕ) → ((i : ℕ) → Fits w8 (getD f i 0)) → (common ≡ 0 → ⊥) → frameEnd f place k ≡ End (nextBy f place k common) → length f < 2 ^ 64 → Fits w64 (place + common)
+pub next-fits : (f : List ℕ) (k place common : ℕ) → ((i : ℕ) → Fits w8 (getD f i 0)) → (common ≡ 0 → ⊥)
+    → frameEnd f place k ≡ End (nextBy f place k common) → length f < 2 ^ 64 → Fits w64 (place + common)
 unfolding nextBy
 next-fits f k place common b n e l =
     let t = end-there f k place (nextBy f place k common) b e in
@@ -122,27 +141,33 @@ next-fits f k place common b n e l =
     by-common (suc c) n = refl
 
 -- frames that have a length in common stand at places that it gives
-alike-first : (x : Frame) (n : ℕ) (w : Walk) (c : ℕ) → alike (suc c) (longer x n w .frames) ≡ true → (length (frameBytes x) ≡ suc c) × (alike (suc c) (w .frames) ≡ true)
+alike-first : (x : Frame) (n : ℕ) (w : Walk) (c : ℕ) → alike (suc c) (longer x n w .frames) ≡ true
+    → (length (frameBytes x) ≡ suc c) × (alike (suc c) (w .frames) ≡ true)
 unfolding alike longer
-alike-first x n w c e = let b = both-true (eqb (length (frameBytes x)) (suc c)) (alike (suc c) (w .frames)) e in (eqb-true (length (frameBytes x)) (suc c) (b .0), b .1)
+alike-first x n w c e = let b = both-true (eqb (length (frameBytes x)) (suc c)) (alike (suc c) (w .frames)) e in
+    (eqb-true (length (frameBytes x)) (suc c) (b .0), b .1)
 
-next-alike : (f : List ℕ) (k left place next common : ℕ) → ((i : ℕ) → Fits w8 (getD f i 0)) → 0 < left → frameEnd f place k ≡ End next → alikeIn f k common left place ≡ true → (next ≡ nextBy f place k common) × (alikeIn f k common (left - 1) next ≡ true)
+next-alike : (f : List ℕ) (k left place next common : ℕ) → ((i : ℕ) → Fits w8 (getD f i 0)) → 0 < left → frameEnd f place k ≡ End next
+    → alikeIn f k common left place ≡ true → (next ≡ nextBy f place k common) × (alikeIn f k common (left - 1) next ≡ true)
 unfolding nextBy alikeIn endIn alike
 next-alike f k left place next zero b h q e = (rw q, refl)
 next-alike f k left place next (suc c) b h q e = go (ended f place k next q)
   where
-    go : ((x : Frame) × (n : ℕ) × (frame k (drop place f) ≡ good x n) × (place + n ≡ next) × (x .time ≡ readAt f (place + 4) 8) × (x .exposure ≡ readAt f (place + 12) 4)) → (next ≡ place + suc c) × (alikeIn f k (suc c) (left - 1) next ≡ true)
+    go : ((x : Frame) × (n : ℕ) × (frame k (drop place f) ≡ good x n) × (place + n ≡ next) × (x .time ≡ readAt f (place + 4) 8)
+        × (x .exposure ≡ readAt f (place + 12) 4)) → (next ≡ place + suc c) × (alikeIn f k (suc c) (left - 1) next ≡ true)
     go (x, n, g, a, t, d) =
         let z : n ≡ length (frameBytes x) = frame-exact k .gives (drop place f) x n (bytes-drop place f (slice-bytes f b)) g .1 in
         let (l, m) = alike-first x n (walk (left - 1) k (drop (place + n) f)) c (rw (walk-cons f k left place x n h g) at e) in
         (sym a ∙ ap (λ (j : ℕ). place + j) (z ∙ l), rw (← a) m)
 
-pub next-known : (f : List ℕ) (k left place common : ℕ) → ((i : ℕ) → Fits w8 (getD f i 0)) → 0 < left → framesIn f k left place ≡ left → alikeIn f k common left place ≡ true → frameEnd f place k ≡ End (nextBy f place k common)
+pub next-known : (f : List ℕ) (k left place common : ℕ) → ((i : ℕ) → Fits w8 (getD f i 0)) → 0 < left → framesIn f k left place ≡ left
+    → alikeIn f k common left place ≡ true → frameEnd f place k ≡ End (nextBy f place k common)
 next-known f k left place common b h e a =
     let (m, q, l) = stands f k left place h e in
     q ∙ ap End (next-alike f k left place m common b h q a .0)
 
-pub alike-left : (f : List ℕ) (k left place next common : ℕ) → ((i : ℕ) → Fits w8 (getD f i 0)) → 0 < left → framesIn f k left place ≡ left → next ≡ endIn (frameEnd f place k) → alikeIn f k common left place ≡ true → alikeIn f k common (left - 1) next ≡ true
+pub alike-left : (f : List ℕ) (k left place next common : ℕ) → ((i : ℕ) → Fits w8 (getD f i 0)) → 0 < left → framesIn f k left place ≡ left
+    → next ≡ endIn (frameEnd f place k) → alikeIn f k common left place ≡ true → alikeIn f k common (left - 1) next ≡ true
 alike-left f k left place next common b h e p a = next-alike f k left place next common b h (known f k left place next h e p .0) a .1
 
 -- a time that is read from a part of just its bytes
@@ -152,7 +177,8 @@ part-read f at n l e =
     let m : length (take 8 (drop at f)) ≡ 8 = length-take-le 8 (drop at f) (omega (arith, length-drop at f)) in
     e
     ∙ rw d
-    (read-is (take 8 (drop at f)) 0 8 (omega arith) (omega arith) ∙ ap numberOf (take-all 8 (take 8 (drop at f)) (omega arith)) ∙ sym (read-is f at 8 (omega arith) l))
+    (read-is (take 8 (drop at f)) 0 8 (omega arith) (omega arith) ∙ ap numberOf (take-all 8 (take 8 (drop at f)) (omega arith))
+    ∙ sym (read-is f at 8 (omega arith) l))
 
 pub head-there : (f : List ℕ) (k left place : ℕ) → 0 < left → framesIn f k left place ≡ left → place + 4 + 8 ≤ length f
 head-there f k left place h e =
@@ -165,7 +191,8 @@ known-time-fits f k left place h e l = let w = head-there f k left place h e in 
 pub known-behind : (f : List ℕ) (k left place next : ℕ) → 0 < left → framesIn f k left place ≡ left → next ≡ endIn (frameEnd f place k) → place ≤ next
 known-behind f k left place next h e p = end-behind f place k next (End next) (sym (known f k left place next h e p .0)) refl
 
-pub known-left : (f : List ℕ) (k left place next : ℕ) → 0 < left → framesIn f k left place ≡ left → next ≡ endIn (frameEnd f place k) → framesIn f k (left - 1) next ≡ left - 1
+pub known-left : (f : List ℕ) (k left place next : ℕ) → 0 < left → framesIn f k left place ≡ left → next ≡ endIn (frameEnd f place k)
+    → framesIn f k (left - 1) next ≡ left - 1
 known-left f k left place next h e p = known f k left place next h e p .1
 
 -- ── The entries ──
@@ -179,21 +206,28 @@ entries-done f out all k first left place entry h e =
     let z : left ≡ 0 = omega arith in
     rw (stopped-entries f k first left place (rw z (walk-none k (drop place f)))) at e
 
-longer-entries : (w : Walk) (x : Frame) (n first place : ℕ) → n ≡ length (frameBytes x) → entriesBytes first place (longer x n w .frames) ≡ entryBytes first (x .time) place n ++ entriesBytes first (place + n) (w .frames)
+longer-entries : (w : Walk) (x : Frame) (n first place : ℕ) → n ≡ length (frameBytes x)
+    → entriesBytes first place (longer x n w .frames) ≡ entryBytes first (x .time) place n ++ entriesBytes first (place + n) (w .frames)
 unfolding longer entriesBytes
 longer-entries w x n first place e = rw e
 
-entries-cons : (f : List ℕ) (k first left place next t : ℕ) → ((i : ℕ) → Fits w8 (getD f i 0)) → 0 < left → frameEnd f place k ≡ End next → t ≡ readAt f (place + 4) 8 → entriesIn f k first left place ≡ entryBytes first t place (next - place) ++ entriesIn f k first (left - 1) next
+entries-cons : (f : List ℕ) (k first left place next t : ℕ) → ((i : ℕ) → Fits w8 (getD f i 0)) → 0 < left → frameEnd f place k ≡ End next
+    → t ≡ readAt f (place + 4) 8 → entriesIn f k first left place ≡ entryBytes first t place (next - place) ++ entriesIn f k first (left - 1) next
 unfolding entriesIn
 entries-cons f k first left place next t b h q v = go (ended f place k next q)
   where
-    go : ((x : Frame) × (n : ℕ) × (frame k (drop place f) ≡ good x n) × (place + n ≡ next) × (x .time ≡ readAt f (place + 4) 8) × (x .exposure ≡ readAt f (place + 12) 4)) → entriesIn f k first left place ≡ entryBytes first t place (next - place) ++ entriesIn f k first (left - 1) next
+    go : ((x : Frame) × (n : ℕ) × (frame k (drop place f) ≡ good x n) × (place + n ≡ next) × (x .time ≡ readAt f (place + 4) 8)
+        × (x .exposure ≡ readAt f (place + 12) 4)) → entriesIn f k first left place ≡ entryBytes first t place (next - place)
+        ++ entriesIn f k first (left - 1) next
     go (x, n, g, a, c, d) =
         let m : next - place ≡ n = omega arith in
         let z : n ≡ length (frameBytes x) = frame-exact k .gives (drop place f) x n (bytes-drop place f (slice-bytes f b)) g .1 in
         rw (m, ← a, v, ← c, walk-cons f k left place x n h g) (longer-entries (walk (left - 1) k (drop (place + n) f)) x n first place z)
 
-pub entries-step : (f out new all : List ℕ) (k first left place entry next t : ℕ) → ((i : ℕ) → Fits w8 (getD f i 0)) → 0 < left → framesIn f k left place ≡ left → next ≡ endIn (frameEnd f place k) → t ≡ readAt f (place + 4) 8 → new ≡ sets out entry (entryBytes first t place (next - place)) → sets out entry (entriesIn f k first left place) ≡ all → sets new (entry + 16) (entriesIn f k first (left - 1) next) ≡ all
+pub entries-step : (f out new all : List ℕ) (k first left place entry next t : ℕ) → ((i : ℕ) → Fits w8 (getD f i 0)) → 0 < left
+    → framesIn f k left place ≡ left → next ≡ endIn (frameEnd f place k) → t ≡ readAt f (place + 4) 8
+    → new ≡ sets out entry (entryBytes first t place (next - place)) → sets out entry (entriesIn f k first left place) ≡ all
+    → sets new (entry + 16) (entriesIn f k first (left - 1) next) ≡ all
 entries-step f out new all k first left place entry next t b h s p q w i =
     let c = entries-cons f k first left place next t b h (known f k left place next h s p .0) q in
     let l = length-entry first t place (next - place) in
@@ -203,12 +237,14 @@ entries-step f out new all k first left place entry next t b h s p q w i =
 pub stored-length : (out new bytes : List ℕ) (at n : ℕ) → new ≡ sets out at bytes → length out ≡ n → length new ≡ n
 stored-length out new bytes at n e h = ap length e ∙ length-sets out at bytes ∙ h
 
-pub room-left : (out new bytes : List ℕ) (at entry left : ℕ) → new ≡ sets out at bytes → 0 < left → entry + 16 * left ≤ length out → entry + 16 + 16 * (left - 1) ≤ length new
+pub room-left : (out new bytes : List ℕ) (at entry left : ℕ) → new ≡ sets out at bytes → 0 < left → entry + 16 * left ≤ length out
+    → entry + 16 + 16 * (left - 1) ≤ length new
 room-left out new bytes at entry left e h l = omega (arith, stored-length out new bytes at (length out) e refl)
 
 -- ── The index, and the empty table ──
 
-pub index-written : (f out a b : List ℕ) (k start count first : ℕ) → 4 + 16 * count ≤ length out → first ≡ readAt f (start + 4) 8 → a ≡ writeAt out 0 4 count → b ≡ sets a 4 (entriesIn f k first count start) → b ≡ sets out 0 (indexIn f k start count)
+pub index-written : (f out a b : List ℕ) (k start count first : ℕ) → 4 + 16 * count ≤ length out → first ≡ readAt f (start + 4) 8
+    → a ≡ writeAt out 0 4 count → b ≡ sets a 4 (entriesIn f k first count start) → b ≡ sets out 0 (indexIn f k start count)
 unfolding indexIn
 index-written f out a b k start count first h e p q =
     let p′ : a ≡ sets out 0 (bytesOf 4 count) = p ∙ write-is out 0 4 count (omega arith) in
@@ -218,7 +254,8 @@ pub table-written : (out a : List ℕ) (at : ℕ) → at + 4 ≤ length out → 
 unfolding tableBytes bytesOf flatMap
 table-written out a at h p = p ∙ write-is out at 4 0 h
 
-pub tail-written : (f out a b : List ℕ) (k start count : ℕ) → a ≡ sets out 0 (indexIn f k start count) → b ≡ sets a (4 + 16 * count) (tableBytes []) → b ≡ tailed f k start count out
+pub tail-written : (f out a b : List ℕ) (k start count : ℕ) → a ≡ sets out 0 (indexIn f k start count)
+    → b ≡ sets a (4 + 16 * count) (tableBytes []) → b ≡ tailed f k start count out
 unfolding tailed
 tail-written f out a b k start count p q = rw (← p) q
 

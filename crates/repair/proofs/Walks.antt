@@ -41,14 +41,16 @@ unfolding commonWith
 common-none zero common size n d = absurd (n refl)
 common-none (suc c) common size n d = rw (ne-eqb common size d)
 
-common-longer : (x : Frame) (xs : List Frame) (n count common : ℕ) → n ≡ length (frameBytes x) → commonBehind count common (x ∷ xs) ≡ commonBehind (count + 1) (commonWith count common n) xs
+common-longer : (x : Frame) (xs : List Frame) (n count common : ℕ) → n ≡ length (frameBytes x)
+    → commonBehind count common (x ∷ xs) ≡ commonBehind (count + 1) (commonWith count common n) xs
 unfolding commonBehind
 common-longer x xs n count common e = ap (λ (m : ℕ). commonBehind (count + 1) (commonWith count common m) xs) (sym e)
 
 -- ── One frame at a time ──
 
 -- the first frame follows itself
-behind-none : (w : Walk) (first start : ℕ) → ((x : Frame) (xs : List Frame) → w .frames ≡ x ∷ xs → x .time ≡ first) → walkedBehind w first first 0 0 start ≡ walkedAll w start
+behind-none : (w : Walk) (first start : ℕ) → ((x : Frame) (xs : List Frame) → w .frames ≡ x ∷ xs → x .time ≡ first)
+    → walkedBehind w first first 0 0 start ≡ walkedAll w start
 unfolding walkedBehind walkedAll
 behind-none w first start h =
     let z : 0 + length (w .frames) ≡ length (w .frames) = omega arith in
@@ -66,24 +68,29 @@ behind-stopped first last count common place =
     let p : place + 0 ≡ place = omega arith in
     rw (c, p)
 
-pub walk-most : (f : List ℕ) (k first left last count common place : ℕ) (all : Walked) → left ≤ 0 → walkedFrom f k first left last count common place ≡ all → InOrder count place common ≡ all
+pub walk-most : (f : List ℕ) (k first left last count common place : ℕ) (all : Walked) → left ≤ 0
+    → walkedFrom f k first left last count common place ≡ all → InOrder count place common ≡ all
 unfolding walkedFrom
 walk-most f k first left last count common place all h e =
     let z : left ≡ 0 = omega arith in
     sym (rw (z, walk-none) (behind-stopped first last count common place)) ∙ e
 
-pub walk-end : (f : List ℕ) (k first left last count common place : ℕ) (r : Place) (all : Walked) → r ≡ frameEnd f place k → r ≡ Broken → walkedFrom f k first left last count common place ≡ all → InOrder count place common ≡ all
+pub walk-end : (f : List ℕ) (k first left last count common place : ℕ) (r : Place) (all : Walked) → r ≡ frameEnd f place k → r ≡ Broken
+    → walkedFrom f k first left last count common place ≡ all → InOrder count place common ≡ all
 unfolding walkedFrom
 walk-end f k first left last count common place r all p q e =
     sym (rw (walk-stop left k (drop place f) (not-ended f place k (sym p ∙ q))) (behind-stopped first last count common place)) ∙ e
 
 -- a frame more, and the walk behind it
-behind-longer : (w : Walk) (x : Frame) (n first last count common place : ℕ) → n ≡ length (frameBytes x) → walkedBehind (longer x n w) first last count common place ≡ cond (follows first last (x .time)) (walkedBehind w first (x .time) (count + 1) (commonWith count common n) (place + n)) OutOfOrder
+behind-longer : (w : Walk) (x : Frame) (n first last count common place : ℕ) → n ≡ length (frameBytes x)
+    → walkedBehind (longer x n w) first last count common place ≡ cond (follows first last (x .time))
+    (walkedBehind w first (x .time) (count + 1) (commonWith count common n) (place + n)) OutOfOrder
 unfolding walkedBehind longer follow
 behind-longer w x n first last count common place e =
     let c : count + suc (length (w .frames)) ≡ count + 1 + length (w .frames) = omega arith in
     let p : place + (n + w .bytes) ≡ place + n + w .bytes = omega arith in
-    rw (c, p, common-longer x (w .frames) n count common e) (go (follows first last (x .time)) (follow first (x .time) (w .frames)) (InOrder (count + 1 + length (w .frames)) (place + n + w .bytes) (commonBehind (count + 1) (commonWith count common n) (w .frames))))
+    rw (c, p, common-longer x (w .frames) n count common e) (go (follows first last (x .time)) (follow first (x .time) (w .frames))
+    (InOrder (count + 1 + length (w .frames)) (place + n + w .bytes) (commonBehind (count + 1) (commonWith count common n) (w .frames))))
   where
     go : (b t : Bool) (i : Walked) → cond (b && t) i OutOfOrder ≡ cond b (cond t i OutOfOrder) OutOfOrder
     go true t i = refl
@@ -93,22 +100,32 @@ behind-longer w x n first last count common place e =
 abbrev behind : (f : List ℕ) (k first left count common place next t : ℕ) → Walked
 behind f k first left count common place next t = walkedFrom f k first (left - 1) t (count + 1) (commonWith count common (next - place)) next
 
-walk-longer : (f : List ℕ) (k first left last count common place next t : ℕ) → ((i : ℕ) → Fits w8 (getD f i 0)) → 0 < left → frameEnd f place k ≡ End next → t ≡ readAt f (place + 4) 8 → walkedFrom f k first left last count common place ≡ cond (follows first last t) (behind f k first left count common place next t) OutOfOrder
+walk-longer : (f : List ℕ) (k first left last count common place next t : ℕ) → ((i : ℕ) → Fits w8 (getD f i 0)) → 0 < left
+    → frameEnd f place k ≡ End next → t ≡ readAt f (place + 4) 8
+    → walkedFrom f k first left last count common place ≡ cond (follows first last t) (behind f k first left count common place next t) OutOfOrder
 unfolding walkedFrom
 walk-longer f k first left last count common place next t b h q v = go (ended f place k next q)
   where
-    go : ((x : Frame) × (n : ℕ) × (frame k (drop place f) ≡ good x n) × (place + n ≡ next) × (x .time ≡ readAt f (place + 4) 8) × (x .exposure ≡ readAt f (place + 12) 4)) → walkedFrom f k first left last count common place ≡ cond (follows first last t) (behind f k first left count common place next t) OutOfOrder
+    go : ((x : Frame) × (n : ℕ) × (frame k (drop place f) ≡ good x n) × (place + n ≡ next) × (x .time ≡ readAt f (place + 4) 8)
+        × (x .exposure ≡ readAt f (place + 12) 4)) → walkedFrom f k first left last count common place ≡ cond (follows first last t)
+        (behind f k first left count common place next t) OutOfOrder
     go (x, n, g, a, c, d) =
         let m : next - place ≡ n = omega arith in
         let z : n ≡ length (frameBytes x) = frame-exact k .gives (drop place f) x n (bytes-drop place f (slice-bytes f b)) g .1 in
-        rw (m, ← a, v, ← c, walk-cons f k left place x n h g) (behind-longer (walk (left - 1) k (drop (place + n) f)) x n first last count common place z)
+        rw (m, ← a, v, ← c, walk-cons f k left place x n h g)
+        (behind-longer (walk (left - 1) k (drop (place + n) f)) x n first last count common place z)
 
-pub walk-breaks : (f : List ℕ) (k first left last count common place next t : ℕ) (r : Place) (s : Bool) (all : Walked) → ((i : ℕ) → Fits w8 (getD f i 0)) → 0 < left → r ≡ frameEnd f place k → r ≡ End next → t ≡ readAt f (place + 4) 8 → s ≡ follows first last t → s ≡ false → walkedFrom f k first left last count common place ≡ all → OutOfOrder ≡ all
+pub walk-breaks : (f : List ℕ) (k first left last count common place next t : ℕ) (r : Place) (s : Bool) (all : Walked)
+    → ((i : ℕ) → Fits w8 (getD f i 0)) → 0 < left → r ≡ frameEnd f place k → r ≡ End next → t ≡ readAt f (place + 4) 8 → s ≡ follows first last t
+    → s ≡ false → walkedFrom f k first left last count common place ≡ all → OutOfOrder ≡ all
 walk-breaks f k first left last count common place next t r s all b h p q w u v i =
     let c : follows first last t ≡ false = sym u ∙ v in
     sym (rw c at (walk-longer f k first left last count common place next t b h (sym p ∙ q) w)) ∙ i
 
-pub walk-goes : (f : List ℕ) (k first left last count common place next t new : ℕ) (r : Place) (s : Bool) (all : Walked) → ((i : ℕ) → Fits w8 (getD f i 0)) → 0 < left → r ≡ frameEnd f place k → r ≡ End next → t ≡ readAt f (place + 4) 8 → s ≡ follows first last t → s ≡ true → new ≡ commonWith count common (next - place) → walkedFrom f k first left last count common place ≡ all → walkedFrom f k first (left - 1) t (count + 1) new next ≡ all
+pub walk-goes : (f : List ℕ) (k first left last count common place next t new : ℕ) (r : Place) (s : Bool) (all : Walked)
+    → ((i : ℕ) → Fits w8 (getD f i 0)) → 0 < left → r ≡ frameEnd f place k → r ≡ End next → t ≡ readAt f (place + 4) 8 → s ≡ follows first last t
+    → s ≡ true → new ≡ commonWith count common (next - place) → walkedFrom f k first left last count common place ≡ all
+    → walkedFrom f k first (left - 1) t (count + 1) new next ≡ all
 walk-goes f k first left last count common place next t new r s all b h p q w u v n i =
     let c : follows first last t ≡ true = sym u ∙ v in
     rw n (sym (rw c at (walk-longer f k first left last count common place next t b h (sym p ∙ q) w)) ∙ i)

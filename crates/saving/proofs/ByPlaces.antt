@@ -38,16 +38,24 @@ foundIn make p none s (found.At i at) = make (p (drop at s))
 foundIn make p none s found.Nothing = none
 
 -- a function of rows that goes by the first of a name goes by the row that is found
-module _ {A B : Type 0} (k : Row) (make : List ℕ → List ℕ → A) (name : List ℕ) (G : List A → B) (hit : A → B) (none other : B) (nil : G [] ≡ none) (cons : (v t : List ℕ) (xs : List A) → G (make v t ∷ xs) ≡ cond (same name v) (hit (make v t)) (G xs)) where
+module _ {A B : Type 0} (k : Row) (make : List ℕ → List ℕ → A) (name : List ℕ) (G : List A → B) (hit : A → B) (none other : B) (nil : G [] ≡ none)
+    (cons : (v t : List ℕ) (xs : List A) → G (make v t ∷ xs) ≡ cond (same name v) (hit (make v t)) (G xs)) where
   abbrev goes-by-found : ℕ → List ℕ → ℕ → ℕ → Type 0
-  goes-by-found n s i at = G (rows n (rowWith k make) (drop at s)) ≡ foundIn (made hit other) (rowWith k make) none s (found name n (rowName k) s i at)
+  goes-by-found n s i at = G (rows n (rowWith k make) (drop at s)) ≡ foundIn (made hit other) (rowWith k make) none s
+      (found name n (rowName k) s i at)
 
-  found-step : (n : ℕ) (s : List ℕ) (i at : ℕ) (p : Parsed (List ℕ)) → rowName k (drop at s) ≡ p → ((j q : ℕ) → goes-by-found n s j q) → goes-by-found (suc n) s i at
+  found-step : (n : ℕ) (s : List ℕ) (i at : ℕ) (p : Parsed (List ℕ)) → rowName k (drop at s) ≡ p → ((j q : ℕ) → goes-by-found n s j q)
+      → goes-by-found (suc n) s i at
   unfolding foundIn made rowWith onward
   found-step n s i at bad e ih = rw (rows-none n (rowWith k make) (drop at s) (rw e), found-none name n (rowName k) s i at e) nil
-  found-step n s i at (good v m) e ih = rw (rows-more n (rowWith k make) (drop at s) (make v (drop (1 + length v) (drop at s))) m (rw e), found-more name n (rowName k) s i at v m e) (cons v _ _ ∙ pick (same name v))
+  found-step n s i at (good v m) e ih =
+      rw (
+        rows-more n (rowWith k make) (drop at s) (make v (drop (1 + length v) (drop at s))) m (rw e),
+        found-more name n (rowName k) s i at v m e,
+      ) (cons v _ _ ∙ pick (same name v))
     where
-      pick : (b : Bool) → cond b (hit (make v (drop (1 + length v) (drop at s)))) (G (rows n (rowWith k make) (drop m (drop at s)))) ≡ foundIn (made hit other) (rowWith k make) none s (cond b (found.At i at) (found name n (rowName k) s (i + 1) (at + m)))
+      pick : (b : Bool) → cond b (hit (make v (drop (1 + length v) (drop at s)))) (G (rows n (rowWith k make) (drop m (drop at s)))) ≡ foundIn
+          (made hit other) (rowWith k make) none s (cond b (found.At i at) (found name n (rowName k) s (i + 1) (at + m)))
       pick true = rw e
       pick false = rw (drop-drop m at s) (ih (i + 1) (at + m))
 
@@ -59,23 +67,29 @@ module _ {A B : Type 0} (k : Row) (make : List ℕ → List ℕ → A) (name : L
 -- ── The look ──
 
 -- the look answers the layout's place of conflict
-pub looked-is : (ts : List Tag) (cs : List Change) (i : ℕ) → lookedFrom ts cs i ≡ cond (someConflict ts cs) (looked.Conflict (i + conflictPlace ts cs)) looked.Agrees
+pub looked-is : (ts : List Tag) (cs : List Change) (i : ℕ) → lookedFrom ts cs i ≡ cond (someConflict ts cs)
+    (looked.Conflict (i + conflictPlace ts cs)) looked.Agrees
 unfolding lookedFrom someConflict conflictPlace
 looked-is ts [] i = refl
 looked-is ts (c ∷ cs) i = go (conflicts ts c) (looked-is ts cs (i + 1))
   where
-    later : (b : Bool) → cond b (looked.Conflict (i + 1 + conflictPlace ts cs)) looked.Agrees ≡ cond b (looked.Conflict (i + suc (conflictPlace ts cs))) looked.Agrees
+    later : (b : Bool) → cond b (looked.Conflict (i + 1 + conflictPlace ts cs)) looked.Agrees ≡ cond b
+        (looked.Conflict (i + suc (conflictPlace ts cs))) looked.Agrees
     later true = ap looked.Conflict (omega arith)
     later false = refl
 
-    go : (b : Bool) → lookedFrom ts cs (i + 1) ≡ cond (someConflict ts cs) (looked.Conflict (i + 1 + conflictPlace ts cs)) looked.Agrees → cond b (looked.Conflict i) (lookedFrom ts cs (i + 1)) ≡ cond (b || someConflict ts cs) (looked.Conflict (i + cond b 0 (suc (conflictPlace ts cs)))) looked.Agrees
+    go : (b : Bool) → lookedFrom ts cs (i + 1) ≡ cond (someConflict ts cs) (looked.Conflict (i + 1 + conflictPlace ts cs)) looked.Agrees
+        → cond b (looked.Conflict i) (lookedFrom ts cs (i + 1)) ≡ cond (b || someConflict ts cs)
+        (looked.Conflict (i + cond b 0 (suc (conflictPlace ts cs)))) looked.Agrees
     go true ih = ap looked.Conflict (omega arith)
     go false ih = ih ∙ later (someConflict ts cs)
 
 -- ── By places as by names ──
 
 -- the row that is found stands at its place, which is not 0
-by-place : {A B : Type 0} (make : Parsed A → B) (r : Reader A) (none : B) (v : List ℕ) (n : ℕ) (p : Reader (List ℕ)) (s : List ℕ) (at : ℕ) → 0 < at → cond (eqb (placeFound (found v n p s 0 at)) 0) none (make (r (drop (placeFound (found v n p s 0 at)) s))) ≡ foundIn make r none s (found v n p s 0 at)
+by-place : {A B : Type 0} (make : Parsed A → B) (r : Reader A) (none : B) (v : List ℕ) (n : ℕ) (p : Reader (List ℕ)) (s : List ℕ) (at : ℕ)
+    → 0 < at → cond (eqb (placeFound (found v n p s 0 at)) 0) none (make (r (drop (placeFound (found v n p s 0 at)) s))) ≡ foundIn make r none s
+    (found v n p s 0 at)
 unfolding foundIn placeFound
 by-place {A} {B} make r none v n p s at z = go (found v n p s 0 at) refl
   where
@@ -84,25 +98,31 @@ by-place {A} {B} make r none v n p s at z = go (found v n p s 0 at) refl
     go found.Nothing e = refl
 
 -- what a table has under a name
-lookUp-found : (name s : List ℕ) (n i at : ℕ) → lookUp name (tagsAt s at n) ≡ foundIn tagHolds (rowWith row.Tag tagWithName) absent s (found name n (rowName row.Tag) s i at)
+lookUp-found : (name s : List ℕ) (n i at : ℕ) → lookUp name (tagsAt s at n) ≡ foundIn tagHolds (rowWith row.Tag tagWithName) absent s
+    (found name n (rowName row.Tag) s i at)
 unfolding lookUp tagWithName
 lookUp-found name s n i at = by-found row.Tag tagWithName name (lookUp name) (λ t. holds (t .value)) absent absent refl (λ v t xs. refl) n s i at
 
 entry-by-place : (name table : List ℕ) (at n : ℕ) → 0 < at → tagEntry table (tagPlace table at n name) ≡ lookUp name (tagsAt table at n)
 unfolding tagEntry tagPlace
-entry-by-place name table at n z = by-place tagHolds (rowWith row.Tag tagWithName) absent name n (rowName row.Tag) table at z ∙ sym (lookUp-found name table n 0 at)
+entry-by-place name table at n z = by-place tagHolds (rowWith row.Tag tagWithName) absent name n (rowName row.Tag) table at z
+    ∙ sym (lookUp-found name table n 0 at)
 
 -- what a sheet says of the name of a tag
-newEntry-found : (s : List ℕ) (t : Tag) (k i at : ℕ) → newEntry (changesAt s at k) t ≡ foundIn changeMakes (rowWith row.Change changeWithName) (holds (t .value)) s (found (t .name) k (rowName row.Change) s i at)
+newEntry-found : (s : List ℕ) (t : Tag) (k i at : ℕ) → newEntry (changesAt s at k) t ≡ foundIn changeMakes (rowWith row.Change changeWithName)
+    (holds (t .value)) s (found (t .name) k (rowName row.Change) s i at)
 unfolding newEntry changeWithName
 newEntry-found s t k i at =
-    by-found row.Change changeWithName (t .name) (λ cs. newEntry cs t) (λ c. c .new) (holds (t .value)) absent refl (λ v u xs. rw (same-sym v (t .name))) k s i at
+    by-found row.Change changeWithName (t .name) (λ cs. newEntry cs t) (λ c. c .new) (holds (t .value)) absent refl
+    (λ v u xs. rw (same-sym v (t .name))) k s i at
 
 -- whether a table has a name
-among-found : (name s : List ℕ) (n i at : ℕ) → among name (tagNames (tagsAt s at n)) ≡ foundIn (made (λ t. true) true) (rowWith row.Tag tagWithName) false s (found name n (rowName row.Tag) s i at)
+among-found : (name s : List ℕ) (n i at : ℕ) → among name (tagNames (tagsAt s at n)) ≡ foundIn (made (λ t. true) true)
+    (rowWith row.Tag tagWithName) false s (found name n (rowName row.Tag) s i at)
 unfolding among tagNames tagWithName
 among-found name s n i at =
-    by-found row.Tag tagWithName name (λ ts. among name (tagNames ts)) (λ t. true) false true refl (λ v t xs. or-cond (same name v) (among name (tagNames xs))) n s i at
+    by-found row.Tag tagWithName name (λ ts. among name (tagNames ts)) (λ t. true) false true refl
+    (λ v t xs. or-cond (same name v) (among name (tagNames xs))) n s i at
   where
     or-cond : (a b : Bool) → (a || b) ≡ cond a true b
     or-cond true b = refl
@@ -113,31 +133,42 @@ unfolding made
 made-true bad = refl
 made-true (good t n) = refl
 
-kept-by-place : (sheet : List ℕ) (k : ℕ) (t : Tag) → keptBy sheet (pair (changePlace sheet k (t .name)) t) ≡ tagWith (t .name) (newEntry (changesAt sheet 1 k) t)
+kept-by-place : (sheet : List ℕ) (k : ℕ) (t : Tag) → keptBy sheet (pair (changePlace sheet k (t .name)) t) ≡ tagWith (t .name)
+    (newEntry (changesAt sheet 1 k) t)
 unfolding keptBy changedEntry changePlace
-kept-by-place sheet k t = ap (λ e. tagWith (t .name) e) (by-place changeMakes (rowWith row.Change changeWithName) (holds (t .value)) (t .name) k (rowName row.Change) sheet 1 (omega arith) ∙ sym (newEntry-found sheet t k 0 1))
+kept-by-place sheet k t =
+    ap (λ e. tagWith (t .name) e) (by-place changeMakes (rowWith row.Change changeWithName) (holds (t .value)) (t .name) k
+    (rowName row.Change) sheet 1 (omega arith) ∙ sym (newEntry-found sheet t k 0 1))
 
-new-by-place : (table : List ℕ) (at n : ℕ) → 0 < at → (c : Change) → newBy (pair (tagPlace table at n (c .name)) c) ≡ cond (among (c .name) (tagNames (tagsAt table at n))) [] (tagWith (c .name) (c .new))
+new-by-place : (table : List ℕ) (at n : ℕ) → 0 < at → (c : Change)
+    → newBy (pair (tagPlace table at n (c .name)) c) ≡ cond (among (c .name) (tagNames (tagsAt table at n))) [] (tagWith (c .name) (c .new))
 unfolding newBy tagPlace placeFound foundIn
-new-by-place table at n z c = ap (λ b. cond b [] (tagWith (c .name) (c .new))) (go (found (c .name) n (rowName row.Tag) table 0 at) refl ∙ sym (among-found (c .name) table n 0 at))
+new-by-place table at n z c = ap (λ b. cond b [] (tagWith (c .name) (c .new)))
+    (go (found (c .name) n (rowName row.Tag) table 0 at) refl ∙ sym (among-found (c .name) table n 0 at))
   where
-    go : (f : NameFound) → found (c .name) n (rowName row.Tag) table 0 at ≡ f → ltb 0 (placeFound f) ≡ foundIn (made (λ t. true) true) (rowWith row.Tag tagWithName) false table f
-    go (found.At i q) e = found-parts (c .name) n (rowName row.Tag) table 0 at i q e (λ b a l t o. rw (lt-ltb 0 q (omega arith)) (sym (made-true (rowWith row.Tag tagWithName (drop q table)))))
+    go : (f : NameFound) → found (c .name) n (rowName row.Tag) table 0 at ≡ f
+        → ltb 0 (placeFound f) ≡ foundIn (made (λ t. true) true) (rowWith row.Tag tagWithName) false table f
+    go (found.At i q) e = found-parts (c .name) n (rowName row.Tag) table 0 at i q e
+        (λ b a l t o. rw (lt-ltb 0 q (omega arith)) (sym (made-true (rowWith row.Tag tagWithName (drop q table)))))
     go found.Nothing e = refl
 
 -- rows with the places of their names beside each
-module _ {A : Type 0} (k : Row) (make : List ℕ → List ℕ → A) (name : A → List ℕ) (named : (v t : List ℕ) → name (make v t) ≡ v) (place : List ℕ → ℕ) (ps : List ℕ) where
+module _ {A : Type 0} (k : Row) (make : List ℕ → List ℕ → A) (name : A → List ℕ) (named : (v t : List ℕ) → name (make v t) ≡ v) (place : List ℕ
+    → ℕ) (ps : List ℕ) where
   lists-next : (i : ℕ) (v : List ℕ) (ns : List (List ℕ)) → Lists place ps i (v ∷ ns) → Lists place ps (i + 1) ns
   lists-next i v ns l =
       let h = l .room in
       record { room = omega arith; known = λ c b. let a : i + 1 + c ≡ i + suc c = omega arith in rw a (l .known (suc c) (omega arith)) }
 
-  beside-known : (n : ℕ) (t : List ℕ) (i : ℕ) → Lists place ps i (names n (rowName k) t) → beside (drop i ps) (rows n (rowWith k make) t) ≡ map (λ x. pair (place (name x)) x) (rows n (rowWith k make) t)
+  beside-known : (n : ℕ) (t : List ℕ) (i : ℕ) → Lists place ps i (names n (rowName k) t)
+      → beside (drop i ps) (rows n (rowWith k make) t) ≡ map (λ x. pair (place (name x)) x) (rows n (rowWith k make) t)
   unfolding beside
   beside-known zero t i l = rw (no-rows (rowWith k make) t) (beside-none (drop i ps))
   beside-known (suc n) t i l = go (rowName k t) refl (beside-known n)
     where
-      go : (r : Parsed (List ℕ)) → rowName k t ≡ r → ((t : List ℕ) (i : ℕ) → Lists place ps i (names n (rowName k) t) → beside (drop i ps) (rows n (rowWith k make) t) ≡ map (λ x. pair (place (name x)) x) (rows n (rowWith k make) t)) → beside (drop i ps) (rows (suc n) (rowWith k make) t) ≡ map (λ x. pair (place (name x)) x) (rows (suc n) (rowWith k make) t)
+      go : (r : Parsed (List ℕ)) → rowName k t ≡ r → ((t : List ℕ) (i : ℕ) → Lists place ps i (names n (rowName k) t)
+          → beside (drop i ps) (rows n (rowWith k make) t) ≡ map (λ x. pair (place (name x)) x) (rows n (rowWith k make) t))
+          → beside (drop i ps) (rows (suc n) (rowWith k make) t) ≡ map (λ x. pair (place (name x)) x) (rows (suc n) (rowWith k make) t)
       go bad e ih = rw (rows-none n (rowWith k make) t (row-makes-none k make t e)) (beside-none (drop i ps))
       go (good v m) e ih =
           let g : Lists place ps i (v ∷ names n (rowName k) (drop m t)) = rw (names-more n (rowName k) t v m e) at l in
@@ -145,10 +176,18 @@ module _ {A : Type 0} (k : Row) (make : List ℕ → List ℕ → A) (name : A �
           let o : i + 0 ≡ i = omega arith in
           let q : i + 1 ≡ suc i = omega arith in
           let x : getD ps i 0 ≡ place v = rw o at (g .known 0 (omega arith)) in
-          let y : beside (drop (suc i) ps) (rows n (rowWith k make) (drop m t)) ≡ map (λ x. pair (place (name x)) x) (rows n (rowWith k make) (drop m t)) = rw q at (ih (drop m t) (i + 1) (lists-next i v _ g)) in
-          rw (rows-more n (rowWith k make) t (make v (drop (1 + length v) t)) m (row-read k make t v m e), drop-cons ps i 0 (omega arith), x, y, named v (drop (1 + length v) t))
+          let y : beside (drop (suc i) ps) (rows n (rowWith k make) (drop m t)) ≡ map (λ x. pair (place (name x)) x)
+          (rows n (rowWith k make) (drop m t)) = rw q at (ih (drop m t) (i + 1) (lists-next i v _ g)) in
+          rw (
+            rows-more n (rowWith k make) t (make v (drop (1 + length v) t)) m (row-read k make t v m e),
+            drop-cons ps i 0 (omega arith),
+            x,
+            y,
+            named v (drop (1 + length v) t),
+          )
 
-kept-same : (sheet : List ℕ) (k : ℕ) (ts : List Tag) → flatMap (keptBy sheet) (map (λ t. pair (changePlace sheet k (t .name)) t) ts) ≡ keptTags (changesAt sheet 1 k) ts
+kept-same : (sheet : List ℕ) (k : ℕ) (ts : List Tag) → flatMap (keptBy sheet) (map (λ t. pair (changePlace sheet k (t .name)) t) ts) ≡ keptTags
+    (changesAt sheet 1 k) ts
 unfolding flatMap keptTags
 kept-same sheet k [] = refl
 kept-same sheet k (t ∷ ts) = rw (kept-by-place sheet k t, kept-same sheet k ts)
@@ -159,12 +198,14 @@ module _ (table : List ℕ) (at n : ℕ) (z : 0 < at) where
   new-same [] = refl
   new-same (c ∷ cs) = rw (new-by-place table at n z c, new-same cs)
 
-  looks-same : (cs : List Change) (i : ℕ) → lookedBy table (map (λ c. pair (tagPlace table at n (c .name)) c) cs) i ≡ lookedFrom (tagsAt table at n) cs i
+  looks-same : (cs : List Change) (i : ℕ) → lookedBy table (map (λ c. pair (tagPlace table at n (c .name)) c) cs) i ≡ lookedFrom
+      (tagsAt table at n) cs i
   unfolding lookedBy lookedFrom differs conflicts
   looks-same [] i = refl
   looks-same (c ∷ cs) i = rw (entry-by-place (c .name) table at n z, looks-same cs (i + 1))
 
-module _ (table : List ℕ) (at n : ℕ) (sheet : List ℕ) (k : ℕ) (ns ps : List ℕ) (v : Named table at n sheet k ns) (w : Placed table at n sheet k ps) (l : length ns ≡ n) (m : length ps ≡ k) where
+module _ (table : List ℕ) (at n : ℕ) (sheet : List ℕ) (k : ℕ) (ns ps : List ℕ) (v : Named table at n sheet k ns)
+    (w : Placed table at n sheet k ps) (l : length ns ≡ n) (m : length ps ≡ k) where
   named-tags : beside ns (tagsAt table at n) ≡ map (λ t. pair (changePlace sheet k (t .name)) t) (tagsAt table at n)
   unfolding tagWithName
   named-tags = beside-known row.Tag tagWithName (λ t. t .name) (λ v t. refl) (changePlace sheet k) ns n (drop at table) 0 (v .lists)

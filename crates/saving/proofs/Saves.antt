@@ -55,7 +55,8 @@ use Rattle.sheet.proofs.Legal.{tags-are, changes-are}
 
 -- ── A save's answer ──
 
-answer-refused : (n place : ℕ) (ts : List Tag) (out : List ℕ) → (n ≡ 0 → ⊥) → (n ≡ 11 → ⊥) → savedAs (saveAnswer n place ts) out ≡ outcome (saved.Refused (plain n)) out
+answer-refused : (n place : ℕ) (ts : List Tag) (out : List ℕ) → (n ≡ 0 → ⊥) → (n ≡ 11 → ⊥)
+    → savedAs (saveAnswer n place ts) out ≡ outcome (saved.Refused (plain n)) out
 unfolding savedAs saveAnswer savedBy filled
 answer-refused zero place ts out z h = absurd (z refl)
 answer-refused (suc n) place ts out z h = rw (ne-eqb (suc n) 11 h)
@@ -64,21 +65,27 @@ answer-conflict : (place : ℕ) (ts : List Tag) (out : List ℕ) → savedAs (sa
 unfolding savedAs saveAnswer savedBy filled
 answer-conflict place ts out = refl
 
-answer-table : (place : ℕ) (ts : List Tag) (out : List ℕ) → savedAs (saveAnswer 0 place ts) out ≡ outcome (saved.Table (length (tableBytes ts))) (filled out (tableBytes ts))
+answer-table : (place : ℕ) (ts : List Tag) (out : List ℕ) → savedAs (saveAnswer 0 place ts) out ≡ outcome (saved.Table (length (tableBytes ts)))
+    (filled out (tableBytes ts))
 unfolding savedAs saveAnswer savedBy
 answer-table place ts out = refl
 
 -- the answer goes by the first line that holds
-answer-by : (f bytes out : List ℕ) (r : ℕ) → saveRefusal f bytes (length out) ≡ r → saveOf f bytes out ≡ savedAs (saveAnswer r (conflictPlace (userTags f) (changesOf bytes)) (newTable f bytes)) out
+answer-by : (f bytes out : List ℕ) (r : ℕ) → saveRefusal f bytes (length out) ≡ r
+    → saveOf f bytes out ≡ savedAs (saveAnswer r (conflictPlace (userTags f) (changesOf bytes)) (newTable f bytes)) out
 unfolding saveOf save
 answer-by f bytes out r e = ap (λ (z : ℕ). savedAs (saveAnswer z (conflictPlace (userTags f) (changesOf bytes)) (newTable f bytes)) out) e
 
 -- 17, 9, or the new table
-answer-applied : (place : ℕ) (ts : List Tag) (out : List ℕ) → savedAs (saveAnswer (firstOf (line 17 (ltb mostTags (length ts)) ∷ line 9 (noRoom (length out) (length (tableBytes ts))) ∷ [])) place ts) out ≡ answered (appliedTo ts out)
+answer-applied : (place : ℕ) (ts : List Tag) (out : List ℕ) → savedAs
+    (saveAnswer (firstOf (line 17 (ltb mostTags (length ts)) ∷ line 9 (noRoom (length out) (length (tableBytes ts))) ∷ [])) place ts)
+    out ≡ answered (appliedTo ts out)
 unfolding answered appliedTo answerOf firstOf
 answer-applied place ts out = go (ltb mostTags (length ts)) (ltb (length out) (length (tableBytes ts)))
   where
-    go : (a b : Bool) → savedAs (saveAnswer (firstOf (line 17 a ∷ line 9 b ∷ [])) place ts) out ≡ answered (cond a (applying (applied.Refused (plain 17)) out) (cond b (applying (applied.Refused (plain 9)) out) (applying (applied.Table (length (tableBytes ts))) (filled out (tableBytes ts)))))
+    go : (a b : Bool) → savedAs (saveAnswer (firstOf (line 17 a ∷ line 9 b ∷ [])) place ts) out ≡ answered
+        (cond a (applying (applied.Refused (plain 17)) out) (cond b (applying (applied.Refused (plain 9)) out)
+        (applying (applied.Table (length (tableBytes ts))) (filled out (tableBytes ts)))))
     go true b = answer-refused 17 place ts out (λ z. omega arith) (λ z. omega arith)
     go false true = answer-refused 9 place ts out (λ z. omega arith) (λ z. omega arith)
     go false false = answer-table place ts out
@@ -92,7 +99,8 @@ not-eleven f e =
     let o : _≡_ {A = ℕ} 0 11 = sym z ∙ e in
     omega arith
 
-pub save-refused : (f bytes out : List ℕ) (o : Opening) (n m : Refusal) → o ≡ openOf f → o ≡ openingAs.Refused n → m ≡ openRefusal o → outcome (saved.Refused m) out ≡ saveOf f bytes out
+pub save-refused : (f bytes out : List ℕ) (o : Opening) (n m : Refusal) → o ≡ openOf f → o ≡ openingAs.Refused n → m ≡ openRefusal o
+    → outcome (saved.Refused m) out ≡ saveOf f bytes out
 unfolding saveRefusal saveLines refusal
 save-refused f bytes out o n m e g h =
     let (j, a, b) = open-refuses f n (sym e ∙ g) in
@@ -103,10 +111,13 @@ save-refused f bytes out o n m e g h =
 
 -- ── The sheet ──
 
-sheet-read : (bytes : List ℕ) (cs : List Change) (m : ℕ) → exactly sheet bytes ≡ good cs m → (length cs ≤ 64) × (changesAt bytes 1 (length cs) ≡ cs) × (distinctNames bytes 1 (length cs) row.Change ≡ true)
+sheet-read : (bytes : List ℕ) (cs : List Change) (m : ℕ) → exactly sheet bytes ≡ good cs m
+    → (length cs ≤ 64) × (changesAt bytes 1 (length cs) ≡ cs) × (distinctNames bytes 1 (length cs) row.Change ≡ true)
 unfolding sheet
 sheet-read bytes cs m e =
-    let (x, y) = only-parts (λ ds. distinct (changeNames ds)) (only (within 0 mostChanges) (number 1) then λ n. times n change) bytes cs m (exactly-good (only (λ ds. distinct (changeNames ds)) (only (within 0 mostChanges) (number 1) then λ n. times n change)) bytes cs m e .0) in
+    let (x, y) = only-parts (λ ds. distinct (changeNames ds)) (only (within 0 mostChanges) (number 1) then λ n. times n change) bytes cs m
+    (exactly-good (only (λ ds. distinct (changeNames ds)) (only (within 0 mostChanges) (number 1) then λ n. times n change)) bytes cs m e
+    .0) in
     then-parts (only (within 0 mostChanges) (number 1)) (λ n. times n change) bytes cs m x (λ c a k f g h.
     let p = only-parts (within 0 mostChanges) (number 1) bytes c a f in
     let l = leb-true c mostChanges (both-true (leb 0 c) (leb c mostChanges) (p .1) .1) in
@@ -114,11 +125,13 @@ sheet-read bytes cs m e =
     let o : length cs ≡ c = times-length change c (drop a bytes) cs k g in
     (omega arith, rw o (changes-are bytes 1 c k cs (rw q g)), rw o (distinct-changes bytes 1 c k cs (rw q g) ∙ y)))
 
-sheet-known : (bytes : List ℕ) (s : Sheet) (k : ℕ) → s ≡ sheetOf (exactly sheet bytes) → s ≡ sheet.Whole k → (isBad (exactly sheet bytes) ≡ false) × (k ≤ 64) × (changesAt bytes 1 k ≡ changesOf bytes) × (distinctNames bytes 1 k row.Change ≡ true)
+sheet-known : (bytes : List ℕ) (s : Sheet) (k : ℕ) → s ≡ sheetOf (exactly sheet bytes) → s ≡ sheet.Whole k
+    → (isBad (exactly sheet bytes) ≡ false) × (k ≤ 64) × (changesAt bytes 1 k ≡ changesOf bytes) × (distinctNames bytes 1 k row.Change ≡ true)
 unfolding changesOf valueOr sheetOf
 sheet-known bytes s k e f = go (exactly sheet bytes) refl (sym e ∙ f)
   where
-    go : (p : Parsed (List Change)) → exactly sheet bytes ≡ p → sheetOf p ≡ sheet.Whole k → (isBad p ≡ false) × (k ≤ 64) × (changesAt bytes 1 k ≡ valueOr [] p) × (distinctNames bytes 1 k row.Change ≡ true)
+    go : (p : Parsed (List Change)) → exactly sheet bytes ≡ p → sheetOf p ≡ sheet.Whole k
+        → (isBad p ≡ false) × (k ≤ 64) × (changesAt bytes 1 k ≡ valueOr [] p) × (distinctNames bytes 1 k row.Change ≡ true)
     go bad g h = let z : _≡_ {A = ℕ} 0 1 = cc in absurd (omega arith)
     go (good cs m) g h =
         let (l, p, d) = sheet-read bytes cs m g in
@@ -146,14 +159,16 @@ user-table : (f : List ℕ) → refusal f ≡ 0 → (m : ℕ) × (table (drop (u
 unfolding userTags shown badUser readUser valueOr
 user-table f o = go (exactly table (drop (userOffset f) f)) refl (opens-passes f o .user)
   where
-    go : (p : Parsed (List Tag)) → exactly table (drop (userOffset f) f) ≡ p → isBad p ≡ false → (m : ℕ) × (table (drop (userOffset f) f) ≡ good (valueOr [] p) m)
+    go : (p : Parsed (List Tag)) → exactly table (drop (userOffset f) f) ≡ p → isBad p ≡ false
+        → (m : ℕ) × (table (drop (userOffset f) f) ≡ good (valueOr [] p) m)
     go bad e b = let z : _≡_ {A = ℕ} 0 1 = cc in absurd (omega arith)
     go (good ts n) e b = (n, exactly-good table (drop (userOffset f) f) ts n e .0)
 
 table-few : (t : List ℕ) (ts : List Tag) (m : ℕ) → table t ≡ good ts m → length ts ≤ 1000
 unfolding table
 table-few t ts m e =
-    then-parts (only (within 0 mostTags) (number 4)) (λ n. times n tag) t ts m (only-parts (λ ts. distinct (tagNames ts)) (only (within 0 mostTags) (number 4) then λ n. times n tag) t ts m e .0) (λ c a k f g h.
+    then-parts (only (within 0 mostTags) (number 4)) (λ n. times n tag) t ts m
+    (only-parts (λ ts. distinct (tagNames ts)) (only (within 0 mostTags) (number 4) then λ n. times n tag) t ts m e .0) (λ c a k f g h.
     let l = leb-true c mostTags (both-true (leb 0 c) (leb c mostTags) (only-parts (within 0 mostTags) (number 4) t c a f .1) .1) in
     let o = times-length tag c (drop a t) ts k g in
     omega arith)
@@ -176,11 +191,14 @@ module _ (f : List ℕ) (o : Opening) (held : Held) (e : o ≡ openOf f) (g : o 
   user-fits h = let l = tags-found .0 in record { fits = omega arith }
 
   -- past the lines of opening
-  opened-lines : (bytes : List ℕ) (room : ℕ) → saveRefusal f bytes room ≡ firstOf (line 10 (isBad (exactly sheet bytes)) ∷ line 11 (someConflict (userTags f) (changesOf bytes)) ∷ line 17 (ltb mostTags (length (newTable f bytes))) ∷ line 9 (noRoom room (length (tableBytes (newTable f bytes)))) ∷ [])
+  opened-lines : (bytes : List ℕ) (room : ℕ) → saveRefusal f bytes room ≡ firstOf
+      (line 10 (isBad (exactly sheet bytes)) ∷ line 11 (someConflict (userTags f) (changesOf bytes)) ∷ line 17
+      (ltb mostTags (length (newTable f bytes))) ∷ line 9 (noRoom room (length (tableBytes (newTable f bytes)))) ∷ [])
   unfolding saveRefusal saveLines
   opened-lines bytes room = opening-pass f _ (opens-passes f (opens .0))
 
-  pub save-bad-sheet : (bytes out : List ℕ) (s : Sheet) → s ≡ sheetOf (exactly sheet bytes) → s ≡ sheet.Broken → outcome (saved.Refused (plain 10)) out ≡ saveOf f bytes out
+  pub save-bad-sheet : (bytes out : List ℕ) (s : Sheet) → s ≡ sheetOf (exactly sheet bytes) → s ≡ sheet.Broken
+      → outcome (saved.Refused (plain 10)) out ≡ saveOf f bytes out
   save-bad-sheet bytes out s h i =
       sym (answer-by f bytes out 10 (opened-lines bytes (length out) ∙ line-holds 10 _ _ (sheet-is-bad (exactly sheet bytes) (sym h ∙ i)))
       ∙ answer-refused 10 _ _ out (λ z. omega arith) (λ z. omega arith))
@@ -198,18 +216,21 @@ module _ (f : List ℕ) (o : Opening) (held : Held) (e : o ≡ openOf f) (g : o 
     pub save-apart : distinctNames bytes 1 k row.Change ≡ true
     save-apart = sheet-known bytes s k h i .3
 
-    look-is : lookedAt f (held .user + 4) (held .«user_tags») bytes k ≡ cond (someConflict (userTags f) (changesOf bytes)) (looked.Conflict (0 + conflictPlace (userTags f) (changesOf bytes))) looked.Agrees
+    look-is : lookedAt f (held .user + 4) (held .«user_tags») bytes k ≡ cond (someConflict (userTags f) (changesOf bytes))
+        (looked.Conflict (0 + conflictPlace (userTags f) (changesOf bytes))) looked.Agrees
     unfolding lookedAt
     look-is = rw (tags-found .2, sheet-known bytes s k h i .2) (looked-is (userTags f) (changesOf bytes) 0)
 
-    conflict-is : (out : List ℕ) (p : ℕ) → lookedAt f (held .user + 4) (held .«user_tags») bytes k ≡ looked.Conflict p → outcome (saved.Refused (placed 11 p)) out ≡ saveOf f bytes out
+    conflict-is : (out : List ℕ) (p : ℕ) → lookedAt f (held .user + 4) (held .«user_tags») bytes k ≡ looked.Conflict p
+        → outcome (saved.Refused (placed 11 p)) out ≡ saveOf f bytes out
     conflict-is out p b =
         let (c, d) = conflict-some (someConflict (userTags f) (changesOf bytes)) _ p (sym look-is ∙ b) in
         let j : conflictPlace (userTags f) (changesOf bytes) ≡ p = omega arith in
         sym (answer-by f bytes out 11 (opened-lines bytes (length out) ∙ line-pass 10 _ _ (sheet-known bytes s k h i .0) ∙ line-holds 11 _ _ c)
         ∙ answer-conflict _ _ out ∙ ap (λ (z : ℕ). outcome (saved.Refused (placed 11 z)) out) j)
 
-    applied-is : (out : List ℕ) → lookedAt f (held .user + 4) (held .«user_tags») bytes k ≡ looked.Agrees → appliedIn f (held .user + 4) (held .«user_tags») bytes k out ≡ saveOf f bytes out
+    applied-is : (out : List ℕ) → lookedAt f (held .user + 4) (held .«user_tags») bytes k ≡ looked.Agrees
+        → appliedIn f (held .user + 4) (held .«user_tags») bytes k out ≡ saveOf f bytes out
     unfolding appliedIn newTable
     applied-is out b =
         let d = agree-none (someConflict (userTags f) (changesOf bytes)) _ (sym look-is ∙ b) in
@@ -217,11 +238,13 @@ module _ (f : List ℕ) (o : Opening) (held : Held) (e : o ≡ openOf f) (g : o 
         (sym (answer-by f bytes out _ (opened-lines bytes (length out) ∙ line-pass 10 _ _ (sheet-known bytes s k h i .0) ∙ line-pass 11 _ _ d)
         ∙ answer-applied (conflictPlace (userTags f) (changesOf bytes)) (newTable f bytes) out))
 
-    pub save-saved : (out o′ : List ℕ) (r : Saved) → outcome r o′ ≡ savedIn f (held .user + 4) (held .«user_tags») bytes k out → outcome r o′ ≡ saveOf f bytes out
+    pub save-saved : (out o′ : List ℕ) (r : Saved) → outcome r o′ ≡ savedIn f (held .user + 4) (held .«user_tags») bytes k out
+        → outcome r o′ ≡ saveOf f bytes out
     unfolding savedIn afterLook
     save-saved out o′ r c = c ∙ go (lookedAt f (held .user + 4) (held .«user_tags») bytes k) refl
       where
-        go : (l : Looked) → lookedAt f (held .user + 4) (held .«user_tags») bytes k ≡ l → afterLook l (appliedIn f (held .user + 4) (held .«user_tags») bytes k out) out ≡ saveOf f bytes out
+        go : (l : Looked) → lookedAt f (held .user + 4) (held .«user_tags») bytes k ≡ l
+            → afterLook l (appliedIn f (held .user + 4) (held .«user_tags») bytes k out) out ≡ saveOf f bytes out
         go looked.Agrees e = applied-is out e
         go (looked.Conflict p) e = conflict-is out p e
 
@@ -235,7 +258,8 @@ pub answer-of-refused : (a : Applied) (n : Refusal) → a ≡ applied.Refused n 
 unfolding answerOf
 answer-of-refused a n e = rw e
 
-module _ (table : List ℕ) (at : ℕ) (sheet ns₀ ps₀ ns ps : List ℕ) (l : Looked) (b : Begun at sheet ns₀ ps₀) (e : placing ns ps ≡ placedBy table at sheet ns₀ ps₀) (f : l ≡ lookOf table sheet ps) where
+module _ (table : List ℕ) (at : ℕ) (sheet ns₀ ps₀ ns ps : List ℕ) (l : Looked) (b : Begun at sheet ns₀ ps₀)
+    (e : placing ns ps ≡ placedBy table at sheet ns₀ ps₀) (f : l ≡ lookOf table sheet ps) where
   named : Named table at (length ns₀) sheet (length ps₀) ns
   named = tags-named table at sheet ns₀ ps₀ ns ps (b .changes) e
 
@@ -243,22 +267,30 @@ module _ (table : List ℕ) (at : ℕ) (sheet ns₀ ps₀ ns ps : List ℕ) (l :
   tagsPlaced = tags-placed table at sheet ns₀ ps₀ ns ps (b .changes) e (b .behind) (b .blank) (b .apart)
 
   look-by : l ≡ lookedAt table at (length ns₀) sheet (length ps₀)
-  look-by = f ∙ looks-by table at (length ns₀) sheet (length ps₀) ns ps named tagsPlaced (named-long table at sheet ns₀ ps₀ ns ps (b .changes) e) (places-long table at sheet ns₀ ps₀ ns ps (b .changes) e)
+  look-by = f ∙ looks-by table at (length ns₀) sheet (length ps₀) ns ps named tagsPlaced (named-long table at sheet ns₀ ps₀ ns ps (b .changes) e)
+      (places-long table at sheet ns₀ ps₀ ns ps (b .changes) e)
 
-  pub placed-conflict : (out : List ℕ) (p : ℕ) (q : Refusal) → l ≡ looked.Conflict p → q ≡ placed 11 p → outcome (saved.Refused q) out ≡ savedIn table at (length ns₀) sheet (length ps₀) out
+  pub placed-conflict : (out : List ℕ) (p : ℕ) (q : Refusal) → l ≡ looked.Conflict p → q ≡ placed 11 p
+      → outcome (saved.Refused q) out ≡ savedIn table at (length ns₀) sheet (length ps₀) out
   unfolding savedIn afterLook
   placed-conflict out p q g e = rw e (sym (rw (← look-by, g)))
 
-  applied-by : (out : List ℕ) → applyOf table at sheet ns ps out ≡ appliedTo (Layout.applied (changesAt sheet 1 (length ps₀)) (tagsAt table at (length ns₀))) out
+  applied-by : (out : List ℕ) → applyOf table at sheet ns ps out ≡ appliedTo
+      (Layout.applied (changesAt sheet 1 (length ps₀)) (tagsAt table at (length ns₀))) out
   unfolding applyOf
   applied-by out =
       let x = named-long table at sheet ns₀ ps₀ ns ps (b .changes) e in
       let y = places-long table at sheet ns₀ ps₀ ns ps (b .changes) e in
       let i = b .tags in
       let j = b .changes in
-      rw (le-ltb mostTags (length ns) (omega arith), le-ltb mostChanges (length ps) (omega arith), tags-by table at (length ns₀) sheet (length ps₀) ns ps named tagsPlaced x y)
+      rw (
+        le-ltb mostTags (length ns) (omega arith),
+        le-ltb mostChanges (length ps) (omega arith),
+        tags-by table at (length ns₀) sheet (length ps₀) ns ps named tagsPlaced x y,
+      )
 
-  pub placed-applied : (out o : List ℕ) (a : Applied) (r : Saved) → l ≡ looked.Agrees → applying a o ≡ applyOf table at sheet ns ps out → r ≡ answerOf a → outcome r o ≡ savedIn table at (length ns₀) sheet (length ps₀) out
+  pub placed-applied : (out o : List ℕ) (a : Applied) (r : Saved) → l ≡ looked.Agrees → applying a o ≡ applyOf table at sheet ns ps out
+      → r ≡ answerOf a → outcome r o ≡ savedIn table at (length ns₀) sheet (length ps₀) out
   unfolding savedIn afterLook appliedIn answered
   placed-applied out o a r g h k = rw (← look-by, g, k) (ap answered (h ∙ applied-by out))
 
@@ -275,7 +307,8 @@ tags-count n h = sym (tags-long n h)
 pub changes-count : (k : ℕ) → k ≤ 64 → k ≡ length (take k (replicate {A = ℕ} 64 0))
 changes-count k h = sym (changes-long k h)
 
-pub begun : (at n : ℕ) (sheet : List ℕ) (k : ℕ) → n ≤ 1000 → k ≤ 64 → 0 < at → distinctNames sheet 1 k row.Change ≡ true → Begun at sheet (take n (replicate 1000 0)) (take k (replicate 64 0))
+pub begun : (at n : ℕ) (sheet : List ℕ) (k : ℕ) → n ≤ 1000 → k ≤ 64 → 0 < at → distinctNames sheet 1 k row.Change ≡ true
+    → Begun at sheet (take n (replicate 1000 0)) (take k (replicate 64 0))
 begun at n sheet k h j z d =
     let a = tags-long n h in
     let b = changes-long k j in
@@ -287,7 +320,27 @@ begun at n sheet k h j z d =
       blank = λ c l. getD-take k (replicate 64 0) c 0 (omega arith) ∙ getD-replicate {A = ℕ} 64 c 0 0 (omega arith);
     }
 
-pub saved-all : (table : List ℕ) (at n : ℕ) (sheet : List ℕ) (k : ℕ) (out o : List ℕ) (r : Saved) → n ≤ 1000 → k ≤ 64 → outcome r o ≡ savedIn table at (length (take n (replicate {A = ℕ} 1000 0))) sheet (length (take k (replicate {A = ℕ} 64 0))) out → outcome r o ≡ savedIn table at n sheet k out
+pub saved-all : (table : List ℕ) (at n : ℕ) (sheet : List ℕ) (k : ℕ) (out o : List ℕ) (r : Saved) → n ≤ 1000 → k ≤ 64
+    → outcome r o ≡ savedIn table at (length (take n (replicate {A = ℕ} 1000 0))) sheet (length (take k (replicate {A = ℕ} 64 0))) out
+    → outcome r o ≡ savedIn table at n sheet k out
 saved-all table at n sheet k out o r h j e = rw (tags-long n h, changes-long k j) at e
 
-pub ruleset laws = (needs, answer-of-table, answer-of-refused, placed-conflict, placed-applied, tags-count, changes-count, begun, saved-all, save-refused, user-fits, save-bad-sheet, save-few, save-behind, save-changes, save-apart, save-saved)
+pub ruleset laws = (
+  needs,
+  answer-of-table,
+  answer-of-refused,
+  placed-conflict,
+  placed-applied,
+  tags-count,
+  changes-count,
+  begun,
+  saved-all,
+  save-refused,
+  user-fits,
+  save-bad-sheet,
+  save-few,
+  save-behind,
+  save-changes,
+  save-apart,
+  save-saved,
+)

@@ -55,21 +55,30 @@ pub record RowRead (s : List ℕ) (at n end : ℕ) : Type 0 where
   pub inside : end ≤ length s
   pub byte : n ≡ getD s at 0
   pub named : string (drop at s) ≡ good (take n (drop (at + 1) s)) (1 + n)
-  pub read : setUpSection (drop at s) ≡ good (record { name = take n (drop (at + 1) s); configuration = take size (drop (at + 3 + n) s) }) (3 + n + size)
+  pub read : setUpSection (drop at s) ≡ good (record { name = take n (drop (at + 1) s); configuration = take size (drop (at + 3 + n) s) })
+      (3 + n + size)
 
-row-read-parts : (s : List ℕ) (at n end m : ℕ) → at + 1 + n ≤ length s → rowName SetUp (drop at s) ≡ good (take n (drop (at + 1) s)) m → end ≡ at + m → RowRead s at n end
+row-read-parts : (s : List ℕ) (at n end m : ℕ) → at + 1 + n ≤ length s → rowName SetUp (drop at s) ≡ good (take n (drop (at + 1) s)) m
+    → end ≡ at + m → RowRead s at n end
 unfolding rowName rest setUpSection textOf
 row-read-parts s at n end m l q w =
     then-parts string (λ name. (number 2 then block) then λ r. give name) (drop at s) (take n (drop (at + 1) s)) m q
-    (λ v a k f g h. give-parts (number 2 then block) (λ r. v) (drop a (drop at s)) (take n (drop (at + 1) s)) k g (λ x gx y. then-parts (number 2) block (drop a (drop at s)) x k gx (λ c b j f₂ g₂ h₂. inner v a k x c b j f h gx y (number-good 2 (drop a (drop at s)) c b f₂) (block-good c (drop b (drop a (drop at s))) x j g₂) h₂)))
+    (λ v a k f g h. give-parts (number 2 then block) (λ r. v) (drop a (drop at s)) (take n (drop (at + 1) s)) k g
+    (λ x gx y. then-parts (number 2) block (drop a (drop at s)) x k gx
+    (λ c b j f₂ g₂ h₂. inner v a k x c b j f h gx y (number-good 2 (drop a (drop at s)) c b f₂)
+    (block-good c (drop b (drop a (drop at s))) x j g₂) h₂)))
   where
     named : (v : List ℕ) (a : ℕ) → string (drop at s) ≡ good v a → take n (drop (at + 1) s) ≡ v → (n ≡ getD s at 0) × (a ≡ 1 + n)
     named v a f y =
         let i : length v ≡ n = sym (ap length y) ∙ part-length s at n l in
-        let p : (at + 1 + length v ≤ length s) × (length v ≡ getD s at 0) × (string (drop at s) ≡ good (take (length v) (drop (at + 1) s)) (1 + length v)) = string-parts s at (length v) (rw f) in
+        let p : (at + 1 + length v ≤ length s) × (length v ≡ getD s at 0)
+        × (string (drop at s) ≡ good (take (length v) (drop (at + 1) s)) (1 + length v)) = string-parts s at (length v) (rw f) in
         (cc, cc)
 
-    inner : (v : List ℕ) (a k : ℕ) (x : List ℕ) (c b j : ℕ) → string (drop at s) ≡ good v a → m ≡ a + k → (number 2 then block) (drop a (drop at s)) ≡ good x k → take n (drop (at + 1) s) ≡ v → ((2 ≤ length (drop a (drop at s))) × (numberOf (take 2 (drop a (drop at s))) ≡ c) × (2 ≡ b)) → ((c ≤ length (drop b (drop a (drop at s)))) × (take c (drop b (drop a (drop at s))) ≡ x) × (c ≡ j)) → k ≡ b + j → RowRead s at n end
+    inner : (v : List ℕ) (a k : ℕ) (x : List ℕ) (c b j : ℕ) → string (drop at s) ≡ good v a → m ≡ a + k
+        → (number 2 then block) (drop a (drop at s)) ≡ good x k → take n (drop (at + 1) s) ≡ v
+        → ((2 ≤ length (drop a (drop at s))) × (numberOf (take 2 (drop a (drop at s))) ≡ c) × (2 ≡ b))
+        → ((c ≤ length (drop b (drop a (drop at s)))) × (take c (drop b (drop a (drop at s))) ≡ x) × (c ≡ j)) → k ≡ b + j → RowRead s at n end
     inner v a k x c b j f h gx y (u₁, u₂, u₃) (w₁, w₂, w₃) h₂ =
         let o = named v a f y in
         let p₁ : at + a ≡ at + 1 + n = omega (arith, o .1) in
@@ -78,10 +87,20 @@ row-read-parts s at n end m l q w =
         let d₂ : drop b (drop a (drop at s)) ≡ drop (at + 3 + n) s = ap (drop b) d₁ ∙ drop-drop b (at + 1 + n) s ∙ ap (λ (i : ℕ). drop i s) p₂ in
         let l₁ : 2 ≤ length s - (at + 1 + n) = rw (← length-drop (at + 1 + n) s, ← d₁) u₁ in
         let l₂ : c ≤ length s - (at + 3 + n) = rw (← length-drop (at + 3 + n) s, ← d₂) w₁ in
-        let t : setUpSection (drop at s) ≡ good (record { name = v; configuration = x }) (a + k) = then-takes string (λ n. (number 2 then block) then λ c. give (record { name = n; configuration = c })) (drop at s) v (record { name = v; configuration = x }) a k f (then-give (number 2 then block) (λ c. record { name = v; configuration = c }) (drop a (drop at s)) x k gx) in
+        let t : setUpSection (drop at s) ≡ good (record { name = v; configuration = x }) (a + k) =
+        then-takes string (λ n. (number 2 then block) then λ c. give (record { name = n; configuration = c })) (drop at s) v
+        (record { name = v; configuration = x }) a k f (then-give (number 2 then block) (λ c. record { name = v; configuration = c })
+        (drop a (drop at s)) x k gx) in
         let z : x ≡ take c (drop (at + 3 + n) s) = sym w₂ ∙ ap (take c) d₂ in
         let i : a + k ≡ 3 + n + c = omega (arith, o .1) in
-        record { size = c; ends = omega (arith, o .1); inside = omega (arith, o .1); byte = o .0; named = f ∙ rw (y, o .1); read = rw (y, ← z, ← i) t }
+        record {
+          size = c;
+          ends = omega (arith, o .1);
+          inside = omega (arith, o .1);
+          byte = o .0;
+          named = f ∙ rw (y, o .1);
+          read = rw (y, ← z, ← i) t;
+        }
 
 pub row-read : (s : List ℕ) (at n end : ℕ) (r : RowPlace) → r ≡ rowOf at (rowName SetUp (drop at s)) → r ≡ Whole n end → RowRead s at n end
 row-read s at n end r e h =
@@ -93,7 +112,8 @@ row-none s at r e h = go (setUpSection (drop at s)) refl
   where
     go : (x : Parsed Section) → setUpSection (drop at s) ≡ x → x ≡ bad
     go bad f = refl
-    go (good x n) f = let z : _≡_ {A = ℕ} 0 1 = cc (set-up-row (drop at s) x n f, row-broken (rowName SetUp (drop at s)) at (sym e ∙ h)) in absurd (omega arith)
+    go (good x n) f = let z : _≡_ {A = ℕ} 0 1 = cc (set-up-row (drop at s) x n f, row-broken (rowName SetUp (drop at s)) at (sym e ∙ h)) in absurd
+        (omega arith)
 
 -- ── Rows one behind the other ──
 
@@ -111,7 +131,8 @@ rows-next : (left : ℕ) (t : List ℕ) (x : Section) (m : ℕ) → setUpSection
 unfolding rows
 rows-next left t x m e = rw (e, rows)
 
-pub rows-step : (left : ℕ) (s : List ℕ) (at m : ℕ) (x : Section) → 0 < left → setUpSection (drop at s) ≡ good x m → rows left (drop at s) ≡ x ∷ rows (left - 1) (drop (at + m) s)
+pub rows-step : (left : ℕ) (s : List ℕ) (at m : ℕ) (x : Section) → 0 < left → setUpSection (drop at s) ≡ good x m
+    → rows left (drop at s) ≡ x ∷ rows (left - 1) (drop (at + m) s)
 rows-step zero s at m x h e = absurd (omega arith)
 rows-step (suc left) s at m x h e =
     let p : suc left - 1 ≡ left = omega arith in
@@ -120,7 +141,8 @@ rows-step (suc left) s at m x h e =
 pub rows-times : (n : ℕ) (t : List ℕ) (ss : List Section) (m : ℕ) → times n setUpSection t ≡ good ss m → rows n t ≡ ss
 unfolding rows times
 rows-times zero t ss m e = cc
-rows-times (suc n) t ss m e = times-parts setUpSection n t ss m e (λ x j ys i f g h k. rows-next n t x j f ∙ ap (λ (l : List Section). x ∷ l) (rows-times n (drop j t) ys i g) ∙ sym h)
+rows-times (suc n) t ss m e = times-parts setUpSection n t ss m e
+    (λ x j ys i f g h k. rows-next n t x j f ∙ ap (λ (l : List Section). x ∷ l) (rows-times n (drop j t) ys i g) ∙ sym h)
 
 -- ── A set-up list, whole ──
 
@@ -132,11 +154,13 @@ row-back t v n e =
     let f : 3 + length v + r .size ≡ n = omega (arith, r .ends) in
     (record { name = take (length v) (drop (0 + 1) t); configuration = take (r .size) (drop (0 + 3 + length v) t) }, r .read ∙ rw f)
 
-led-back : (k : ℕ) (t : List ℕ) (vs : List (List ℕ)) (m : ℕ) → times k (rowName SetUp) t ≡ good vs m → (ss : List Section) × (times k setUpSection t ≡ good ss m)
+led-back : (k : ℕ) (t : List ℕ) (vs : List (List ℕ)) (m : ℕ) → times k (rowName SetUp) t ≡ good vs m
+    → (ss : List Section) × (times k setUpSection t ≡ good ss m)
 unfolding times
 led-back zero t vs m e = ([], cc)
 led-back (suc k) t vs m e =
-    times-parts (rowName SetUp) k t vs m e (λ v n ys j f g h i. let (x, p) = row-back t v n f in let (xs, q) = led-back k (drop n t) ys j g in (x ∷ xs, times-suc-takes setUpSection k t x xs n j p q ∙ rw (← i)))
+    times-parts (rowName SetUp) k t vs m e (λ v n ys j f g h i. let (x, p) = row-back t v n f in let (xs, q) = led-back k (drop n t) ys j g in
+    (x ∷ xs, times-suc-takes setUpSection k t x xs n j p q ∙ rw (← i)))
 
 -- the length bytes lead over exactly the sections
 rows-end : (k : ℕ) (t : List ℕ) (at : ℕ) → endOf at (times k (rowName SetUp) t) ≡ endOf at (times k setUpSection t)
@@ -156,7 +180,8 @@ list-end : (s : List ℕ) → 1 ≤ length s → endOf 1 (times (readAt s 0 1) (
 unfolding setUpList
 list-end s h =
     rows-end (readAt s 0 1) (drop 1 s) 1
-    ∙ sym (ap (endOf 0) (then-onward (number 1) (λ k. times k setUpSection) (drop 0 s) (readAt s 0 1) 1 (number-read s 0 1 (omega arith) h)) ∙ end-later (λ ss. ss) (times (readAt s 0 1) setUpSection (drop 1 s)) 0 1)
+    ∙ sym (ap (endOf 0) (then-onward (number 1) (λ k. times k setUpSection) (drop 0 s) (readAt s 0 1) 1 (number-read s 0 1 (omega arith) h))
+    ∙ end-later (λ ss. ss) (times (readAt s 0 1) setUpSection (drop 1 s)) 0 1)
 
 no-list : (s : List ℕ) → length s < 1 → setUpList s ≡ bad
 unfolding setUpList
@@ -168,7 +193,8 @@ pub list-empty : (s : List ℕ) → length s ≡ 0 → true ≡ isBad (exactly s
 unfolding exactly onward
 list-empty s h = rw (no-list s (omega arith))
 
-module _ (s : List ℕ) (n : ℕ) (x : Place) (some : length s ≡ 0 → ⊥) (count : n ≡ readAt s 0 1) (e : x ≡ endOf 1 (times n (rowName SetUp) (drop 1 s))) where
+module _ (s : List ℕ) (n : ℕ) (x : Place) (some : length s ≡ 0 → ⊥) (count : n ≡ readAt s 0 1)
+    (e : x ≡ endOf 1 (times n (rowName SetUp) (drop 1 s))) where
   at-end : x ≡ endOf 0 (setUpList (drop 0 s))
   at-end = e ∙ rw count (list-end s (one (length s) some))
     where
@@ -244,7 +270,8 @@ module _ (s : List ℕ) (n : ℕ) (whole : isBad (exactly setUpList s) ≡ false
       let f : differ ≡ false = sym (differ-is d e) ∙ h in
       sym (or-right (not counts || not legal) (not differ) (rw f)) ∙ three-tests
 
-  pub set-up-legal : (q d : Bool) → 1 ≤ n → n ≤ 8 → q ≡ every legalSectionName (sectionNames (rows n (drop 1 s))) → q ≡ true → d ≡ distinctNames s 1 n SetUp → d ≡ true → false ≡ badSetUp (sectionsOf s)
+  pub set-up-legal : (q d : Bool) → 1 ≤ n → n ≤ 8 → q ≡ every legalSectionName (sectionNames (rows n (drop 1 s))) → q ≡ true
+      → d ≡ distinctNames s 1 n SetUp → d ≡ true → false ≡ badSetUp (sectionsOf s)
   set-up-legal q d l k e h g i =
       let f : legal ≡ true = sym (ap (λ (l : List Section). every legalSectionName (sectionNames l)) sections-rows) ∙ sym e ∙ h in
       let u : differ ≡ true = sym (differ-is d g) ∙ i in
@@ -265,7 +292,11 @@ legal-list s h =
     let u = or-false (not (counts s n w refl)) (not (legal s n w refl)) (t .0) in
     let v = both-true (leb 1 (length (sectionsOf s))) (leb (length (sectionsOf s)) 8) (not-false (counts s n w refl) (u .0)) in
     let e = sections-count s n w refl in
-    record { whole = w; some = omega (arith, leb-true 1 (length (sectionsOf s)) (v .0)); few = omega (arith, leb-true (length (sectionsOf s)) 8 (v .1)) }
+    record {
+      whole = w;
+      some = omega (arith, leb-true 1 (length (sectionsOf s)) (v .0));
+      few = omega (arith, leb-true (length (sectionsOf s)) 8 (v .1));
+    }
   where
     n : ℕ
     n = readAt s 0 1
@@ -298,11 +329,14 @@ module _ (s : List ℕ) (at : ℕ) where
   unfolding every sectionNames
   names-done left all h e = rw (rows-done left (drop at s) h) at e
 
-  pub names-stop : (left : ℕ) (all : Bool) (r : RowPlace) → 0 < left → r ≡ rowOf at (rowName SetUp (drop at s)) → r ≡ Broken → every legalSectionName (sectionNames (rows left (drop at s))) ≡ all → true ≡ all
+  pub names-stop : (left : ℕ) (all : Bool) (r : RowPlace) → 0 < left → r ≡ rowOf at (rowName SetUp (drop at s)) → r ≡ Broken
+      → every legalSectionName (sectionNames (rows left (drop at s))) ≡ all → true ≡ all
   unfolding every sectionNames
   names-stop left all r h f g e = rw (rows-stop left (drop at s) (row-none s at r f g)) at e
 
-  module _ (left n end : ℕ) (all : Bool) (r : RowPlace) (t : Text) (h : 0 < left) (f : r ≡ rowOf at (rowName SetUp (drop at s))) (g : r ≡ Whole n end) (u : t ≡ textOf (only legalSectionName string (drop at s))) (e : every legalSectionName (sectionNames (rows left (drop at s))) ≡ all) where
+  module _ (left n end : ℕ) (all : Bool) (r : RowPlace) (t : Text) (h : 0 < left) (f : r ≡ rowOf at (rowName SetUp (drop at s)))
+      (g : r ≡ Whole n end) (u : t ≡ textOf (only legalSectionName string (drop at s)))
+      (e : every legalSectionName (sectionNames (rows left (drop at s))) ≡ all) where
     names-next : (legalSectionName (take n (drop (at + 1) s)) && every legalSectionName (sectionNames (rows (left - 1) (drop end s)))) ≡ all
     unfolding every sectionNames
     names-next =
@@ -315,13 +349,15 @@ module _ (s : List ℕ) (at : ℕ) where
     pub names-wrong : t ≡ text.Broken → false ≡ all
     names-wrong v =
         let o = row-read s at n end r f g in
-        let i : legalSectionName (take n (drop (at + 1) s)) ≡ false = name-broken legalSectionName (drop at s) (take n (drop (at + 1) s)) (1 + n) (o .named) (sym u ∙ v) in
+        let i : legalSectionName (take n (drop (at + 1) s)) ≡ false =
+        name-broken legalSectionName (drop at s) (take n (drop (at + 1) s)) (1 + n) (o .named) (sym u ∙ v) in
         rw i at names-next
 
     pub names-step : (k : ℕ) → t ≡ text.Whole k → every legalSectionName (sectionNames (rows (left - 1) (drop end s))) ≡ all
     names-step k v =
         let o = row-read s at n end r f g in
-        let i : legalSectionName (take n (drop (at + 1) s)) ≡ true = name-whole legalSectionName (drop at s) (take n (drop (at + 1) s)) (1 + n) k (o .named) (sym u ∙ v) in
+        let i : legalSectionName (take n (drop (at + 1) s)) ≡ true =
+        name-whole legalSectionName (drop at s) (take n (drop (at + 1) s)) (1 + n) k (o .named) (sym u ∙ v) in
         rw i at names-next
 
 -- ── 4 ──
@@ -362,4 +398,28 @@ module _ (s : List ℕ) where
     unfolding listRefusal
     refused-none q e h = ap plain (sym (line-pass 10 _ _ (sym be ∙ bh) ∙ line-pass 3 _ _ (sym e ∙ h) ∙ no-lines))
 
-pub ruleset setups = (needs, not-true, not-false, tested, refused-list, refused-sections, refused-none, list-empty, list-broken, list-exact, list-other, set-up-none, set-up-many, set-up-illegal, set-up-twice, set-up-legal, names-done, names-stop, names-wrong, names-step, table-broken, table-exact, table-other)
+pub ruleset setups = (
+  needs,
+  not-true,
+  not-false,
+  tested,
+  refused-list,
+  refused-sections,
+  refused-none,
+  list-empty,
+  list-broken,
+  list-exact,
+  list-other,
+  set-up-none,
+  set-up-many,
+  set-up-illegal,
+  set-up-twice,
+  set-up-legal,
+  names-done,
+  names-stop,
+  names-wrong,
+  names-step,
+  table-broken,
+  table-exact,
+  table-other,
+)

@@ -36,16 +36,19 @@ none-read p t xs m e = cc
 pub rows-times : {A : Type 0} (p q : Reader A) → Follows p q → (k : ℕ) (t : List ℕ) (xs : List A) (m : ℕ) → times k p t ≡ good xs m → rows k q t ≡ xs
 rows-times p q f zero t xs m e = no-rows q t ∙ none-read p t xs m e
 rows-times {A} p q f (suc k) t xs m e =
-    times-parts p k t xs m e (λ x n ys j a b c d. rows-more k q t x n (f t x n a) ∙ ap (λ (l : List A). x ∷ l) (rows-times p q f k (drop n t) ys j b) ∙ sym c)
+    times-parts p k t xs m e (λ x n ys j a b c d. rows-more k q t x n (f t x n a)
+    ∙ ap (λ (l : List A). x ∷ l) (rows-times p q f k (drop n t) ys j b) ∙ sym c)
 
 -- a row of a name makes what was read, if the bytes behind the name do
-row-follows : {A : Type 0} (k : Row) (make : List ℕ → List ℕ → A) (name : List ℕ) (t : List ℕ) (x : A) (n : ℕ) → rowName k t ≡ good name n → make name (drop (1 + length name) t) ≡ x → rowWith k make t ≡ good x n
+row-follows : {A : Type 0} (k : Row) (make : List ℕ → List ℕ → A) (name : List ℕ) (t : List ℕ) (x : A) (n : ℕ) → rowName k t ≡ good name n
+    → make name (drop (1 + length name) t) ≡ x → rowWith k make t ≡ good x n
 unfolding rowWith onward
 row-follows k make name t x n e f = rw e (ap (λ y. good y n) f)
 
 -- ── A tag ──
 
-tag-same : (t v w : List ℕ) (a b : ℕ) (x : Tag) → string t ≡ good v a → string (drop a t) ≡ good w b → x ≡ record { name = v; value = w } → tagWithName (x .name) (drop (1 + length (x .name)) t) ≡ x
+tag-same : (t v w : List ℕ) (a b : ℕ) (x : Tag) → string t ≡ good v a → string (drop a t) ≡ good w b → x ≡ record { name = v; value = w }
+    → tagWithName (x .name) (drop (1 + length (x .name)) t) ≡ x
 unfolding tagWithName valueOr shortString
 tag-same t v w a b x e f o =
     let c : a ≡ suc (length v) = string-taken t v a e in
@@ -78,7 +81,8 @@ entry-of-kind : (kind b : ℕ) (t : List ℕ) (en : Entry) → entryOf kind t �
 unfolding entryOf malformed give tagValue textIn textEntry
 entry-of-kind kind b t en e = go (eqb kind 0) (eqb kind 1) refl refl e
   where
-    go : (p q : Bool) → eqb kind 0 ≡ p → eqb kind 1 ≡ q → cond p (give absent) (cond q (tagValue then λ v. give (holds v)) malformed) t ≡ good en b → (cond q (textEntry (string t)) absent ≡ en) × (kind ≤ 1)
+    go : (p q : Bool) → eqb kind 0 ≡ p → eqb kind 1 ≡ q → cond p (give absent)
+        (cond q (tagValue then λ v. give (holds v)) malformed) t ≡ good en b → (cond q (textEntry (string t)) absent ≡ en) × (kind ≤ 1)
     go true true f g h = let z : _≡_ {A = ℕ} 0 1 = sym (eqb-true kind 0 f) ∙ eqb-true kind 1 g in absurd (omega arith)
     go true false f g h = let z : kind ≡ 0 = eqb-true kind 0 f in (cc, omega arith)
     go false true f g h =
@@ -90,7 +94,8 @@ seen-of-kind : (kind b : ℕ) (t : List ℕ) (s : Seen) → seenOf kind t ≡ go
 unfolding seenOf give
 seen-of-kind kind b t s e = go (eqb kind 2) refl e
   where
-    go : (p : Bool) → eqb kind 2 ≡ p → cond p (give nobodyLooked) (entryOf kind then λ e. give (saw e)) t ≡ good s b → cond (ltb 1 kind) nobodyLooked (saw (byKind kind t)) ≡ s
+    go : (p : Bool) → eqb kind 2 ≡ p → cond p (give nobodyLooked) (entryOf kind then λ e. give (saw e)) t ≡ good s b
+        → cond (ltb 1 kind) nobodyLooked (saw (byKind kind t)) ≡ s
     go true f h = let z : kind ≡ 2 = eqb-true kind 2 f in rw (lt-ltb 1 kind (omega arith)) (cc)
     go false f h =
         give-parts (entryOf kind) saw t s b h (λ en i o.
@@ -113,7 +118,9 @@ seen-reads u s d e =
 
 -- ── A change ──
 
-change-same : (t v r : List ℕ) (a c : ℕ) (s : Seen) (en : Entry) (x : Change) → string t ≡ good v a → entry (drop a t) ≡ good r c → cond (ltb 1 (getD (drop a t) 0 0)) nobodyLooked (saw (entryIn (drop a t))) ≡ s → entryIn (drop c (drop a t)) ≡ en → x ≡ record { name = v; seen = s; new = en } → changeWithName (x .name) (drop (1 + length (x .name)) t) ≡ x
+change-same : (t v r : List ℕ) (a c : ℕ) (s : Seen) (en : Entry) (x : Change) → string t ≡ good v a → entry (drop a t) ≡ good r c
+    → cond (ltb 1 (getD (drop a t) 0 0)) nobodyLooked (saw (entryIn (drop a t))) ≡ s → entryIn (drop c (drop a t)) ≡ en
+    → x ≡ record { name = v; seen = s; new = en } → changeWithName (x .name) (drop (1 + length (x .name)) t) ≡ x
 unfolding changeWithName newIn entryBehind shortString
 change-same t v r a c s en x e f g h o =
     let b : a ≡ suc (length v) = string-taken t v a e in
@@ -124,11 +131,14 @@ pub change-follows : Follows change (rowWith row.Change changeWithName)
 unfolding change
 change-follows t x n e =
     row-follows row.Change changeWithName (x .name) t x n (change-row t x n e)
-    (then-parts (only legalTagName string) (λ name. (number 1 then seenOf) then λ s. (number 1 then entryOf) then λ e. give (record { name = name; seen = s; new = e })) t x n e (λ v a b f g h.
-    then-parts (number 1 then seenOf) (λ s. (number 1 then entryOf) then λ e. give (record { name = v; seen = s; new = e })) (drop a t) x b g (λ s c d i j k.
+    (then-parts (only legalTagName string) (λ name. (number 1 then seenOf) then λ s. (number 1 then entryOf) then λ e. give
+    (record { name = name; seen = s; new = e })) t x n e (λ v a b f g h.
+    then-parts (number 1 then seenOf) (λ s. (number 1 then entryOf) then λ e. give (record { name = v; seen = s; new = e })) (drop a t) x b g
+    (λ s c d i j k.
     give-parts (number 1 then entryOf) (λ e. record { name = v; seen = s; new = e }) (drop c (drop a t)) x d j (λ en l o.
     let (r, p) = kind-leads seenOf seen-leads (drop a t) s c i in
-    change-same t v r a c s en x (only-parts legalTagName string t v a f .0) p (seen-reads (drop a t) s c i) (entry-reads (drop c (drop a t)) en d l) o))))
+    change-same t v r a c s en x (only-parts legalTagName string t v a f .0) p (seen-reads (drop a t) s c i)
+    (entry-reads (drop c (drop a t)) en d l) o))))
 
 -- ── A legal table and a sheet ──
 

@@ -33,11 +33,16 @@ pub rows-done : {A : Type 0} (p : Reader A) (s : List ℕ) (at left : ℕ) → l
 rows-done p s at zero h = no-rows p (drop at s)
 rows-done p s at (suc left) h = absurd (omega arith)
 
-pub rows-stop : {A : Type 0} (k : Row) (make : List ℕ → List ℕ → A) (s : List ℕ) (at left : ℕ) (r : RowPlace) → r ≡ rowOf at (rowName k (drop at s)) → r ≡ rowPlace.Broken → rows left (rowWith k make) (drop at s) ≡ []
+pub rows-stop : {A : Type 0} (k : Row) (make : List ℕ → List ℕ → A) (s : List ℕ) (at left : ℕ) (r : RowPlace)
+    → r ≡ rowOf at (rowName k (drop at s)) → r ≡ rowPlace.Broken → rows left (rowWith k make) (drop at s) ≡ []
 rows-stop k make s at zero r e f = no-rows (rowWith k make) (drop at s)
-rows-stop k make s at (suc left) r e f = rows-none left (rowWith k make) (drop at s) (row-makes-none k make (drop at s) (row-broken (rowName k (drop at s)) at (sym e ∙ f)))
+rows-stop k make s at (suc left) r e f = rows-none left (rowWith k make) (drop at s)
+    (row-makes-none k make (drop at s) (row-broken (rowName k (drop at s)) at (sym e ∙ f)))
 
-pub rows-step : {A : Type 0} (k : Row) (make : List ℕ → List ℕ → A) (s : List ℕ) (at left len end : ℕ) (r : RowPlace) → 0 < left → r ≡ rowOf at (rowName k (drop at s)) → r ≡ rowPlace.Whole len end → rows left (rowWith k make) (drop at s) ≡ make (take len (drop (at + 1) s)) (drop (at + 1 + len) s) ∷ rows (left - 1) (rowWith k make) (drop end s)
+pub rows-step : {A : Type 0} (k : Row) (make : List ℕ → List ℕ → A) (s : List ℕ) (at left len end : ℕ) (r : RowPlace) → 0 < left
+    → r ≡ rowOf at (rowName k (drop at s)) → r ≡ rowPlace.Whole len end
+    → rows left (rowWith k make) (drop at s) ≡ make (take len (drop (at + 1) s)) (drop (at + 1 + len) s) ∷ rows (left - 1) (rowWith k make)
+    (drop end s)
 rows-step k make s at zero len end r h e f = absurd (omega arith)
 rows-step k make s at (suc left) len end r h e f =
     row-makes k make s at len end (sym e ∙ f) (λ m p q.
@@ -53,10 +58,14 @@ beside-none (p ∷ ps) = refl
 pub beside-done : {A : Type 0} (p : Reader A) (ps s : List ℕ) (i at left : ℕ) → left ≤ 0 → beside (drop i ps) (rows left p (drop at s)) ≡ []
 beside-done p ps s i at left h = rw (rows-done p s at left h) (beside-none (drop i ps))
 
-pub beside-stop : {A : Type 0} (k : Row) (make : List ℕ → List ℕ → A) (ps s : List ℕ) (i at left : ℕ) (r : RowPlace) → r ≡ rowOf at (rowName k (drop at s)) → r ≡ rowPlace.Broken → beside (drop i ps) (rows left (rowWith k make) (drop at s)) ≡ []
+pub beside-stop : {A : Type 0} (k : Row) (make : List ℕ → List ℕ → A) (ps s : List ℕ) (i at left : ℕ) (r : RowPlace)
+    → r ≡ rowOf at (rowName k (drop at s)) → r ≡ rowPlace.Broken → beside (drop i ps) (rows left (rowWith k make) (drop at s)) ≡ []
 beside-stop k make ps s i at left r e f = rw (rows-stop k make s at left r e f) (beside-none (drop i ps))
 
-pub beside-step : {A : Type 0} (k : Row) (make : List ℕ → List ℕ → A) (ps s : List ℕ) (i at left len end : ℕ) (r : RowPlace) → 0 < left → i + left ≤ length ps → r ≡ rowOf at (rowName k (drop at s)) → r ≡ rowPlace.Whole len end → beside (drop i ps) (rows left (rowWith k make) (drop at s)) ≡ pair (getD ps i 0) (make (take len (drop (at + 1) s)) (drop (at + 1 + len) s)) ∷ beside (drop (i + 1) ps) (rows (left - 1) (rowWith k make) (drop end s))
+pub beside-step : {A : Type 0} (k : Row) (make : List ℕ → List ℕ → A) (ps s : List ℕ) (i at left len end : ℕ) (r : RowPlace) → 0 < left
+    → i + left ≤ length ps → r ≡ rowOf at (rowName k (drop at s)) → r ≡ rowPlace.Whole len end
+    → beside (drop i ps) (rows left (rowWith k make) (drop at s)) ≡ pair (getD ps i 0)
+    (make (take len (drop (at + 1) s)) (drop (at + 1 + len) s)) ∷ beside (drop (i + 1) ps) (rows (left - 1) (rowWith k make) (drop end s))
 unfolding beside
 beside-step k make ps s i at left len end r h l e f =
     let j : i + 1 ≡ suc i = omega arith in

@@ -38,7 +38,8 @@ use Rattle.sheet.specs.declared.Value.the-variants as value
 -- ── Short strings ──
 
 -- a short string that was read stands where it was read
-pub string-stands : {G : Type 0} (s : List ℕ) (at m : ℕ) (v : List ℕ) → string (drop at s) ≡ good v m → (m ≡ 1 + length v → at + m ≤ length s → v ≡ take (length v) (drop (at + 1) s) → G) → G
+pub string-stands : {G : Type 0} (s : List ℕ) (at m : ℕ) (v : List ℕ) → string (drop at s) ≡ good v m
+    → (m ≡ 1 + length v → at + m ≤ length s → v ≡ take (length v) (drop (at + 1) s) → G) → G
 unfolding textOf
 string-stands s at m v e w =
     let (l, o, p) = string-parts s at (length v) (ap textOf e) in
@@ -70,11 +71,13 @@ pub entry-past : (s : List ℕ) (at : ℕ) → length s ≤ at → value.Nothing
 unfolding entryValue
 entry-past s at h = rw (none-past s at h)
 
-pub entry-text-broken : (s : List ℕ) (at : ℕ) (r : Text) → getD s at 0 ≡ 1 → r ≡ textOf (string (drop (at + 1) s)) → r ≡ text.Broken → value.Nothing ≡ entryValue s at
+pub entry-text-broken : (s : List ℕ) (at : ℕ) (r : Text) → getD s at 0 ≡ 1 → r ≡ textOf (string (drop (at + 1) s)) → r ≡ text.Broken
+    → value.Nothing ≡ entryValue s at
 unfolding entryValue textValue
 entry-text-broken s at r k e f = rw (k, ← e, f)
 
-pub entry-text : (s : List ℕ) (at n : ℕ) (r : Text) → getD s at 0 ≡ 1 → r ≡ textOf (string (drop (at + 1) s)) → r ≡ text.Whole n → value.At (at + 1) n ≡ entryValue s at
+pub entry-text : (s : List ℕ) (at n : ℕ) (r : Text) → getD s at 0 ≡ 1 → r ≡ textOf (string (drop (at + 1) s)) → r ≡ text.Whole n
+    → value.At (at + 1) n ≡ entryValue s at
 unfolding entryValue textValue
 entry-text s at n r k e f = rw (k, ← e, f)
 
@@ -86,7 +89,8 @@ pub new-broken : (s : List ℕ) (seen : ℕ) (r : Place) → r ≡ endOf seen (e
 unfolding newValue valueBehind
 new-broken s seen r e f = rw (← e, f)
 
-pub new-there : (s : List ℕ) (seen at : ℕ) (r : Place) (v : Value) → r ≡ endOf seen (entry (drop seen s)) → r ≡ place.End at → v ≡ entryValue s at → v ≡ newValue s seen
+pub new-there : (s : List ℕ) (seen at : ℕ) (r : Place) (v : Value) → r ≡ endOf seen (entry (drop seen s)) → r ≡ place.End at → v ≡ entryValue s at
+    → v ≡ newValue s seen
 unfolding newValue valueBehind
 new-there s seen at r v e f h = rw (← e, f) h
 
@@ -100,7 +104,8 @@ pub entry-finds : (s : List ℕ) (at : ℕ) (v : Value) → v ≡ entryValue s a
 unfolding entryValue entryIn valueIn Stands
 entry-finds s at v e = rw (e, first-of s at, drop-drop 1 at s) (go (eqb (getD s at 0) 1))
   where
-    go : (b : Bool) → Finds s (cond b (textValue (at + 1) (textOf (string (drop (at + 1) s)))) value.Nothing) (cond b (textIn (drop (at + 1) s)) absent)
+    go : (b : Bool) → Finds s (cond b (textValue (at + 1) (textOf (string (drop (at + 1) s)))) value.Nothing)
+        (cond b (textIn (drop (at + 1) s)) absent)
     go true = text-finds s (at + 1) (textOf (string (drop (at + 1) s))) refl
     go false = record { found = refl; there = refl }
 
@@ -115,7 +120,9 @@ new-finds s seen v e = rw e (go (entry (drop seen s)))
 -- ── Rows taken apart ──
 
 -- what follows the name of a row that is there
-pub row-rest : {G : Type 0} (k : Row) (s : List ℕ) (at len end : ℕ) → rowOf at (rowName k (drop at s)) ≡ rowPlace.Whole len end → ((r : List ℕ) (m : ℕ) → at + 1 + len ≤ length s → rowName k (drop at s) ≡ good (take len (drop (at + 1) s)) (1 + len + m) → rest k (drop (at + 1 + len) s) ≡ good r m → end ≡ at + 1 + len + m → G) → G
+pub row-rest : {G : Type 0} (k : Row) (s : List ℕ) (at len end : ℕ) → rowOf at (rowName k (drop at s)) ≡ rowPlace.Whole len end
+    → ((r : List ℕ) (m : ℕ) → at + 1 + len ≤ length s → rowName k (drop at s) ≡ good (take len (drop (at + 1) s)) (1 + len + m)
+    → rest k (drop (at + 1 + len) s) ≡ good r m → end ≡ at + 1 + len + m → G) → G
 unfolding rowName shortString
 row-rest k s at len end e w =
     let (l, j, p, q) = row-parts k s at len end e in
@@ -129,7 +136,9 @@ row-rest k s at len end e w =
     w r m l (p ∙ ap (good (take len (drop (at + 1) s))) t) (rw (← d, ← drop-drop n at s) i) (omega arith)))
 
 -- the value that a row makes
-pub row-makes : {A G : Type 0} (k : Row) (make : List ℕ → List ℕ → A) (s : List ℕ) (at len end : ℕ) → rowOf at (rowName k (drop at s)) ≡ rowPlace.Whole len end → ((m : ℕ) → rowWith k make (drop at s) ≡ good (make (take len (drop (at + 1) s)) (drop (at + 1 + len) s)) m → end ≡ at + m → G) → G
+pub row-makes : {A G : Type 0} (k : Row) (make : List ℕ → List ℕ → A) (s : List ℕ) (at len end : ℕ)
+    → rowOf at (rowName k (drop at s)) ≡ rowPlace.Whole len end
+    → ((m : ℕ) → rowWith k make (drop at s) ≡ good (make (take len (drop (at + 1) s)) (drop (at + 1 + len) s)) m → end ≡ at + m → G) → G
 unfolding rowWith onward
 row-makes k make s at len end e w =
     row-rest k s at len end e (λ r m l p q o.
@@ -140,18 +149,23 @@ pub row-makes-none : {A : Type 0} (k : Row) (make : List ℕ → List ℕ → A)
 unfolding rowWith onward
 row-makes-none k make t e = rw e
 
-pub row-read : {A : Type 0} (k : Row) (make : List ℕ → List ℕ → A) (t v : List ℕ) (m : ℕ) → rowName k t ≡ good v m → rowWith k make t ≡ good (make v (drop (1 + length v) t)) m
+pub row-read : {A : Type 0} (k : Row) (make : List ℕ → List ℕ → A) (t v : List ℕ) (m : ℕ) → rowName k t ≡ good v m
+    → rowWith k make t ≡ good (make v (drop (1 + length v) t)) m
 unfolding rowWith onward
 row-read k make t v m e = rw e
 
 -- ── The value of a tag ──
 
-pub tag-row-broken : (s : List ℕ) (at : ℕ) (r : RowPlace) → r ≡ rowOf at (rowName row.Tag (drop at s)) → r ≡ rowPlace.Broken → Finds s value.Nothing (tagHolds (rowWith row.Tag tagWithName (drop at s)))
+pub tag-row-broken : (s : List ℕ) (at : ℕ) (r : RowPlace) → r ≡ rowOf at (rowName row.Tag (drop at s)) → r ≡ rowPlace.Broken
+    → Finds s value.Nothing (tagHolds (rowWith row.Tag tagWithName (drop at s)))
 unfolding made valueIn Stands
-tag-row-broken s at r e f = record { found = rw (row-makes-none row.Tag tagWithName (drop at s) (row-broken (rowName row.Tag (drop at s)) at (sym e ∙ f))); there = refl }
+tag-row-broken s at r e f =
+    record { found = rw (row-makes-none row.Tag tagWithName (drop at s) (row-broken (rowName row.Tag (drop at s)) at (sym e ∙ f))); there = refl }
 
 -- where the value of a tag stands
-pub tag-row-parts : (s : List ℕ) (at len end : ℕ) → rowOf at (rowName row.Tag (drop at s)) ≡ rowPlace.Whole len end → (at + 1 + len + 1 ≤ end) × (end ≤ length s) × (string (drop (at + 1 + len) s) ≡ good (take (end - (at + 1 + len + 1)) (drop (at + 1 + len + 1) s)) (1 + (end - (at + 1 + len + 1))))
+pub tag-row-parts : (s : List ℕ) (at len end : ℕ) → rowOf at (rowName row.Tag (drop at s)) ≡ rowPlace.Whole len end
+    → (at + 1 + len + 1 ≤ end) × (end ≤ length s)
+    × (string (drop (at + 1 + len) s) ≡ good (take (end - (at + 1 + len + 1)) (drop (at + 1 + len + 1) s)) (1 + (end - (at + 1 + len + 1))))
 unfolding rest
 tag-row-parts s at len end e =
     row-rest row.Tag s at len end e (λ v m l p q o.
@@ -159,19 +173,23 @@ tag-row-parts s at len end e =
     let d : end - (at + 1 + len + 1) ≡ length v = omega arith in
     (omega arith, omega arith, rw d (q ∙ ap (λ (z : ℕ). good v z) a ∙ ap (λ (z : List ℕ). good z (1 + length v)) c))))
 
-pub tag-row-value : (s : List ℕ) (at len end : ℕ) (r : RowPlace) → r ≡ rowOf at (rowName row.Tag (drop at s)) → r ≡ rowPlace.Whole len end → Finds s (value.At (at + 1 + len) (end - (at + 1 + len + 1))) (tagHolds (rowWith row.Tag tagWithName (drop at s)))
+pub tag-row-value : (s : List ℕ) (at len end : ℕ) (r : RowPlace) → r ≡ rowOf at (rowName row.Tag (drop at s)) → r ≡ rowPlace.Whole len end
+    → Finds s (value.At (at + 1 + len) (end - (at + 1 + len + 1))) (tagHolds (rowWith row.Tag tagWithName (drop at s)))
 unfolding made tagWithName valueIn Stands valueOr
 tag-row-value s at len end r e f =
     let (a, b, c) = tag-row-parts s at len end (sym e ∙ f) in
     row-makes row.Tag tagWithName s at len end (sym e ∙ f) (λ m p q. record { found = rw (p, c); there = c })
 
-pub tag-row-end : (s : List ℕ) (at len end : ℕ) (r : RowPlace) → r ≡ rowOf at (rowName row.Tag (drop at s)) → r ≡ rowPlace.Whole len end → at + 1 + len + 1 ≤ end
+pub tag-row-end : (s : List ℕ) (at len end : ℕ) (r : RowPlace) → r ≡ rowOf at (rowName row.Tag (drop at s)) → r ≡ rowPlace.Whole len end
+    → at + 1 + len + 1 ≤ end
 tag-row-end s at len end r e f = tag-row-parts s at len end (sym e ∙ f) .0
 
-pub row-fits-2 : (k : Row) (s : List ℕ) (at len end : ℕ) (r : RowPlace) → length s < 2 ^ 64 → r ≡ rowOf at (rowName k (drop at s)) → r ≡ rowPlace.Whole len end → Fits w64 (at + 1 + len)
+pub row-fits-2 : (k : Row) (s : List ℕ) (at len end : ℕ) (r : RowPlace) → length s < 2 ^ 64 → r ≡ rowOf at (rowName k (drop at s))
+    → r ≡ rowPlace.Whole len end → Fits w64 (at + 1 + len)
 row-fits-2 k s at len end r h e f = let l = row-parts k s at len end (sym e ∙ f) .0 in record { fits = omega arith }
 
-pub tag-fits-3 : (s : List ℕ) (at len end : ℕ) (r : RowPlace) → length s < 2 ^ 64 → r ≡ rowOf at (rowName row.Tag (drop at s)) → r ≡ rowPlace.Whole len end → Fits w64 (at + 1 + len + 1)
+pub tag-fits-3 : (s : List ℕ) (at len end : ℕ) (r : RowPlace) → length s < 2 ^ 64 → r ≡ rowOf at (rowName row.Tag (drop at s))
+    → r ≡ rowPlace.Whole len end → Fits w64 (at + 1 + len + 1)
 tag-fits-3 s at len end r h e f = let (a, b, c) = tag-row-parts s at len end (sym e ∙ f) in record { fits = omega arith }
 
 pub ruleset laws = (needs, entry-past, entry-text-broken, entry-text, entry-none, new-broken, new-there)

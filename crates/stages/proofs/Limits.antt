@@ -45,7 +45,9 @@ module _ (stage : Stage) (sections frames first last end : ℕ) where
   by-sections : sectionsTest ≡ true → true ≡ brokenState (stateWith stage sections frames first last end)
   unfolding five
   by-sections h =
-      sym (or-left (sectionsTest || framesTest || pieceTest || timesTest) endTest (or-left (sectionsTest || framesTest || pieceTest) timesTest (or-left (sectionsTest || framesTest) pieceTest (or-left sectionsTest framesTest h))))
+      sym (or-left (sectionsTest || framesTest || pieceTest || timesTest) endTest
+      (or-left (sectionsTest || framesTest || pieceTest) timesTest
+      (or-left (sectionsTest || framesTest) pieceTest (or-left sectionsTest framesTest h))))
       ∙ five-tests
 
   pub broken-few : sections < 1 → true ≡ brokenState (stateWith stage sections frames first last end)
@@ -59,23 +61,29 @@ module _ (stage : Stage) (sections frames first last end : ℕ) where
   pub broken-frames : 1000000 < frames → true ≡ brokenState (stateWith stage sections frames first last end)
   unfolding five framesTest
   broken-frames h =
-      sym (or-left (sectionsTest || framesTest || pieceTest || timesTest) endTest (or-left (sectionsTest || framesTest || pieceTest) timesTest (or-left (sectionsTest || framesTest) pieceTest (or-right sectionsTest framesTest (lt-ltb 1000000 frames h)))))
+      sym (or-left (sectionsTest || framesTest || pieceTest || timesTest) endTest
+      (or-left (sectionsTest || framesTest || pieceTest) timesTest
+      (or-left (sectionsTest || framesTest) pieceTest (or-right sectionsTest framesTest (lt-ltb 1000000 frames h)))))
       ∙ five-tests
 
   pub broken-piece : (p : ℕ) → p ≡ pieceNumber (stageOf stage) → 4 < p → true ≡ brokenState (stateWith stage sections frames first last end)
   unfolding five pieceTest
   broken-piece p e h =
-      sym (or-left (sectionsTest || framesTest || pieceTest || timesTest) endTest (or-left (sectionsTest || framesTest || pieceTest) timesTest (or-right (sectionsTest || framesTest) pieceTest (lt-ltb 4 (pieceNumber (stageOf stage)) (omega arith)))))
+      sym (or-left (sectionsTest || framesTest || pieceTest || timesTest) endTest
+      (or-left (sectionsTest || framesTest || pieceTest) timesTest
+      (or-right (sectionsTest || framesTest) pieceTest (lt-ltb 4 (pieceNumber (stageOf stage)) (omega arith)))))
       ∙ five-tests
 
   pub broken-times : (b : Bool) → b ≡ follows first first last → b ≡ false → true ≡ brokenState (stateWith stage sections frames first last end)
   unfolding five timesTest
   broken-times b e h =
       let k : follows first first last ≡ false = sym e ∙ h in
-      sym (or-left (sectionsTest || framesTest || pieceTest || timesTest) endTest (or-right (sectionsTest || framesTest || pieceTest) timesTest (rw k)))
+      sym (or-left (sectionsTest || framesTest || pieceTest || timesTest) endTest
+      (or-right (sectionsTest || framesTest || pieceTest) timesTest (rw k)))
       ∙ five-tests
 
-  pub broken-rest : (n : ℕ) (b t : Bool) → 1 ≤ sections → sections ≤ 8 → frames ≤ 1000000 → n ≡ pieceNumber (stageOf stage) → n ≤ 4 → b ≡ follows first first last → b ≡ true → t ≡ tooLong end frames → t ≡ brokenState (stateWith stage sections frames first last end)
+  pub broken-rest : (n : ℕ) (b t : Bool) → 1 ≤ sections → sections ≤ 8 → frames ≤ 1000000 → n ≡ pieceNumber (stageOf stage) → n ≤ 4
+      → b ≡ follows first first last → b ≡ true → t ≡ tooLong end frames → t ≡ brokenState (stateWith stage sections frames first last end)
   unfolding five sectionsTest framesTest pieceTest timesTest endTest
   broken-rest n b t s₁ s₂ fr e h u v w =
       let k : follows first first last ≡ true = sym u ∙ v in
@@ -90,7 +98,8 @@ pub record Sound (stage : Stage) (sections frames end : ℕ) : Type 0 where
   pub aPiece : pieceNumber (stageOf stage) ≤ 4
   pub endFits : end + 4 + 16 * frames ≤ 1099511115772
 
-pub sound : (stage : Stage) (sections frames first last end : ℕ) → brokenState (stateWith stage sections frames first last end) ≡ false → Sound stage sections frames end
+pub sound : (stage : Stage) (sections frames first last end : ℕ) → brokenState (stateWith stage sections frames first last end) ≡ false
+    → Sound stage sections frames end
 unfolding five sectionsTest framesTest pieceTest endTest tooLong
 sound stage sections frames first last end h =
     let s₁ = sectionsTest stage sections frames first last end in
@@ -131,4 +140,19 @@ pub full-rest : (end frames n : ℕ) (b : Bool) → frames < 1000000 → b ≡ t
 unfolding fullWith
 full-rest end frames n b h e = e ∙ sym (rw (lt-leb 1000000 frames h))
 
-pub ruleset laws = (needs, not-true, not-false, stages, broken-few, broken-many, broken-frames, broken-piece, broken-times, broken-rest, full-count, full-end, full-frame, full-rest)
+pub ruleset laws = (
+  needs,
+  not-true,
+  not-false,
+  stages,
+  broken-few,
+  broken-many,
+  broken-frames,
+  broken-piece,
+  broken-times,
+  broken-rest,
+  full-count,
+  full-end,
+  full-frame,
+  full-rest,
+)

@@ -99,7 +99,8 @@ pub number-3 : (p frames index user : ℕ) → p ≡ 3 → record { place = 25; 
 unfolding closingNumber
 number-3 p frames index user e = rw e
 
-pub number-4 : (p frames index user : ℕ) → (p ≡ 1 → ⊥) → (p ≡ 2 → ⊥) → (p ≡ 3 → ⊥) → record { place = 9; width = 8; value = index } ≡ closingNumber p frames index user
+pub number-4 : (p frames index user : ℕ) → (p ≡ 1 → ⊥) → (p ≡ 2 → ⊥) → (p ≡ 3 → ⊥)
+    → record { place = 9; width = 8; value = index } ≡ closingNumber p frames index user
 unfolding closingNumber
 number-4 p frames index user a b c = rw (ne-eqb p 1 a, ne-eqb p 2 b, ne-eqb p 3 c)
 
@@ -131,4 +132,34 @@ pub not-long : (end frames : ℕ) → end + 4 + 16 * frames ≤ 1099511115772 �
 unfolding tooLong
 not-long end frames h = rw (le-ltb (2 ^ 40) (end + (4 + 16 * frames) + 512004) (omega arith))
 
-pub ruleset stages = (piece-fresh, piece-running, piece-closing, piece-closed, closes-fresh, closes-running, closes-closing, closes-closed, running-fresh, running-running, running-closing, running-closed, fresh-fresh, fresh-running, fresh-closing, fresh-closed, after-piece, after-last, number-1, number-2, number-3, number-4, length-0, length-12, length-34, long, long-end, long-frames, not-long)
+pub ruleset stages = (
+  piece-fresh,
+  piece-running,
+  piece-closing,
+  piece-closed,
+  closes-fresh,
+  closes-running,
+  closes-closing,
+  closes-closed,
+  running-fresh,
+  running-running,
+  running-closing,
+  running-closed,
+  fresh-fresh,
+  fresh-running,
+  fresh-closing,
+  fresh-closed,
+  after-piece,
+  after-last,
+  number-1,
+  number-2,
+  number-3,
+  number-4,
+  length-0,
+  length-12,
+  length-34,
+  long,
+  long-end,
+  long-frames,
+  not-long,
+)

@@ -105,7 +105,8 @@ string-cons b t =
 string-out : (s : List ℕ) (at : ℕ) → length s ≤ at → string (drop at s) ≡ bad
 string-out s at h = rw (drop-of-length-le s {i = at} h) no-string
 
-string-in : (s : List ℕ) (at n : ℕ) → at < length s → n ≡ getD s at 0 → n < length s - at → string (drop at s) ≡ good (take n (drop (at + 1) s)) (1 + n)
+string-in : (s : List ℕ) (at n : ℕ) → at < length s → n ≡ getD s at 0 → n < length s - at
+    → string (drop at s) ≡ good (take n (drop (at + 1) s)) (1 + n)
 string-in s at n h e l =
     let p : at + 1 ≡ suc at = omega arith in
     rw (drop-cons s at 0 h, ← e, string-cons n (drop (suc at) s), le-leb n (length (drop (suc at) s)) (simp length-drop (omega arith)), p)
@@ -128,10 +129,12 @@ string-whole s at n h e l =
     rw (string-in s at n h e l, length-take-le n (drop (at + 1) s) (simp length-drop (omega arith)))
 
 -- a short string that is there: its bytes stand behind its length byte
-pub string-parts : (s : List ℕ) (at n : ℕ) → textOf (string (drop at s)) ≡ text.Whole n → (at + 1 + n ≤ length s) × (n ≡ getD s at 0) × (string (drop at s) ≡ good (take n (drop (at + 1) s)) (1 + n))
+pub string-parts : (s : List ℕ) (at n : ℕ) → textOf (string (drop at s)) ≡ text.Whole n
+    → (at + 1 + n ≤ length s) × (n ≡ getD s at 0) × (string (drop at s) ≡ good (take n (drop (at + 1) s)) (1 + n))
 string-parts s at n e = go (leb (length s) at) (leb (length s - at) (getD s at 0)) refl refl
   where
-    go : (b c : Bool) → leb (length s) at ≡ b → leb (length s - at) (getD s at 0) ≡ c → (at + 1 + n ≤ length s) × (n ≡ getD s at 0) × (string (drop at s) ≡ good (take n (drop (at + 1) s)) (1 + n))
+    go : (b c : Bool) → leb (length s) at ≡ b → leb (length s - at) (getD s at 0) ≡ c
+        → (at + 1 + n ≤ length s) × (n ≡ getD s at 0) × (string (drop at s) ≡ good (take n (drop (at + 1) s)) (1 + n))
     go true c p q = let z : _≡_ {A = ℕ} 0 1 = cc (string-past s at (leb-true (length s) at p)) in absurd (omega arith)
     go false true p q =
         let l : at < length s = leb-false (length s) at p in
@@ -156,7 +159,8 @@ text-fits s at n r e f = string-parts s at n (sym e ∙ f) .0
 pub text-place : (s : List ℕ) (at n : ℕ) (r : Text) → length s < 2 ^ 64 → r ≡ textOf (string (drop at s)) → r ≡ text.Whole n → Fits w64 (at + 1)
 text-place s at n r h e f = let l = text-fits s at n r e f in record { fits = omega arith }
 
-pub text-broken : (ok : List ℕ → Bool) (s : List ℕ) (at : ℕ) (r : Text) → r ≡ textOf (string (drop at s)) → r ≡ text.Broken → text.Broken ≡ textOf (only ok string (drop at s))
+pub text-broken : (ok : List ℕ → Bool) (s : List ℕ) (at : ℕ) (r : Text) → r ≡ textOf (string (drop at s)) → r ≡ text.Broken
+    → text.Broken ≡ textOf (only ok string (drop at s))
 unfolding textOf
 text-broken ok s at r e f = rw (only-bad ok string (drop at s) (textOf-broken (string (drop at s)) (sym e ∙ f)))
 
@@ -175,20 +179,24 @@ legal-right : (least : ℕ) (c : Class) (v : List ℕ) → least ≤ length v �
 unfolding legalText
 legal-right least c v p q h = rw (inside least 255 (length v) p q, h)
 
-pub text-short : (least : ℕ) (c : Class) (s : List ℕ) (at n : ℕ) (r : Text) → r ≡ textOf (string (drop at s)) → r ≡ text.Whole n → n < least → text.Broken ≡ textOf (only (legalText least c) string (drop at s))
+pub text-short : (least : ℕ) (c : Class) (s : List ℕ) (at n : ℕ) (r : Text) → r ≡ textOf (string (drop at s)) → r ≡ text.Whole n → n < least
+    → text.Broken ≡ textOf (only (legalText least c) string (drop at s))
 unfolding textOf
 text-short least c s at n r e f h =
     let (l, o, p) = string-parts s at n (sym e ∙ f) in
     let k : length (take n (drop (at + 1) s)) ≡ n = part-length s at n l in
     rw (only-fail (legalText least c) string (drop at s) _ _ p (legal-short least c _ (omega arith)))
 
-pub text-wrong : (least : ℕ) (c : Class) (s : List ℕ) (at n : ℕ) (r : Text) (q : Bool) → r ≡ textOf (string (drop at s)) → r ≡ text.Whole n → q ≡ every (inClass c) (take n (drop (at + 1) s)) → q ≡ false → text.Broken ≡ textOf (only (legalText least c) string (drop at s))
+pub text-wrong : (least : ℕ) (c : Class) (s : List ℕ) (at n : ℕ) (r : Text) (q : Bool) → r ≡ textOf (string (drop at s)) → r ≡ text.Whole n
+    → q ≡ every (inClass c) (take n (drop (at + 1) s)) → q ≡ false → text.Broken ≡ textOf (only (legalText least c) string (drop at s))
 unfolding textOf
 text-wrong least c s at n r q e f g h =
     let (l, o, p) = string-parts s at n (sym e ∙ f) in
     rw (only-fail (legalText least c) string (drop at s) _ _ p (legal-wrong least c _ (sym g ∙ h)))
 
-pub text-right : (least : ℕ) (c : Class) (s : List ℕ) (at n : ℕ) (r : Text) (q : Bool) → ((i : ℕ) → Fits w8 (getD s i 0)) → r ≡ textOf (string (drop at s)) → r ≡ text.Whole n → least ≤ n → q ≡ every (inClass c) (take n (drop (at + 1) s)) → q ≡ true → text.Whole n ≡ textOf (only (legalText least c) string (drop at s))
+pub text-right : (least : ℕ) (c : Class) (s : List ℕ) (at n : ℕ) (r : Text) (q : Bool) → ((i : ℕ) → Fits w8 (getD s i 0))
+    → r ≡ textOf (string (drop at s)) → r ≡ text.Whole n → least ≤ n → q ≡ every (inClass c) (take n (drop (at + 1) s)) → q ≡ true
+    → text.Whole n ≡ textOf (only (legalText least c) string (drop at s))
 unfolding textOf
 text-right least c s at n r q w e f m g h =
     let (l, o, p) = string-parts s at n (sym e ∙ f) in
@@ -196,21 +204,25 @@ text-right least c s at n r q w e f m g h =
     let b : getD s at 0 < 256 = w at .fits in
     rw (only-pass (legalText least c) string (drop at s) _ _ p (legal-right least c _ (omega arith) (omega arith) (sym g ∙ h)), k)
 
-pub section-rule : (s : List ℕ) (at : ℕ) (r : Text) → r ≡ textOf (only (legalText 1 class.Name) string (drop at s)) → r ≡ textOf (only legalSectionName string (drop at s))
+pub section-rule : (s : List ℕ) (at : ℕ) (r : Text) → r ≡ textOf (only (legalText 1 class.Name) string (drop at s))
+    → r ≡ textOf (only legalSectionName string (drop at s))
 unfolding legalText legalSectionName inClass
 section-rule s at r e = e
 
-pub name-rule : (s : List ℕ) (at : ℕ) (r : Text) → r ≡ textOf (only (legalText 1 class.Tag) string (drop at s)) → r ≡ textOf (only legalTagName string (drop at s))
+pub name-rule : (s : List ℕ) (at : ℕ) (r : Text) → r ≡ textOf (only (legalText 1 class.Tag) string (drop at s))
+    → r ≡ textOf (only legalTagName string (drop at s))
 unfolding legalText legalTagName inClass
 name-rule s at r e = e
 
-pub value-rule : (s : List ℕ) (at : ℕ) (r : Text) → r ≡ textOf (only (legalText 0 class.Tag) string (drop at s)) → r ≡ textOf (only legalTagValue string (drop at s))
+pub value-rule : (s : List ℕ) (at : ℕ) (r : Text) → r ≡ textOf (only (legalText 0 class.Tag) string (drop at s))
+    → r ≡ textOf (only legalTagValue string (drop at s))
 unfolding legalText legalTagValue inClass
 value-rule s at r e = e
 
 -- ── All of a class ──
 
-every-cons : (ok : ℕ → Bool) (s : List ℕ) (at n : ℕ) → 0 < n → at < length s → every ok (take n (drop at s)) ≡ (ok (getD s at 0) && every ok (take (n - 1) (drop (at + 1) s)))
+every-cons : (ok : ℕ → Bool) (s : List ℕ) (at n : ℕ) → 0 < n → at < length s
+    → every ok (take n (drop at s)) ≡ (ok (getD s at 0) && every ok (take (n - 1) (drop (at + 1) s)))
 unfolding every
 every-cons ok s at (suc n) z h =
     let p : at + 1 ≡ suc at = omega arith in
@@ -222,16 +234,49 @@ unfolding every
 every-done ok s at zero all z e = e
 every-done ok s at (suc n) all z e = absurd (omega arith)
 
-pub every-stop : (ok : ℕ → Bool) (s : List ℕ) (at n : ℕ) (all r : Bool) → 0 < n → at + n ≤ length s → r ≡ ok (getD s at 0) → r ≡ false → every ok (take n (drop at s)) ≡ all → false ≡ all
+pub every-stop : (ok : ℕ → Bool) (s : List ℕ) (at n : ℕ) (all r : Bool) → 0 < n → at + n ≤ length s → r ≡ ok (getD s at 0) → r ≡ false
+    → every ok (take n (drop at s)) ≡ all → false ≡ all
 every-stop ok s at n all r z h e f g =
     let q : ok (getD s at 0) ≡ false = cc in
     sym (rw q at (every-cons ok s at n z (omega arith))) ∙ g
 
-pub every-step : (ok : ℕ → Bool) (s : List ℕ) (at n : ℕ) (all r : Bool) → 0 < n → at + n ≤ length s → r ≡ ok (getD s at 0) → r ≡ true → every ok (take n (drop at s)) ≡ all → every ok (take (n - 1) (drop (at + 1) s)) ≡ all
+pub every-step : (ok : ℕ → Bool) (s : List ℕ) (at n : ℕ) (all r : Bool) → 0 < n → at + n ≤ length s → r ≡ ok (getD s at 0) → r ≡ true
+    → every ok (take n (drop at s)) ≡ all → every ok (take (n - 1) (drop (at + 1) s)) ≡ all
 every-step ok s at n all r z h e f g =
     let q : ok (getD s at 0) ≡ true = cc in
     sym (rw q at (every-cons ok s at n z (omega arith))) ∙ g
 
 -- ── Copying ──
 
-pub ruleset laws = (needs, not-true, not-false, name-digit, name-capital, name-small, name-low, name-mid, name-between, name-high, tag-inside, tag-below, tag-above, class-name, class-tag, string-past, string-broken, string-whole, text-fits, text-place, text-broken, text-short, text-wrong, text-right, section-rule, name-rule, value-rule, every-done, every-stop, every-step)
+pub ruleset laws = (
+  needs,
+  not-true,
+  not-false,
+  name-digit,
+  name-capital,
+  name-small,
+  name-low,
+  name-mid,
+  name-between,
+  name-high,
+  tag-inside,
+  tag-below,
+  tag-above,
+  class-name,
+  class-tag,
+  string-past,
+  string-broken,
+  string-whole,
+  text-fits,
+  text-place,
+  text-broken,
+  text-short,
+  text-wrong,
+  text-right,
+  section-rule,
+  name-rule,
+  value-rule,
+  every-done,
+  every-stop,
+  every-step,
+)

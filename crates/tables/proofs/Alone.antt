@@ -17,32 +17,38 @@ use Rattle.tables.specs.declared.TablePlace.the-variants as tablePlace
 use Rattle.tables.specs.declared.Tags.the-variants as tags
 
 -- a table at the start, as it was read
-read-there : (t : List ℕ) (r : TablePlace) (n end : ℕ) → r ≡ tablePlaceOf 0 (table (drop 0 t)) → r ≡ tablePlace.Whole n end → (ts : List Tag) × (length ts ≡ n) × (table t ≡ good ts end)
+read-there : (t : List ℕ) (r : TablePlace) (n end : ℕ) → r ≡ tablePlaceOf 0 (table (drop 0 t)) → r ≡ tablePlace.Whole n end
+    → (ts : List Tag) × (length ts ≡ n) × (table t ≡ good ts end)
 unfolding tablePlaceOf
 read-there t r n end e f = go (table t) refl (sym e ∙ f)
   where
-    go : (p : Parsed (List Tag)) → table t ≡ p → tablePlaceOf 0 p ≡ tablePlace.Whole n end → (ts : List Tag) × (length ts ≡ n) × (table t ≡ good ts end)
+    go : (p : Parsed (List Tag)) → table t ≡ p → tablePlaceOf 0 p ≡ tablePlace.Whole n end
+        → (ts : List Tag) × (length ts ≡ n) × (table t ≡ good ts end)
     go bad g h = let z : _≡_ {A = ℕ} 0 1 = cc in absurd (omega arith)
     go (good ts m) g h =
         let a : length ts ≡ n = cc in
         let b : 0 + m ≡ end = cc in
         (ts, a, g ∙ ap (good ts) (omega arith))
 
-pub tags-broken : (t : List ℕ) (r : TablePlace) → r ≡ tablePlaceOf 0 (table (drop 0 t)) → r ≡ tablePlace.Broken → tags.Broken ≡ tagsOf (exactly table t)
+pub tags-broken : (t : List ℕ) (r : TablePlace) → r ≡ tablePlaceOf 0 (table (drop 0 t)) → r ≡ tablePlace.Broken
+    → tags.Broken ≡ tagsOf (exactly table t)
 unfolding tablePlaceOf tagsOf exactly onward
 tags-broken t r e f = go (table t) (sym e ∙ f)
   where
-    go : (p : Parsed (List Tag)) → tablePlaceOf 0 p ≡ tablePlace.Broken → tags.Broken ≡ tagsOf (onward p (λ a n. cond (eqb n (length t)) (good a n) bad))
+    go : (p : Parsed (List Tag)) → tablePlaceOf 0 p ≡ tablePlace.Broken
+        → tags.Broken ≡ tagsOf (onward p (λ a n. cond (eqb n (length t)) (good a n) bad))
     go bad h = refl
     go (good ts m) h = let z : _≡_ {A = ℕ} 0 1 = cc in absurd (omega arith)
 
-pub tags-longer : (t : List ℕ) (r : TablePlace) (n end : ℕ) → r ≡ tablePlaceOf 0 (table (drop 0 t)) → r ≡ tablePlace.Whole n end → (end ≡ length t → ⊥) → tags.Broken ≡ tagsOf (exactly table t)
+pub tags-longer : (t : List ℕ) (r : TablePlace) (n end : ℕ) → r ≡ tablePlaceOf 0 (table (drop 0 t)) → r ≡ tablePlace.Whole n end
+    → (end ≡ length t → ⊥) → tags.Broken ≡ tagsOf (exactly table t)
 unfolding tagsOf exactly onward
 tags-longer t r n end e f h =
     let (ts, a, b) = read-there t r n end e f in
     rw (b, ne-eqb end (length t) h)
 
-pub tags-whole : (t : List ℕ) (r : TablePlace) (n end : ℕ) → r ≡ tablePlaceOf 0 (table (drop 0 t)) → r ≡ tablePlace.Whole n end → end ≡ length t → tags.Whole n ≡ tagsOf (exactly table t)
+pub tags-whole : (t : List ℕ) (r : TablePlace) (n end : ℕ) → r ≡ tablePlaceOf 0 (table (drop 0 t)) → r ≡ tablePlace.Whole n end → end ≡ length t
+    → tags.Whole n ≡ tagsOf (exactly table t)
 unfolding tagsOf exactly onward
 tags-whole t r n end e f h =
     let (ts, a, b) = read-there t r n end e f in

@@ -39,14 +39,18 @@ use Rattle.names.proofs.Readers.{distinct-tags}
 -- ── Short strings by a rule, at a place ──
 
 -- one that is there: its bytes stand behind its length byte, and keep the rule
-pub legal-parts : (ok : List ℕ → Bool) (s : List ℕ) (at n : ℕ) → textOf (only ok string (drop at s)) ≡ text.Whole n → (at + 1 + n ≤ length s) × (ok (take n (drop (at + 1) s)) ≡ true) × (only ok string (drop at s) ≡ good (take n (drop (at + 1) s)) (1 + n))
+pub legal-parts : (ok : List ℕ → Bool) (s : List ℕ) (at n : ℕ) → textOf (only ok string (drop at s)) ≡ text.Whole n
+    → (at + 1 + n ≤ length s) × (ok (take n (drop (at + 1) s)) ≡ true) × (only ok string (drop at s) ≡ good (take n (drop (at + 1) s)) (1 + n))
 unfolding textOf
 legal-parts ok s at n e = go (textOf (string (drop at s))) refl
   where
-    pass : (i : ℕ) (b : Bool) → textOf (string (drop at s)) ≡ text.Whole i → ok (take i (drop (at + 1) s)) ≡ b → (at + 1 + n ≤ length s) × (ok (take n (drop (at + 1) s)) ≡ true) × (only ok string (drop at s) ≡ good (take n (drop (at + 1) s)) (1 + n))
+    pass : (i : ℕ) (b : Bool) → textOf (string (drop at s)) ≡ text.Whole i → ok (take i (drop (at + 1) s)) ≡ b
+        → (at + 1 + n ≤ length s) × (ok (take n (drop (at + 1) s)) ≡ true)
+        × (only ok string (drop at s) ≡ good (take n (drop (at + 1) s)) (1 + n))
     pass i true f g =
         let (l, o, p) = string-parts s at i f in
-        let q : only ok string (drop at s) ≡ good (take i (drop (at + 1) s)) (1 + i) = only-pass ok string (drop at s) (take i (drop (at + 1) s)) (1 + i) p g in
+        let q : only ok string (drop at s) ≡ good (take i (drop (at + 1) s)) (1 + i) =
+        only-pass ok string (drop at s) (take i (drop (at + 1) s)) (1 + i) p g in
         let h : text.Whole (length (take i (drop (at + 1) s))) ≡ text.Whole n = rw q at e in
         let j : n ≡ i = cc (part-length s at i l) in
         (omega arith, rw j g, rw j q)
@@ -56,62 +60,89 @@ legal-parts ok s at n e = go (textOf (string (drop at s))) refl
         let z : _≡_ {A = ℕ} 0 1 = cc in
         absurd (omega arith)
 
-    go : (r : Text) → textOf (string (drop at s)) ≡ r → (at + 1 + n ≤ length s) × (ok (take n (drop (at + 1) s)) ≡ true) × (only ok string (drop at s) ≡ good (take n (drop (at + 1) s)) (1 + n))
+    go : (r : Text) → textOf (string (drop at s)) ≡ r → (at + 1 + n ≤ length s) × (ok (take n (drop (at + 1) s)) ≡ true)
+        × (only ok string (drop at s) ≡ good (take n (drop (at + 1) s)) (1 + n))
     go text.Broken f = let z : _≡_ {A = ℕ} 0 1 = cc (text-broken ok s at text.Broken (sym f) refl) in absurd (omega arith)
     go (text.Whole i) f = pass i (ok (take i (drop (at + 1) s))) f refl
 
-pub legal-place : (ok : List ℕ → Bool) (s : List ℕ) (at n : ℕ) (r : Text) → length s < 2 ^ 64 → r ≡ textOf (only ok string (drop at s)) → r ≡ text.Whole n → Fits w64 (at + 1)
+pub legal-place : (ok : List ℕ → Bool) (s : List ℕ) (at n : ℕ) (r : Text) → length s < 2 ^ 64 → r ≡ textOf (only ok string (drop at s))
+    → r ≡ text.Whole n → Fits w64 (at + 1)
 legal-place ok s at n r h e f = let l = legal-parts ok s at n (sym e ∙ f) .0 in record { fits = omega arith }
 
-pub legal-after : (ok : List ℕ → Bool) (s : List ℕ) (at n : ℕ) (r : Text) → length s < 2 ^ 64 → r ≡ textOf (only ok string (drop at s)) → r ≡ text.Whole n → Fits w64 (at + 1 + n)
+pub legal-after : (ok : List ℕ → Bool) (s : List ℕ) (at n : ℕ) (r : Text) → length s < 2 ^ 64 → r ≡ textOf (only ok string (drop at s))
+    → r ≡ text.Whole n → Fits w64 (at + 1 + n)
 legal-after ok s at n r h e f = let l = legal-parts ok s at n (sym e ∙ f) .0 in record { fits = omega arith }
 
 -- ── A tag ──
 
-pub tag-no-name : (s : List ℕ) (at : ℕ) (r : Text) → r ≡ textOf (only legalTagName string (drop at s)) → r ≡ text.Broken → tagPlace.Broken ≡ tagPlaceOf (tag (drop at s))
+pub tag-no-name : (s : List ℕ) (at : ℕ) (r : Text) → r ≡ textOf (only legalTagName string (drop at s)) → r ≡ text.Broken
+    → tagPlace.Broken ≡ tagPlaceOf (tag (drop at s))
 unfolding tag tagPlaceOf
 tag-no-name s at r e f =
-    rw (then-bad {B = Tag} (only legalTagName string) (λ n. only legalTagValue string then λ v. give (record { name = n; value = v })) (drop at s) (textOf-broken (only legalTagName string (drop at s)) (sym e ∙ f)))
+    rw (then-bad {B = Tag} (only legalTagName string) (λ n. only legalTagValue string then λ v. give (record { name = n; value = v })) (drop at s)
+    (textOf-broken (only legalTagName string (drop at s)) (sym e ∙ f)))
 
 -- behind a legal name the value is read
-tag-rest : (s : List ℕ) (at n : ℕ) → textOf (only legalTagName string (drop at s)) ≡ text.Whole n → tag (drop at s) ≡ onward ((only legalTagValue string then λ v. give (record { name = take n (drop (at + 1) s); value = v })) (drop (at + 1 + n) s)) (λ t m. good t (1 + n + m))
+tag-rest : (s : List ℕ) (at n : ℕ) → textOf (only legalTagName string (drop at s)) ≡ text.Whole n
+    → tag (drop at s) ≡ onward ((only legalTagValue string then λ v. give (record { name = take n (drop (at + 1) s); value = v }))
+    (drop (at + 1 + n) s)) (λ t m. good t (1 + n + m))
 unfolding tag
 tag-rest s at n e =
     let q : at + (1 + n) ≡ at + 1 + n = omega arith in
-    then-onward (only legalTagName string) (λ n. only legalTagValue string then λ v. give (record { name = n; value = v })) (drop at s) (take n (drop (at + 1) s)) (1 + n) (legal-parts legalTagName s at n e .2)
+    then-onward (only legalTagName string) (λ n. only legalTagValue string then λ v. give (record { name = n; value = v })) (drop at s)
+    (take n (drop (at + 1) s)) (1 + n) (legal-parts legalTagName s at n e .2)
     ∙ rw (drop-drop (1 + n) at s, q)
 
-tag-good : (s : List ℕ) (at n m : ℕ) → textOf (only legalTagName string (drop at s)) ≡ text.Whole n → textOf (only legalTagValue string (drop (at + 1 + n) s)) ≡ text.Whole m → tag (drop at s) ≡ good (record { name = take n (drop (at + 1) s); value = take m (drop (at + 1 + n + 1) s) }) (1 + n + (1 + m))
+tag-good : (s : List ℕ) (at n m : ℕ) → textOf (only legalTagName string (drop at s)) ≡ text.Whole n
+    → textOf (only legalTagValue string (drop (at + 1 + n) s)) ≡ text.Whole m
+    → tag (drop at s) ≡ good (record { name = take n (drop (at + 1) s); value = take m (drop (at + 1 + n + 1) s) }) (1 + n + (1 + m))
 unfolding onward
 tag-good s at n m e f =
     tag-rest s at n e
-    ∙ rw (then-give {B = Tag} (only legalTagValue string) (λ v. record { name = take n (drop (at + 1) s); value = v }) (drop (at + 1 + n) s) (take m (drop (at + 1 + n + 1) s)) (1 + m) (legal-parts legalTagValue s (at + 1 + n) m f .2))
+    ∙ rw (then-give {B = Tag} (only legalTagValue string) (λ v. record { name = take n (drop (at + 1) s); value = v }) (drop (at + 1 + n) s)
+    (take m (drop (at + 1 + n + 1) s)) (1 + m) (legal-parts legalTagValue s (at + 1 + n) m f .2))
 
-pub tag-no-value : (s : List ℕ) (at n : ℕ) (r v : Text) → r ≡ textOf (only legalTagName string (drop at s)) → r ≡ text.Whole n → v ≡ textOf (only legalTagValue string (drop (at + 1 + n) s)) → v ≡ text.Broken → tagPlace.Broken ≡ tagPlaceOf (tag (drop at s))
+pub tag-no-value : (s : List ℕ) (at n : ℕ) (r v : Text) → r ≡ textOf (only legalTagName string (drop at s)) → r ≡ text.Whole n
+    → v ≡ textOf (only legalTagValue string (drop (at + 1 + n) s)) → v ≡ text.Broken → tagPlace.Broken ≡ tagPlaceOf (tag (drop at s))
 unfolding tagPlaceOf onward
 tag-no-value s at n r v e f g h =
-    rw (tag-rest s at n (sym e ∙ f), then-bad {B = Tag} (only legalTagValue string) (λ v. give (record { name = take n (drop (at + 1) s); value = v })) (drop (at + 1 + n) s) (textOf-broken (only legalTagValue string (drop (at + 1 + n) s)) (sym g ∙ h)))
+    rw (
+      tag-rest s at n (sym e ∙ f),
+      then-bad {B = Tag} (only legalTagValue string)
+          (λ v. give (record { name = take n (drop (at + 1) s); value = v })) (drop (at + 1 + n) s)
+          (textOf-broken (only legalTagValue string (drop (at + 1 + n) s)) (sym g ∙ h)),
+    )
 
-pub tag-whole : (s : List ℕ) (at n m : ℕ) (r v : Text) → r ≡ textOf (only legalTagName string (drop at s)) → r ≡ text.Whole n → v ≡ textOf (only legalTagValue string (drop (at + 1 + n) s)) → v ≡ text.Whole m → tagPlace.Whole n m ≡ tagPlaceOf (tag (drop at s))
+pub tag-whole : (s : List ℕ) (at n m : ℕ) (r v : Text) → r ≡ textOf (only legalTagName string (drop at s)) → r ≡ text.Whole n
+    → v ≡ textOf (only legalTagValue string (drop (at + 1 + n) s)) → v ≡ text.Whole m → tagPlace.Whole n m ≡ tagPlaceOf (tag (drop at s))
 unfolding tagPlaceOf
 tag-whole s at n m r v e f g h =
     let i : length (take n (drop (at + 1) s)) ≡ n = part-length s at n (legal-parts legalTagName s at n (sym e ∙ f) .0) in
-    let j : length (take m (drop (at + 1 + n + 1) s)) ≡ m = part-length s (at + 1 + n) m (legal-parts legalTagValue s (at + 1 + n) m (sym g ∙ h) .0) in
+    let j : length (take m (drop (at + 1 + n + 1) s)) ≡ m = part-length s (at + 1 + n) m
+    (legal-parts legalTagValue s (at + 1 + n) m (sym g ∙ h) .0) in
     rw (tag-good s at n m (sym e ∙ f) (sym g ∙ h), i, j)
 
 -- a tag that is there: where its name and its value stand
-pub tag-parts : (s : List ℕ) (at n m : ℕ) → tagPlaceOf (tag (drop at s)) ≡ tagPlace.Whole n m → (at + 1 + n + 1 + m ≤ length s) × (tag (drop at s) ≡ good (record { name = take n (drop (at + 1) s); value = take m (drop (at + 1 + n + 1) s) }) (1 + n + (1 + m)))
+pub tag-parts : (s : List ℕ) (at n m : ℕ) → tagPlaceOf (tag (drop at s)) ≡ tagPlace.Whole n m
+    → (at + 1 + n + 1 + m ≤ length s)
+    × (tag (drop at s) ≡ good (record { name = take n (drop (at + 1) s); value = take m (drop (at + 1 + n + 1) s) }) (1 + n + (1 + m)))
 tag-parts s at n m e = go (textOf (only legalTagName string (drop at s))) refl
   where
-    value : (i : ℕ) (v : Text) → textOf (only legalTagName string (drop at s)) ≡ text.Whole i → textOf (only legalTagValue string (drop (at + 1 + i) s)) ≡ v → (at + 1 + n + 1 + m ≤ length s) × (tag (drop at s) ≡ good (record { name = take n (drop (at + 1) s); value = take m (drop (at + 1 + n + 1) s) }) (1 + n + (1 + m)))
-    value i text.Broken f g = let z : _≡_ {A = ℕ} 0 1 = cc (tag-no-value s at i (text.Whole i) text.Broken (sym f) refl (sym g) refl) in absurd (omega arith)
+    value : (i : ℕ) (v : Text) → textOf (only legalTagName string (drop at s)) ≡ text.Whole i
+        → textOf (only legalTagValue string (drop (at + 1 + i) s)) ≡ v
+        → (at + 1 + n + 1 + m ≤ length s)
+        × (tag (drop at s) ≡ good (record { name = take n (drop (at + 1) s); value = take m (drop (at + 1 + n + 1) s) }) (1 + n + (1 + m)))
+    value i text.Broken f g = let z : _≡_ {A = ℕ} 0 1 = cc (tag-no-value s at i (text.Whole i) text.Broken (sym f) refl (sym g) refl) in absurd
+        (omega arith)
     value i (text.Whole j) f g =
         let h : tagPlace.Whole i j ≡ tagPlace.Whole n m = tag-whole s at i j (text.Whole i) (text.Whole j) (sym f) refl (sym g) refl ∙ e in
         let a : n ≡ i = cc in
         let b : m ≡ j = cc in
         rw (a, b) (legal-parts legalTagValue s (at + 1 + i) j g .0, tag-good s at i j f g)
 
-    go : (r : Text) → textOf (only legalTagName string (drop at s)) ≡ r → (at + 1 + n + 1 + m ≤ length s) × (tag (drop at s) ≡ good (record { name = take n (drop (at + 1) s); value = take m (drop (at + 1 + n + 1) s) }) (1 + n + (1 + m)))
+    go : (r : Text) → textOf (only legalTagName string (drop at s)) ≡ r
+        → (at + 1 + n + 1 + m ≤ length s)
+        × (tag (drop at s) ≡ good (record { name = take n (drop (at + 1) s); value = take m (drop (at + 1 + n + 1) s) }) (1 + n + (1 + m)))
     go text.Broken f = let z : _≡_ {A = ℕ} 0 1 = cc (tag-no-name s at text.Broken (sym f) refl) in absurd (omega arith)
     go (text.Whole i) f = value i (textOf (only legalTagValue string (drop (at + 1 + i) s))) f refl
 
@@ -125,24 +156,30 @@ tag-broken (good t n) e = let z : _≡_ {A = ℕ} 0 1 = cc in absurd (omega arit
 pub tags-done : (s : List ℕ) (at left : ℕ) (all : Place) → left ≤ 0 → endOf at (times left tag (drop at s)) ≡ all → place.End at ≡ all
 tags-done s at left all h e = sym (times-done tag left s at h) ∙ e
 
-pub tags-broken : (s : List ℕ) (at left : ℕ) (all : Place) (r : TagPlace) → 0 < left → r ≡ tagPlaceOf (tag (drop at s)) → r ≡ tagPlace.Broken → endOf at (times left tag (drop at s)) ≡ all → place.Broken ≡ all
+pub tags-broken : (s : List ℕ) (at left : ℕ) (all : Place) (r : TagPlace) → 0 < left → r ≡ tagPlaceOf (tag (drop at s)) → r ≡ tagPlace.Broken
+    → endOf at (times left tag (drop at s)) ≡ all → place.Broken ≡ all
 tags-broken s at left all r h e f g = sym (times-stop tag left s at h (tag-broken (tag (drop at s)) (sym e ∙ f))) ∙ g
 
-pub tags-step : (s : List ℕ) (at left n m : ℕ) (all : Place) (r : TagPlace) → 0 < left → r ≡ tagPlaceOf (tag (drop at s)) → r ≡ tagPlace.Whole n m → endOf at (times left tag (drop at s)) ≡ all → endOf (at + 1 + n + 1 + m) (times (left - 1) tag (drop (at + 1 + n + 1 + m) s)) ≡ all
+pub tags-step : (s : List ℕ) (at left n m : ℕ) (all : Place) (r : TagPlace) → 0 < left → r ≡ tagPlaceOf (tag (drop at s)) → r ≡ tagPlace.Whole n m
+    → endOf at (times left tag (drop at s)) ≡ all → endOf (at + 1 + n + 1 + m) (times (left - 1) tag (drop (at + 1 + n + 1 + m) s)) ≡ all
 tags-step s at left n m all r h e f g =
     let q : at + (1 + n + (1 + m)) ≡ at + 1 + n + 1 + m = omega arith in
     rw (← q) (sym (times-end tag left s at _ (1 + n + (1 + m)) h (tag-parts s at n m (sym e ∙ f) .1)) ∙ g)
 
-pub tag-fits : (s : List ℕ) (at n m : ℕ) (r : TagPlace) → length s < 2 ^ 64 → r ≡ tagPlaceOf (tag (drop at s)) → r ≡ tagPlace.Whole n m → Fits w64 (at + 1 + n + 1 + m)
+pub tag-fits : (s : List ℕ) (at n m : ℕ) (r : TagPlace) → length s < 2 ^ 64 → r ≡ tagPlaceOf (tag (drop at s)) → r ≡ tagPlace.Whole n m
+    → Fits w64 (at + 1 + n + 1 + m)
 tag-fits s at n m r h e f = let l = tag-parts s at n m (sym e ∙ f) .0 in record { fits = omega arith }
 
-pub tag-fits-1 : (s : List ℕ) (at n m : ℕ) (r : TagPlace) → length s < 2 ^ 64 → r ≡ tagPlaceOf (tag (drop at s)) → r ≡ tagPlace.Whole n m → Fits w64 (at + 1)
+pub tag-fits-1 : (s : List ℕ) (at n m : ℕ) (r : TagPlace) → length s < 2 ^ 64 → r ≡ tagPlaceOf (tag (drop at s)) → r ≡ tagPlace.Whole n m
+    → Fits w64 (at + 1)
 tag-fits-1 s at n m r h e f = let l = tag-parts s at n m (sym e ∙ f) .0 in record { fits = omega arith }
 
-pub tag-fits-2 : (s : List ℕ) (at n m : ℕ) (r : TagPlace) → length s < 2 ^ 64 → r ≡ tagPlaceOf (tag (drop at s)) → r ≡ tagPlace.Whole n m → Fits w64 (at + 1 + n)
+pub tag-fits-2 : (s : List ℕ) (at n m : ℕ) (r : TagPlace) → length s < 2 ^ 64 → r ≡ tagPlaceOf (tag (drop at s)) → r ≡ tagPlace.Whole n m
+    → Fits w64 (at + 1 + n)
 tag-fits-2 s at n m r h e f = let l = tag-parts s at n m (sym e ∙ f) .0 in record { fits = omega arith }
 
-pub tag-fits-3 : (s : List ℕ) (at n m : ℕ) (r : TagPlace) → length s < 2 ^ 64 → r ≡ tagPlaceOf (tag (drop at s)) → r ≡ tagPlace.Whole n m → Fits w64 (at + 1 + n + 1)
+pub tag-fits-3 : (s : List ℕ) (at n m : ℕ) (r : TagPlace) → length s < 2 ^ 64 → r ≡ tagPlaceOf (tag (drop at s)) → r ≡ tagPlace.Whole n m
+    → Fits w64 (at + 1 + n + 1)
 tag-fits-3 s at n m r h e f = let l = tag-parts s at n m (sym e ∙ f) .0 in record { fits = omega arith }
 
 -- ── A table ──
@@ -150,7 +187,8 @@ tag-fits-3 s at n m r h e f = let l = tag-parts s at n m (sym e ∙ f) .0 in rec
 table-bad : (s : List ℕ) (at : ℕ) → only (within 0 mostTags) (number 4) (drop at s) ≡ bad → tablePlace.Broken ≡ tablePlaceOf at (table (drop at s))
 unfolding table tablePlaceOf
 table-bad s at e =
-    rw (only-bad (λ ts. distinct (tagNames ts)) (only (within 0 mostTags) (number 4) then λ n. times n tag) (drop at s) (then-bad (only (within 0 mostTags) (number 4)) (λ n. times n tag) (drop at s) e))
+    rw (only-bad (λ ts. distinct (tagNames ts)) (only (within 0 mostTags) (number 4) then λ n. times n tag) (drop at s)
+    (then-bad (only (within 0 mostTags) (number 4)) (λ n. times n tag) (drop at s) e))
 
 pub table-short : (s : List ℕ) (at : ℕ) → length s < 4 → tablePlace.Broken ≡ tablePlaceOf at (table (drop at s))
 table-short s at h = table-bad s at (only-bad (within 0 mostTags) (number 4) (drop at s) (number-cut 4 s at (omega arith)))
@@ -158,39 +196,54 @@ table-short s at h = table-bad s at (only-bad (within 0 mostTags) (number 4) (dr
 pub table-far : (s : List ℕ) (at : ℕ) → 4 ≤ length s → length s - 4 < at → tablePlace.Broken ≡ tablePlaceOf at (table (drop at s))
 table-far s at l h = table-bad s at (only-bad (within 0 mostTags) (number 4) (drop at s) (number-cut 4 s at (omega arith)))
 
-pub table-many : (s : List ℕ) (at n : ℕ) → 4 ≤ length s → at ≤ length s - 4 → n ≡ readAt s at 4 → 1000 < n → tablePlace.Broken ≡ tablePlaceOf at (table (drop at s))
+pub table-many : (s : List ℕ) (at n : ℕ) → 4 ≤ length s → at ≤ length s - 4 → n ≡ readAt s at 4 → 1000 < n
+    → tablePlace.Broken ≡ tablePlaceOf at (table (drop at s))
 table-many s at n l h e k =
-    table-bad s at (only-fail (within 0 mostTags) (number 4) (drop at s) n 4 (rw e (number-there 4 s at (omega arith) (omega arith) (omega arith))) (above 0 mostTags n (omega arith) k))
+    table-bad s at (only-fail (within 0 mostTags) (number 4) (drop at s) n 4
+    (rw e (number-there 4 s at (omega arith) (omega arith) (omega arith))) (above 0 mostTags n (omega arith) k))
 
 -- the number that a table begins with
-count-good : (s : List ℕ) (at n : ℕ) → 4 ≤ length s → at ≤ length s - 4 → n ≡ readAt s at 4 → n ≤ 1000 → only (within 0 mostTags) (number 4) (drop at s) ≡ good n 4
+count-good : (s : List ℕ) (at n : ℕ) → 4 ≤ length s → at ≤ length s - 4 → n ≡ readAt s at 4 → n ≤ 1000
+    → only (within 0 mostTags) (number 4) (drop at s) ≡ good n 4
 count-good s at n l h e k =
-    only-pass (within 0 mostTags) (number 4) (drop at s) n 4 (rw e (number-there 4 s at (omega arith) (omega arith) (omega arith))) (inside 0 mostTags n (omega arith) k)
+    only-pass (within 0 mostTags) (number 4) (drop at s) n 4 (rw e (number-there 4 s at (omega arith) (omega arith) (omega arith)))
+    (inside 0 mostTags n (omega arith) k)
 
-pub table-no-tags : (s : List ℕ) (at n : ℕ) (t : Place) → 4 ≤ length s → at ≤ length s - 4 → n ≡ readAt s at 4 → n ≤ 1000 → t ≡ endOf (at + 4) (times n tag (drop (at + 4) s)) → t ≡ place.Broken → tablePlace.Broken ≡ tablePlaceOf at (table (drop at s))
+pub table-no-tags : (s : List ℕ) (at n : ℕ) (t : Place) → 4 ≤ length s → at ≤ length s - 4 → n ≡ readAt s at 4 → n ≤ 1000
+    → t ≡ endOf (at + 4) (times n tag (drop (at + 4) s)) → t ≡ place.Broken → tablePlace.Broken ≡ tablePlaceOf at (table (drop at s))
 unfolding table tablePlaceOf onward
 table-no-tags s at n t l h e k f g =
     let b : times n tag (drop (at + 4) s) ≡ bad = end-bad (times n tag (drop (at + 4) s)) (at + 4) (sym f ∙ g) in
-    let p : (only (within 0 mostTags) (number 4) then λ n. times n tag) (drop at s) ≡ bad = then-onward (only (within 0 mostTags) (number 4)) (λ n. times n tag) (drop at s) n 4 (count-good s at n l h e k) ∙ rw (drop-drop 4 at s, b) in
+    let p : (only (within 0 mostTags) (number 4) then λ n. times n tag) (drop at s) ≡ bad =
+    then-onward (only (within 0 mostTags) (number 4)) (λ n. times n tag) (drop at s) n 4 (count-good s at n l h e k)
+    ∙ rw (drop-drop 4 at s, b) in
     rw (only-bad (λ ts. distinct (tagNames ts)) (only (within 0 mostTags) (number 4) then λ n. times n tag) (drop at s) p)
 
 -- the tags of a table, before their names are compared
-tags-good : (s : List ℕ) (at n m : ℕ) (ts : List Tag) → 4 ≤ length s → at ≤ length s - 4 → n ≡ readAt s at 4 → n ≤ 1000 → times n tag (drop (at + 4) s) ≡ good ts m → (only (within 0 mostTags) (number 4) then λ n. times n tag) (drop at s) ≡ good ts (4 + m)
-tags-good s at n m ts l h e k f = then-takes (only (within 0 mostTags) (number 4)) (λ n. times n tag) (drop at s) n ts 4 m (count-good s at n l h e k) (rw (drop-drop 4 at s) f)
+tags-good : (s : List ℕ) (at n m : ℕ) (ts : List Tag) → 4 ≤ length s → at ≤ length s - 4 → n ≡ readAt s at 4 → n ≤ 1000
+    → times n tag (drop (at + 4) s) ≡ good ts m → (only (within 0 mostTags) (number 4) then λ n. times n tag) (drop at s) ≡ good ts (4 + m)
+tags-good s at n m ts l h e k f = then-takes (only (within 0 mostTags) (number 4)) (λ n. times n tag) (drop at s) n ts 4 m
+    (count-good s at n l h e k) (rw (drop-drop 4 at s) f)
 
-pub table-twice : (s : List ℕ) (at n end : ℕ) (t : Place) (d : Bool) → 4 ≤ length s → at ≤ length s - 4 → n ≡ readAt s at 4 → n ≤ 1000 → t ≡ endOf (at + 4) (times n tag (drop (at + 4) s)) → t ≡ place.End end → d ≡ distinctNames s (at + 4) n row.Tag → d ≡ false → tablePlace.Broken ≡ tablePlaceOf at (table (drop at s))
+pub table-twice : (s : List ℕ) (at n end : ℕ) (t : Place) (d : Bool) → 4 ≤ length s → at ≤ length s - 4 → n ≡ readAt s at 4 → n ≤ 1000
+    → t ≡ endOf (at + 4) (times n tag (drop (at + 4) s)) → t ≡ place.End end → d ≡ distinctNames s (at + 4) n row.Tag → d ≡ false
+    → tablePlace.Broken ≡ tablePlaceOf at (table (drop at s))
 unfolding table tablePlaceOf
 table-twice s at n end t d l h e k f g i j =
     let (ts, m, p, q) = end-good (times n tag (drop (at + 4) s)) (at + 4) end (sym f ∙ g) in
-    rw (only-fail (λ ts. distinct (tagNames ts)) (only (within 0 mostTags) (number 4) then λ n. times n tag) (drop at s) ts (4 + m) (tags-good s at n m ts l h e k p) (sym (distinct-tags s (at + 4) n m ts p) ∙ sym i ∙ j))
+    rw (only-fail (λ ts. distinct (tagNames ts)) (only (within 0 mostTags) (number 4) then λ n. times n tag) (drop at s) ts (4 + m)
+    (tags-good s at n m ts l h e k p) (sym (distinct-tags s (at + 4) n m ts p) ∙ sym i ∙ j))
 
-pub table-whole : (s : List ℕ) (at n end : ℕ) (t : Place) (d : Bool) → 4 ≤ length s → at ≤ length s - 4 → n ≡ readAt s at 4 → n ≤ 1000 → t ≡ endOf (at + 4) (times n tag (drop (at + 4) s)) → t ≡ place.End end → d ≡ distinctNames s (at + 4) n row.Tag → d ≡ true → tablePlace.Whole n end ≡ tablePlaceOf at (table (drop at s))
+pub table-whole : (s : List ℕ) (at n end : ℕ) (t : Place) (d : Bool) → 4 ≤ length s → at ≤ length s - 4 → n ≡ readAt s at 4 → n ≤ 1000
+    → t ≡ endOf (at + 4) (times n tag (drop (at + 4) s)) → t ≡ place.End end → d ≡ distinctNames s (at + 4) n row.Tag → d ≡ true
+    → tablePlace.Whole n end ≡ tablePlaceOf at (table (drop at s))
 unfolding table tablePlaceOf
 table-whole s at n end t d l h e k f g i j =
     let (ts, m, p, q) = end-good (times n tag (drop (at + 4) s)) (at + 4) end (sym f ∙ g) in
     let a : n ≡ length ts = sym (times-length tag n (drop (at + 4) s) ts m p) in
     let b : end ≡ at + (4 + m) = omega arith in
-    rw (only-pass (λ ts. distinct (tagNames ts)) (only (within 0 mostTags) (number 4) then λ n. times n tag) (drop at s) ts (4 + m) (tags-good s at n m ts l h e k p) (sym (distinct-tags s (at + 4) n m ts p) ∙ sym i ∙ j))
+    rw (only-pass (λ ts. distinct (tagNames ts)) (only (within 0 mostTags) (number 4) then λ n. times n tag) (drop at s) ts (4 + m)
+    (tags-good s at n m ts l h e k p) (sym (distinct-tags s (at + 4) n m ts p) ∙ sym i ∙ j))
     (ap (λ (z : ℕ). tablePlace.Whole z end) a ∙ ap (tablePlace.Whole (length ts)) b)
 
 -- ── A tag by its number ──
@@ -211,19 +264,25 @@ count-there s at i n e h = go (leb (at + 4) (length s)) refl e
 pub count-fits : (s : List ℕ) (at i n : ℕ) → length s < 2 ^ 64 → n ≡ readAt s at 4 → i < n → Fits w64 (at + 4)
 count-fits s at i n l e h = let k = count-there s at i n e h in record { fits = omega arith }
 
-tag-from : (s : List ℕ) (at i n : ℕ) (t : Place) → n ≡ readAt s at 4 → i < n → t ≡ endOf (at + 4) (times i (rowName row.Tag) (drop (at + 4) s)) → tagFound s at i ≡ tagFrom s t
+tag-from : (s : List ℕ) (at i n : ℕ) (t : Place) → n ≡ readAt s at 4 → i < n → t ≡ endOf (at + 4) (times i (rowName row.Tag) (drop (at + 4) s))
+    → tagFound s at i ≡ tagFrom s t
 unfolding tagFound
 tag-from s at i n t e h f = rw (← e, lt-ltb i n h, ← f)
 
-pub tag-no-start : (s : List ℕ) (at i n : ℕ) (t : Place) → n ≡ readAt s at 4 → i < n → t ≡ endOf (at + 4) (times i (rowName row.Tag) (drop (at + 4) s)) → t ≡ place.Broken → Nothing ≡ tagFound s at i
+pub tag-no-start : (s : List ℕ) (at i n : ℕ) (t : Place) → n ≡ readAt s at 4 → i < n
+    → t ≡ endOf (at + 4) (times i (rowName row.Tag) (drop (at + 4) s)) → t ≡ place.Broken → Nothing ≡ tagFound s at i
 unfolding tagFrom
 tag-no-start s at i n t e h f g = sym (tag-from s at i n t e h f ∙ rw g)
 
-pub tag-not-there : (s : List ℕ) (at i n p : ℕ) (t : Place) (r : TagPlace) → n ≡ readAt s at 4 → i < n → t ≡ endOf (at + 4) (times i (rowName row.Tag) (drop (at + 4) s)) → t ≡ place.End p → r ≡ tagPlaceOf (tag (drop p s)) → r ≡ tagPlace.Broken → Nothing ≡ tagFound s at i
+pub tag-not-there : (s : List ℕ) (at i n p : ℕ) (t : Place) (r : TagPlace) → n ≡ readAt s at 4 → i < n
+    → t ≡ endOf (at + 4) (times i (rowName row.Tag) (drop (at + 4) s)) → t ≡ place.End p → r ≡ tagPlaceOf (tag (drop p s)) → r ≡ tagPlace.Broken
+    → Nothing ≡ tagFound s at i
 unfolding tagFrom partsOf
 tag-not-there s at i n p t r e h f g o q = sym (tag-from s at i n t e h f ∙ rw (g, tag-broken (tag (drop p s)) (sym o ∙ q)))
 
-pub tag-there : (s : List ℕ) (at i n p j k : ℕ) (t : Place) (r : TagPlace) → n ≡ readAt s at 4 → i < n → t ≡ endOf (at + 4) (times i (rowName row.Tag) (drop (at + 4) s)) → t ≡ place.End p → r ≡ tagPlaceOf (tag (drop p s)) → r ≡ tagPlace.Whole j k → At (p + 1) j (p + 1 + j + 1) k ≡ tagFound s at i
+pub tag-there : (s : List ℕ) (at i n p j k : ℕ) (t : Place) (r : TagPlace) → n ≡ readAt s at 4 → i < n
+    → t ≡ endOf (at + 4) (times i (rowName row.Tag) (drop (at + 4) s)) → t ≡ place.End p → r ≡ tagPlaceOf (tag (drop p s))
+    → r ≡ tagPlace.Whole j k → At (p + 1) j (p + 1 + j + 1) k ≡ tagFound s at i
 unfolding tagFrom partsOf
 tag-there s at i n p j k t r e h f g o q =
     let (l, w) = tag-parts s p j k (sym o ∙ q) in
@@ -231,4 +290,29 @@ tag-there s at i n p j k t r e h f g o q =
     let b : length (take k (drop (p + 1 + j + 1) s)) ≡ k = part-length s (p + 1 + j) k l in
     sym (tag-from s at i n t e h f ∙ rw (g, w, a, b))
 
-pub ruleset laws = (needs, legal-place, legal-after, tag-no-name, tag-no-value, tag-whole, tags-done, tags-broken, tags-step, tag-fits, tag-fits-1, tag-fits-2, tag-fits-3, table-short, table-far, table-many, table-no-tags, table-twice, table-whole, tag-past, count-fits, tag-no-start, tag-not-there, tag-there)
+pub ruleset laws = (
+  needs,
+  legal-place,
+  legal-after,
+  tag-no-name,
+  tag-no-value,
+  tag-whole,
+  tags-done,
+  tags-broken,
+  tags-step,
+  tag-fits,
+  tag-fits-1,
+  tag-fits-2,
+  tag-fits-3,
+  table-short,
+  table-far,
+  table-many,
+  table-no-tags,
+  table-twice,
+  table-whole,
+  tag-past,
+  count-fits,
+  tag-no-start,
+  tag-not-there,
+  tag-there,
+)

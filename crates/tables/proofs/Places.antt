@@ -50,7 +50,8 @@ tag-taken t x n e =
 -- ── A legal table ──
 
 -- a number that was read
-pub number-parts : (w : ℕ) (s : List ℕ) (at c n : ℕ) → 0 < w → w ≤ 8 → number w (drop at s) ≡ good c n → (at + w ≤ length s) × (c ≡ readAt s at w) × (n ≡ w)
+pub number-parts : (w : ℕ) (s : List ℕ) (at c n : ℕ) → 0 < w → w ≤ 8 → number w (drop at s) ≡ good c n
+    → (at + w ≤ length s) × (c ≡ readAt s at w) × (n ≡ w)
 number-parts w s at c n z h e = go (leb w (length s - at)) refl
   where
     go : (b : Bool) → leb w (length s - at) ≡ b → (at + w ≤ length s) × (c ≡ readAt s at w) × (n ≡ w)
@@ -64,15 +65,19 @@ number-parts w s at c n z h e = go (leb w (length s - at)) refl
         absurd (omega arith)
 
 -- its number, and its tags behind it
-pub table-read : {G : Type 0} (s : List ℕ) (at n : ℕ) (ts : List Tag) → table (drop at s) ≡ good ts n → ((k : ℕ) → at + 4 ≤ length s → readAt s at 4 ≡ length ts → times (length ts) tag (drop (at + 4) s) ≡ good ts k → n ≡ 4 + k → G) → G
+pub table-read : {G : Type 0} (s : List ℕ) (at n : ℕ) (ts : List Tag) → table (drop at s) ≡ good ts n
+    → ((k : ℕ) → at + 4 ≤ length s → readAt s at 4 ≡ length ts → times (length ts) tag (drop (at + 4) s) ≡ good ts k → n ≡ 4 + k → G) → G
 unfolding table
 table-read s at n ts e w =
-    then-parts (only (within 0 mostTags) (number 4)) (λ n. times n tag) (drop at s) ts n (only-parts (λ ts. distinct (tagNames ts)) (only (within 0 mostTags) (number 4) then λ n. times n tag) (drop at s) ts n e .0) (λ c a k f g h.
+    then-parts (only (within 0 mostTags) (number 4)) (λ n. times n tag) (drop at s) ts n
+    (only-parts (λ ts. distinct (tagNames ts)) (only (within 0 mostTags) (number 4) then λ n. times n tag) (drop at s) ts n e .0)
+    (λ c a k f g h.
     let (l, r, q) = number-parts 4 s at c a (omega arith) (omega arith) (only-parts (within 0 mostTags) (number 4) (drop at s) c a f .0) in
     let o : length ts ≡ c = times-length tag c (drop a (drop at s)) ts k g in
     w k l (sym r ∙ sym o) (rw (o, ← q, ← drop-drop a at s) g) (rw (← q) h))
 
-pub tag-found-at : (s : List ℕ) (at n i : ℕ) (ts : List Tag) → table (drop at s) ≡ good ts n → i < length ts → tagFound s at i ≡ At (nameStart at ts i) (length (getD ts i noTag .name)) (valueStart at ts i) (length (getD ts i noTag .value))
+pub tag-found-at : (s : List ℕ) (at n i : ℕ) (ts : List Tag) → table (drop at s) ≡ good ts n → i < length ts
+    → tagFound s at i ≡ At (nameStart at ts i) (length (getD ts i noTag .name)) (valueStart at ts i) (length (getD ts i noTag .value))
 unfolding tagFound tagFrom partsOf nameStart valueStart endOf
 tag-found-at s at n i ts e h =
     table-read s at n ts e (λ k l r g o.

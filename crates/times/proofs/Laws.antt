@@ -26,13 +26,17 @@ pub follows-early : (first last time a b : ℕ) → a ≡ rank time → b ≡ ra
 unfolding follows
 follows-early first last time a b p q h = rw (lt-leb (rank last) (rank time) (omega arith))
 
-pub follows-late : (first last time a b d : ℕ) → a ≡ rank time → b ≡ rank last → b ≤ a → d ≡ sinceFirst first time → 4294967295 < d → false ≡ follows first last time
+pub follows-late : (first last time a b d : ℕ) → a ≡ rank time → b ≡ rank last → b ≤ a → d ≡ sinceFirst first time → 4294967295 < d
+    → false ≡ follows first last time
 unfolding follows sinceFirst
-follows-late first last time a b d p q h e l = rw (le-leb (rank last) (rank time) (omega arith), lt-leb (rank time - rank first) longestSpan (omega arith))
+follows-late first last time a b d p q h e l =
+    rw (le-leb (rank last) (rank time) (omega arith), lt-leb (rank time - rank first) longestSpan (omega arith))
 
-pub follows-right : (first last time a b d : ℕ) → a ≡ rank time → b ≡ rank last → b ≤ a → d ≡ sinceFirst first time → d ≤ 4294967295 → true ≡ follows first last time
+pub follows-right : (first last time a b d : ℕ) → a ≡ rank time → b ≡ rank last → b ≤ a → d ≡ sinceFirst first time → d ≤ 4294967295
+    → true ≡ follows first last time
 unfolding follows sinceFirst
-follows-right first last time a b d p q h e l = rw (le-leb (rank last) (rank time) (omega arith), le-leb (rank time - rank first) longestSpan (omega arith))
+follows-right first last time a b d p q h e l =
+    rw (le-leb (rank last) (rank time) (omega arith), le-leb (rank time - rank first) longestSpan (omega arith))
 
 -- ── The frames that are left ──
 
@@ -40,7 +44,8 @@ follows-right first last time a b d p q h e l = rw (le-leb (rank last) (rank tim
 pub since-fits : (first last t d : ℕ) (s : Bool) → s ≡ follows first last t → s ≡ true → d ≡ sinceFirst first t → d < 2 ^ 32
 unfolding follows sinceFirst
 since-fits first last t d s p q e =
-    let h = leb-true (rank t - rank first) longestSpan (both-true (leb (rank last) (rank t)) (leb (rank t - rank first) longestSpan) (sym p ∙ q) .1) in
+    let h = leb-true (rank t - rank first) longestSpan (both-true (leb (rank last) (rank t)) (leb (rank t - rank first) longestSpan)
+    (sym p ∙ q) .1) in
     omega arith
 
 -- ── The index as a whole ──

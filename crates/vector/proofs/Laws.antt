@@ -32,7 +32,8 @@ prime-times h q r d e =
     f ∙ sym (add-mul-mod-self-left (thrice h) 18446744073709551616 (over h)) ∙ ap (λ (n : ℕ). n % 18446744073709551616) (whole-times h)
 
 -- one byte more
-pub bytes-more : (s : List ℕ) (h i r : ℕ) (all : ℕ) → i < length s → r ≡ withByte h (getD s i 0) → withBytes h (drop i s) ≡ all → withBytes r (drop (i + 1) s) ≡ all
+pub bytes-more : (s : List ℕ) (h i r : ℕ) (all : ℕ) → i < length s → r ≡ withByte h (getD s i 0) → withBytes h (drop i s) ≡ all
+    → withBytes r (drop (i + 1) s) ≡ all
 unfolding withBytes
 bytes-more s h i r all l e g =
     let f : i + 1 ≡ suc i = add-one i in

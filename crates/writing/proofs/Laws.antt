@@ -27,24 +27,29 @@ pub frame-length : (t e : ℕ) (s : List ℕ) → length (framePiece t e s) ≡ 
 unfolding framePiece
 frame-length t e s = length-append (frameHeadBytes t e) s ∙ ap (λ (n : ℕ). n + length s) (length-head t e)
 
-frame-sets : (out s a b c d : List ℕ) (t e : ℕ) → 16 + length s ≤ length out → a ≡ writeAt out 0 4 3993051903 → b ≡ writeAt a 4 8 t → c ≡ writeAt b 12 4 e → d ≡ copied s 0 c 16 (length s) → d ≡ sets out 0 (framePiece t e s)
+frame-sets : (out s a b c d : List ℕ) (t e : ℕ) → 16 + length s ≤ length out → a ≡ writeAt out 0 4 3993051903 → b ≡ writeAt a 4 8 t
+    → c ≡ writeAt b 12 4 e → d ≡ copied s 0 c 16 (length s) → d ≡ sets out 0 (framePiece t e s)
 unfolding framePiece frameHeadBytes
 frame-sets out s a b c d t e h p q u v =
     let m = bytesOf 4 3993051903 in
     let w₁ : a ≡ sets out 0 m = p ∙ write-is out 0 4 3993051903 (omega arith) in
     let w₂ : b ≡ sets out 0 (m ++ bytesOf 8 t) = write-behind out a b m 0 4 8 w₁ (simp length-bytesOf) (omega arith) t q in
-    let w₃ : c ≡ sets out 0 (m ++ bytesOf 8 t ++ bytesOf 4 e) = write-behind out b c (m ++ bytesOf 8 t) 0 12 4 w₂ (simp (length-append, length-bytesOf)) (omega arith) e u in
+    let w₃ : c ≡ sets out 0 (m ++ bytesOf 8 t ++ bytesOf 4 e) =
+    write-behind out b c (m ++ bytesOf 8 t) 0 12 4 w₂ (simp (length-append, length-bytesOf)) (omega arith) e u in
     copy-behind out c d (m ++ bytesOf 8 t ++ bytesOf 4 e) 0 16 (length s) w₃ (simp (length-append, length-bytesOf)) (omega arith) s 0 (omega arith) v
     ∙ ap (λ (l : List ℕ). sets out 0 (m ++ bytesOf 8 t ++ bytesOf 4 e ++ l)) (take-length s)
 
-pub entry-sets : (notes a b c d : List ℕ) (n since place size : ℕ) → 1 ≤ n → n ≤ 1000000 → 4 + 16 * n ≤ length notes → a ≡ writeAt notes 0 4 n → b ≡ writeAt a (16 * n - 12) 4 since → c ≡ writeAt b (16 * n - 12 + 4) 8 place → d ≡ writeAt c (16 * n - 12 + 12) 4 size → d ≡ notedAt notes n since place size
+pub entry-sets : (notes a b c d : List ℕ) (n since place size : ℕ) → 1 ≤ n → n ≤ 1000000 → 4 + 16 * n ≤ length notes → a ≡ writeAt notes 0 4 n
+    → b ≡ writeAt a (16 * n - 12) 4 since → c ≡ writeAt b (16 * n - 12 + 4) 8 place → d ≡ writeAt c (16 * n - 12 + 12) 4 size
+    → d ≡ notedAt notes n since place size
 unfolding notedAt
 entry-sets notes a b c d n since place size l m h p q u v =
     let at = 16 * n - 12 in
     let w₀ : a ≡ sets notes 0 (bytesOf 4 n) = p ∙ write-is notes 0 4 n (omega arith) in
     let k : length a ≡ length notes = ap length w₀ ∙ length-sets notes 0 (bytesOf 4 n) in
     let w₁ : b ≡ sets a at (bytesOf 4 since) = q ∙ write-is a at 4 since (omega arith) in
-    let w₂ : c ≡ sets a at (bytesOf 4 since ++ bytesOf 8 place) = write-behind a b c (bytesOf 4 since) at (at + 4) 8 w₁ (simp length-bytesOf) (omega arith) place u in
+    let w₂ : c ≡ sets a at (bytesOf 4 since ++ bytesOf 8 place) =
+    write-behind a b c (bytesOf 4 since) at (at + 4) 8 w₁ (simp length-bytesOf) (omega arith) place u in
     write-behind a c d (bytesOf 4 since ++ bytesOf 8 place) at (at + 12) 4 w₂ (simp (length-append, length-bytesOf)) (omega arith) size v
     ∙ ap (λ (x : List ℕ). sets x at (bytesOf 4 since ++ bytesOf 8 place ++ bytesOf 4 size)) w₀
 
@@ -63,40 +68,48 @@ pub framed-is : (out s : List ℕ) (t e : ℕ) → 16 + length s ≤ length out 
 unfolding framed
 framed-is out s t e h = rw (le-ltb (length out) (16 + length s) h)
 
-pub frame-written : (out s a b c d : List ℕ) (t e : ℕ) → 16 ≤ length out → length s ≤ length out - 16 → a ≡ writeAt out 0 4 3993051903 → b ≡ writeAt a 4 8 t → c ≡ writeAt b 12 4 e → d ≡ copied s 0 c 16 (length s) → d ≡ framed out t e s
+pub frame-written : (out s a b c d : List ℕ) (t e : ℕ) → 16 ≤ length out → length s ≤ length out - 16 → a ≡ writeAt out 0 4 3993051903
+    → b ≡ writeAt a 4 8 t → c ≡ writeAt b 12 4 e → d ≡ copied s 0 c 16 (length s) → d ≡ framed out t e s
 frame-written out s a b c d t e l h p q u v =
     frame-sets out s a b c d t e (omega arith) p q u v ∙ sym (framed-is out s t e (omega arith))
 
 -- ── Its entry ──
 
-noted-not : (notes : List ℕ) (n since place size : ℕ) → (ltb n 1 || ltb mostFrames n || ltb (length notes) (indexLength n)) ≡ true → notes ≡ notedIn notes n since place size
+noted-not : (notes : List ℕ) (n since place size : ℕ) → (ltb n 1 || ltb mostFrames n || ltb (length notes) (indexLength n)) ≡ true
+    → notes ≡ notedIn notes n since place size
 unfolding notedIn
 noted-not notes n since place size e = rw e
 
 pub noted-none : (notes : List ℕ) (n since place size : ℕ) → n < 1 → notes ≡ notedIn notes n since place size
 noted-none notes n since place size h =
-    noted-not notes n since place size (or-left (ltb n 1 || ltb mostFrames n) (ltb (length notes) (indexLength n)) (or-left (ltb n 1) (ltb mostFrames n) (lt-ltb n 1 h)))
+    noted-not notes n since place size (or-left (ltb n 1 || ltb mostFrames n) (ltb (length notes) (indexLength n))
+    (or-left (ltb n 1) (ltb mostFrames n) (lt-ltb n 1 h)))
 
 pub noted-many : (notes : List ℕ) (n since place size : ℕ) → 1000000 < n → notes ≡ notedIn notes n since place size
 noted-many notes n since place size h =
-    noted-not notes n since place size (or-left (ltb n 1 || ltb mostFrames n) (ltb (length notes) (indexLength n)) (or-right (ltb n 1) (ltb mostFrames n) (lt-ltb mostFrames n h)))
+    noted-not notes n since place size (or-left (ltb n 1 || ltb mostFrames n) (ltb (length notes) (indexLength n))
+    (or-right (ltb n 1) (ltb mostFrames n) (lt-ltb mostFrames n h)))
 
 pub noted-short : (notes : List ℕ) (n since place size : ℕ) → length notes < 4 + 16 * n → notes ≡ notedIn notes n since place size
 noted-short notes n since place size h =
-    noted-not notes n since place size (or-right (ltb n 1 || ltb mostFrames n) (ltb (length notes) (indexLength n)) (lt-ltb (length notes) (indexLength n) h))
+    noted-not notes n since place size (or-right (ltb n 1 || ltb mostFrames n) (ltb (length notes) (indexLength n))
+    (lt-ltb (length notes) (indexLength n) h))
 
 -- there is room for it
-pub noted-is : (notes : List ℕ) (n since place size : ℕ) → 1 ≤ n → n ≤ 1000000 → 4 + 16 * n ≤ length notes → notedIn notes n since place size ≡ notedAt notes n since place size
+pub noted-is : (notes : List ℕ) (n since place size : ℕ) → 1 ≤ n → n ≤ 1000000 → 4 + 16 * n ≤ length notes
+    → notedIn notes n since place size ≡ notedAt notes n since place size
 unfolding notedIn
 noted-is notes n since place size l m h = rw (le-ltb n 1 l, le-ltb mostFrames n m, le-ltb (length notes) (indexLength n) h)
 
-pub note-written : (notes d : List ℕ) (n since place size : ℕ) → 1 ≤ n → n ≤ 1000000 → 4 + 16 * n ≤ length notes → d ≡ notedAt notes n since place size → d ≡ notedIn notes n since place size
+pub note-written : (notes d : List ℕ) (n since place size : ℕ) → 1 ≤ n → n ≤ 1000000 → 4 + 16 * n ≤ length notes
+    → d ≡ notedAt notes n since place size → d ≡ notedIn notes n since place size
 note-written notes d n since place size l m h e = e ∙ sym (noted-is notes n since place size l m h)
 
 -- ── Both ──
 
 pub frame-added : (s notes out u v : List ℕ) (n first t e place d : ℕ)
-    → v ≡ framed out t e s → d ≡ sinceFirst first t → u ≡ notedIn notes n d place (16 + length s) → lent u v ≡ frameAdded n first t e place s notes out
+    → v ≡ framed out t e s → d ≡ sinceFirst first t → u ≡ notedIn notes n d place (16 + length s)
+    → lent u v ≡ frameAdded n first t e place s notes out
 unfolding frameAdded
 frame-added s notes out u v n first t e place d p q w = rw (p, w, q)
 
@@ -105,7 +118,10 @@ pub added-is : (s notes out u v : List ℕ) (n first t e place : ℕ)
     → lent u v ≡ frameAdded n first t e place s notes out → 1 ≤ n → n ≤ 1000000 → 4 + 16 * n ≤ length notes → 16 + length s ≤ length out
     → (u ≡ notedAt notes n (sinceFirst first t) place (16 + length s)) × (v ≡ sets out 0 (framePiece t e s))
 unfolding frameAdded
-added-is s notes out u v n first t e place h l m k o =
-    (ap (λ (x : Lent). x .notes) h ∙ noted-is notes n (sinceFirst first t) place (16 + length s) l m k, ap (λ (x : Lent). x .out) h ∙ framed-is out s t e o)
+added-is s notes out u v n first t e place h l m k o = (
+  ap (λ (x : Lent). x .notes) h ∙ noted-is notes n (sinceFirst first t) place (16 + length s) l m k,
+  ap (λ (x : Lent). x .out) h
+      ∙ framed-is out s t e o,
+)
 
 pub ruleset laws = (needs, frame-added, framed-short, framed-far, frame-written, noted-none, noted-many, noted-short, entry-sets, note-written)

@@ -13,4 +13,12 @@ use Rattle.writing.proofs.add_frame
 
 module _ {M : Type 1} (𝓤 : URA M) (H : Heap 𝓤) (A : Atoms 𝓤) (mem : Memory → SProp 𝓤) (run : Routine → Fun 𝓤) where
   pub add-frame-one : Determines 𝓤 «add_frame».ended («add_frame».clauses 𝓤 H A mem run)
-  add-frame-one κs a g x y v w = agree 𝓤 (λ p q. let e = p ∙ sym q in (refl, λ i. (v .0, (v .1 .0, (v .1 .1 .0, (v .1 .1 .1 .0, (v .1 .1 .1 .1 .0, (v .1 .1 .1 .1 .1 .0, (e i .notes, (e i .out, v .1 .1 .1 .1 .1 .1 .1 .1))))))))))
+  add-frame-one κs a g x y v w =
+      agree 𝓤 (λ p q. let e = p
+      ∙ sym q in (
+        refl,
+        λ i. (
+          v .0,
+          (v .1 .0, (v .1 .1 .0, (v .1 .1 .1 .0, (v .1 .1 .1 .1 .0, (v .1 .1 .1 .1 .1 .0, (e i .notes, (e i .out, v .1 .1 .1 .1 .1 .1 .1 .1))))))),
+        ),
+      ))

@@ -12,7 +12,9 @@ use Rattle.apply.proofs.tags_in.Reads as tags-in-reads
 use Rattle.pieces.proofs.piece_at.Reads as piece-at-reads
 
 abbrev Inv-loop : tie.InvT-loop
-Inv-loop side from at sheet others place₀ passed₀ tags₀ bytes₀ left₀ place passed tags bytes left = (length others ≤ 1000) × (passed + left ≡ length others) × (tags + left ≤ length others) × (bytes + 512 * left ≤ 512 * length others) × (plus tags bytes (sizeOf (addedBy side from sheet place (drop passed others))) ≡ sizeOf (addedBy side from sheet at others))
+Inv-loop side from at sheet others place₀ passed₀ tags₀ bytes₀ left₀ place passed tags bytes left =
+    (length others ≤ 1000) × (passed + left ≡ length others) × (tags + left ≤ length others) × (bytes + 512 * left ≤ 512 * length others)
+    × (plus tags bytes (sizeOf (addedBy side from sheet place (drop passed others))) ≡ sizeOf (addedBy side from sheet at others))
 
 abbrev μ-loop : tie.MeasureT-loop
 μ-loop side from at sheet others place₀ passed₀ tags₀ bytes₀ left₀ place passed tags bytes left = left

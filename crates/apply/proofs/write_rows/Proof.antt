@@ -13,7 +13,9 @@ use Rattle.apply.proofs.part_at.Reads as part-at-reads
 use Rattle.apply.proofs.put_piece.Reads as put-piece-reads
 
 abbrev Inv-loop : tie.InvT-loop
-Inv-loop side from at sheet others out₀ start place₀ passed₀ to₀ out place passed to = (walkedIn side from sheet ≡ from) × Storing to (bytesBy side from sheet place (drop passed others)) out out₀ start (bytesBy side from sheet at others)
+Inv-loop side from at sheet others out₀ start place₀ passed₀ to₀ out place passed to =
+    (walkedIn side from sheet ≡ from) × Storing to (bytesBy side from sheet place (drop passed others)) out out₀ start
+    (bytesBy side from sheet at others)
 
 abbrev μ-loop : tie.MeasureT-loop
 μ-loop side from at sheet others out₀ start place₀ passed₀ to₀ out place passed to = length others - passed

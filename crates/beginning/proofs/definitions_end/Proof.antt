@@ -8,7 +8,9 @@ use Rattle.beginning.proofs.definitions_end.Statement.{statement}
 use Rattle.beginning.proofs.definitions_end.Tie as tie
 
 abbrev Inv-loop : tie.InvT-loop
-Inv-loop setup n end₀ place₀ left₀ end place left = (end + length (definitionListBytes 0 (rows left (drop place setup))) ≡ definitionsEnd (rows n (drop 1 setup))) × (end + 6 * left ≤ 33 + 6 * n + place) × (place ≤ length setup + 1)
+Inv-loop setup n end₀ place₀ left₀ end place left =
+    (end + length (definitionListBytes 0 (rows left (drop place setup))) ≡ definitionsEnd (rows n (drop 1 setup)))
+    × (end + 6 * left ≤ 33 + 6 * n + place) × (place ≤ length setup + 1)
 
 abbrev μ-loop : tie.MeasureT-loop
 μ-loop setup n end₀ place₀ left₀ end place left = left

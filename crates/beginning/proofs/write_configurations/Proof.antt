@@ -9,7 +9,9 @@ use Rattle.beginning.proofs.write_configurations.Statement.{statement}
 use Rattle.beginning.proofs.write_configurations.Tie as tie
 
 abbrev Inv-loop : tie.InvT-loop
-Inv-loop setup n first out₀ to₀ place₀ left₀ out to place left = (to + length (configurationsBytes (rows left (drop place setup))) ≤ length out) × (length out ≡ length out₀) × (sets out to (configurationsBytes (rows left (drop place setup))) ≡ sets out₀ first (configurationsBytes (rows n (drop 1 setup))))
+Inv-loop setup n first out₀ to₀ place₀ left₀ out to place left =
+    (to + length (configurationsBytes (rows left (drop place setup))) ≤ length out) × (length out ≡ length out₀)
+    × (sets out to (configurationsBytes (rows left (drop place setup))) ≡ sets out₀ first (configurationsBytes (rows n (drop 1 setup))))
 
 abbrev μ-loop : tie.MeasureT-loop
 μ-loop setup n first out₀ to₀ place₀ left₀ out to place left = left

@@ -9,7 +9,10 @@ use Rattle.beginning.proofs.write_definitions.Statement.{statement}
 use Rattle.beginning.proofs.write_definitions.Tie as tie
 
 abbrev Inv-loop : tie.InvT-loop
-Inv-loop setup n first out₀ offset₀ to₀ place₀ left₀ out offset to place left = (to + length (definitionListBytes offset (rows left (drop place setup))) ≤ length out) × (offset + length (configurationsBytes (rows left (drop place setup))) ≤ length out) × (length out ≡ length out₀) × (sets out to (definitionListBytes offset (rows left (drop place setup))) ≡ sets out₀ 34 (definitionListBytes first (rows n (drop 1 setup))))
+Inv-loop setup n first out₀ offset₀ to₀ place₀ left₀ out offset to place left =
+    (to + length (definitionListBytes offset (rows left (drop place setup))) ≤ length out)
+    × (offset + length (configurationsBytes (rows left (drop place setup))) ≤ length out) × (length out ≡ length out₀)
+    × (sets out to (definitionListBytes offset (rows left (drop place setup))) ≡ sets out₀ 34 (definitionListBytes first (rows n (drop 1 setup))))
 
 abbrev μ-loop : tie.MeasureT-loop
 μ-loop setup n first out₀ offset₀ to₀ place₀ left₀ out offset to place left = left

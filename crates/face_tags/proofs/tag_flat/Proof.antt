@@ -34,4 +34,5 @@ returns-3 : tie.Need-returns-3
 returns-3 c = search laws
 
 pub tag-flat-spec : {M : Type 1} → statement M
-tag-flat-spec = tie.close (tie.spec enum-known-answer enum-told tag-not-requires enum-known-answer-2 cast-tag-not tag-not-requires-2 returns returns-2 returns-3)
+tag-flat-spec = tie.close
+    (tie.spec enum-known-answer enum-told tag-not-requires enum-known-answer-2 cast-tag-not tag-not-requires-2 returns returns-2 returns-3)

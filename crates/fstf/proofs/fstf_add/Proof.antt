@@ -14,7 +14,9 @@ use Rattle.fstf.proofs.fstf_add.Lts as lts
 use Rattle.face_recording.proofs.add.Reads as add-reads
 
 -- the time that is passed on is the time that was given
-same-time : (g : FstfRecorder) (time x : ℤ) (exposure : ℕ) (s n o n' o' : List ℕ) (r : FstfTaken) → recorded r n' o' ≡ recordedFlat g (addOf (recorderAsked g) x exposure s n o) → x ≡ time → recorded r n' o' ≡ recordedFlat g (addOf (recorderAsked g) time exposure s n o)
+same-time : (g : FstfRecorder) (time x : ℤ) (exposure : ℕ) (s n o n' o' : List ℕ) (r : FstfTaken)
+    → recorded r n' o' ≡ recordedFlat g (addOf (recorderAsked g) x exposure s n o) → x ≡ time
+    → recorded r n' o' ≡ recordedFlat g (addOf (recorderAsked g) time exposure s n o)
 same-time g time x exposure s n o n' o' r h e = h ∙ ap (λ (z : ℤ). recordedFlat g (addOf (recorderAsked g) z exposure s n o)) e
 
 add-requires : tie.Need-add-requires

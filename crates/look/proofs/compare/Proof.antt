@@ -12,7 +12,9 @@ use Rattle.look.proofs.disagrees.Reads as disagrees-reads
 use Rattle.rows.proofs.row_at.Reads as row-at-reads
 
 abbrev Inv-loop : tie.InvT-loop
-Inv-loop table sheet places place₀ passed₀ left₀ place passed left = (passed + left ≤ length places) × (lookedBy table (beside (drop passed places) (changesAt sheet place left)) passed ≡ lookOf table sheet places)
+Inv-loop table sheet places place₀ passed₀ left₀ place passed left =
+    (passed + left ≤ length places)
+    × (lookedBy table (beside (drop passed places) (changesAt sheet place left)) passed ≡ lookOf table sheet places)
 
 abbrev μ-loop : tie.MeasureT-loop
 μ-loop table sheet places place₀ passed₀ left₀ place passed left = left

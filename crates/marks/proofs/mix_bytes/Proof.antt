@@ -11,7 +11,8 @@ use Rattle.marks.proofs.mix.Reads as mix-reads
 use Rattle.marks.proofs.wide.Reads as wide-reads
 
 abbrev Inv-loop : tie.InvT-loop
-Inv-loop s at n mark₀ i₀ left₀ mark i left = (mark < 1099511627776) × (i + left ≤ length s) × (mixBytes mark (take left (drop i s)) ≡ mixBytes 0 (take n (drop at s)))
+Inv-loop s at n mark₀ i₀ left₀ mark i left = (mark < 1099511627776) × (i + left ≤ length s)
+    × (mixBytes mark (take left (drop i s)) ≡ mixBytes 0 (take n (drop at s)))
 
 abbrev μ-loop : tie.MeasureT-loop
 μ-loop s at n mark₀ i₀ left₀ mark i left = left

@@ -11,7 +11,8 @@ use Rattle.marks.proofs.mix.Reads as mix-reads
 use Rattle.marks.proofs.word.Reads as word-reads
 
 abbrev Inv-loop : tie.InvT-loop
-Inv-loop s at words mark₀ i₀ left₀ mark i left = (mark < 1099511627776) × (i + 4 * left ≤ length s) × (mixWords left mark (drop i s) ≡ mixWords words 0 (drop at s))
+Inv-loop s at words mark₀ i₀ left₀ mark i left = (mark < 1099511627776) × (i + 4 * left ≤ length s)
+    × (mixWords left mark (drop i s) ≡ mixWords words 0 (drop at s))
 
 abbrev μ-loop : tie.MeasureT-loop
 μ-loop s at words mark₀ i₀ left₀ mark i left = left

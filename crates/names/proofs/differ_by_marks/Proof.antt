@@ -12,7 +12,8 @@ use Rattle.rows.proofs.row_at.Reads as row-at-reads
 use Rattle.names.proofs.stands_in.Reads as stands-in-reads
 
 abbrev Inv-loop : tie.InvT-loop
-Inv-loop s at n row marked₀ place₀ passed₀ left₀ marked place passed left = (passed + left ≡ n) × (length marked ≡ 512) × Passed marked s row at passed place
+Inv-loop s at n row marked₀ place₀ passed₀ left₀ marked place passed left =
+    (passed + left ≡ n) × (length marked ≡ 512) × Passed marked s row at passed place
 
 abbrev μ-loop : tie.MeasureT-loop
 μ-loop s at n row marked₀ place₀ passed₀ left₀ marked place passed left = left

@@ -12,7 +12,9 @@ use Rattle.rows.proofs.row_at.Reads as row-at-reads
 use Rattle.names.proofs.same_name.Reads as same-name-reads
 
 abbrev Inv-loop : tie.InvT-loop
-Inv-loop a here len s at n row place₀ passed₀ left₀ place passed left = (passed + left ≡ n) × (here + len ≤ length a) × (found (take len (drop here a)) left (rowName row) s passed place ≡ findName a here len s at n row)
+Inv-loop a here len s at n row place₀ passed₀ left₀ place passed left =
+    (passed + left ≡ n) × (here + len ≤ length a)
+    × (found (take len (drop here a)) left (rowName row) s passed place ≡ findName a here len s at n row)
 
 abbrev μ-loop : tie.MeasureT-loop
 μ-loop a here len s at n row place₀ passed₀ left₀ place passed left = left

@@ -10,7 +10,8 @@ use Rattle.number.proofs.write.Reads as reads
 use Rattle.number.proofs.write.Lts as lts
 
 abbrev Inv-loop : tie.InvT-loop
-Inv-loop out₀ at w n rest₀ i₀ out rest i = (i ≤ w) × (at + w ≤ length out) × (length out ≡ length out₀) × (sets out (at + i) (bytesOf (w - i) rest) ≡ sets out₀ at (bytesOf w n))
+Inv-loop out₀ at w n rest₀ i₀ out rest i = (i ≤ w) × (at + w ≤ length out) × (length out ≡ length out₀)
+    × (sets out (at + i) (bytesOf (w - i) rest) ≡ sets out₀ at (bytesOf w n))
 
 abbrev μ-loop : tie.MeasureT-loop
 μ-loop out₀ at w n rest₀ i₀ out rest i = w - i

@@ -7,7 +7,9 @@ use Rattle.opening.proofs.other_frames.Statement.{statement}
 use Rattle.opening.proofs.other_frames.Tie as tie
 
 abbrev Inv-loop : tie.InvT-loop
-Inv-loop file sections start count index first place₀ entry₀ last₀ left₀ place entry last left = (sections ≤ 8) × (entry + 16 * left ≤ length file) × (otherFrames file sections index first left place entry last ≡ otherFrames file sections index first count start (index + 4) first)
+Inv-loop file sections start count index first place₀ entry₀ last₀ left₀ place entry last left =
+    (sections ≤ 8) × (entry + 16 * left ≤ length file)
+    × (otherFrames file sections index first left place entry last ≡ otherFrames file sections index first count start (index + 4) first)
 
 abbrev μ-loop : tie.MeasureT-loop
 μ-loop file sections start count index first place₀ entry₀ last₀ left₀ place entry last left = left

@@ -9,7 +9,8 @@ use Rattle.parts.proofs.copy.Reads as reads
 use Rattle.parts.proofs.copy.Lts as lts
 
 abbrev Inv-loop : tie.InvT-loop
-Inv-loop from start to₀ at n i₀ to i = (i ≤ n) × (start + n ≤ length from) × (at + n ≤ length to) × (length to ≡ length to₀) × (sets to (at + i) (take (n - i) (drop (start + i) from)) ≡ sets to₀ at (take n (drop start from)))
+Inv-loop from start to₀ at n i₀ to i = (i ≤ n) × (start + n ≤ length from) × (at + n ≤ length to) × (length to ≡ length to₀)
+    × (sets to (at + i) (take (n - i) (drop (start + i) from)) ≡ sets to₀ at (take n (drop start from)))
 
 abbrev μ-loop : tie.MeasureT-loop
 μ-loop from start to₀ at n i₀ to i = n - i

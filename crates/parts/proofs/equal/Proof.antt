@@ -10,7 +10,8 @@ use Rattle.parts.proofs.equal.Reads as reads
 use Rattle.parts.proofs.equal.Lts as lts
 
 abbrev Inv-loop : tie.InvT-loop
-Inv-loop a here b there n i₀ j₀ left₀ i j left = (i + left ≤ length a) × (j + left ≤ length b) × (same (take left (drop i a)) (take left (drop j b)) ≡ samePart a here b there n)
+Inv-loop a here b there n i₀ j₀ left₀ i j left = (i + left ≤ length a) × (j + left ≤ length b)
+    × (same (take left (drop i a)) (take left (drop j b)) ≡ samePart a here b there n)
 
 abbrev μ-loop : tie.MeasureT-loop
 μ-loop a here b there n i₀ j₀ left₀ i j left = left

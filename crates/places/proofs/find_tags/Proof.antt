@@ -14,7 +14,9 @@ use Rattle.places.proofs.place_of.Reads as place-of-reads
 use Rattle.rows.proofs.row_at.Reads as row-at-reads
 
 abbrev Inv-loop : tie.InvT-loop
-Inv-loop table at sheet changes filter marks starts named₀ places₀ place₀ passed₀ left₀ named places place passed left = (covers filter (changeNamesAt sheet changes) ≡ true) × Known sheet 1 changes marks starts 0 × Walking table at (length named₀) sheet changes named₀ places₀ named places place passed left
+Inv-loop table at sheet changes filter marks starts named₀ places₀ place₀ passed₀ left₀ named places place passed left =
+    (covers filter (changeNamesAt sheet changes) ≡ true) × Known sheet 1 changes marks starts 0
+    × Walking table at (length named₀) sheet changes named₀ places₀ named places place passed left
 
 abbrev μ-loop : tie.MeasureT-loop
 μ-loop table at sheet changes filter marks starts named₀ places₀ place₀ passed₀ left₀ named places place passed left = left

@@ -15,7 +15,11 @@ use Rattle.marks.proofs.mark_of.Reads as mark-of-reads
 use Rattle.rows.proofs.row_at.Reads as row-at-reads
 
 abbrev Inv-loop : tie.InvT-loop
-Inv-loop sheet changes filter₀ marks₀ starts₀ place₀ passed₀ left₀ filter marks starts place passed left = (passed + length (names left (rowName row.Change) (drop place sheet)) ≡ length (changeNamesAt sheet changes)) × (length filter ≡ length filter₀) × (allMarked (names left (rowName row.Change) (drop place sheet)) filter ≡ allMarked (changeNamesAt sheet changes) filter₀) × Storing changeMark sheet changes marks₀ marks place passed left × Storing changeStart sheet changes starts₀ starts place passed left
+Inv-loop sheet changes filter₀ marks₀ starts₀ place₀ passed₀ left₀ filter marks starts place passed left =
+    (passed + length (names left (rowName row.Change) (drop place sheet)) ≡ length (changeNamesAt sheet changes))
+    × (length filter ≡ length filter₀)
+    × (allMarked (names left (rowName row.Change) (drop place sheet)) filter ≡ allMarked (changeNamesAt sheet changes) filter₀)
+    × Storing changeMark sheet changes marks₀ marks place passed left × Storing changeStart sheet changes starts₀ starts place passed left
 
 abbrev μ-loop : tie.MeasureT-loop
 μ-loop sheet changes filter₀ marks₀ starts₀ place₀ passed₀ left₀ filter marks starts place passed left = left

@@ -10,7 +10,8 @@ use Rattle.places.proofs.search_changes.Lts as lts
 use Rattle.places.proofs.is_named.Reads as is-named-reads
 
 abbrev Inv-loop : tie.InvT-loop
-Inv-loop table here len mark sheet changes marks starts passed₀ left₀ passed left = (here + len ≤ length table) × (mark ≡ markOf table here len) × Searching table here len sheet changes marks starts passed left
+Inv-loop table here len mark sheet changes marks starts passed₀ left₀ passed left =
+    (here + len ≤ length table) × (mark ≡ markOf table here len) × Searching table here len sheet changes marks starts passed left
 
 abbrev μ-loop : tie.MeasureT-loop
 μ-loop table here len mark sheet changes marks starts passed₀ left₀ passed left = left

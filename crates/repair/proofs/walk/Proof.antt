@@ -6,7 +6,8 @@ use Rattle.repair.proofs.walk.Statement.{statement}
 use Rattle.repair.proofs.walk.Tie as tie
 
 abbrev Inv-loop : tie.InvT-loop
-Inv-loop file sections start first count₀ place₀ last₀ common₀ left₀ count place last common left = (count + left ≤ 1000000) × (walkedFrom file sections first left last count common place ≡ walkedIn file sections start)
+Inv-loop file sections start first count₀ place₀ last₀ common₀ left₀ count place last common left =
+    (count + left ≤ 1000000) × (walkedFrom file sections first left last count common place ≡ walkedIn file sections start)
 
 abbrev μ-loop : tie.MeasureT-loop
 μ-loop file sections start first count₀ place₀ last₀ common₀ left₀ count place last common left = left

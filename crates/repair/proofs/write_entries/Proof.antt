@@ -9,7 +9,10 @@ use Rattle.repair.proofs.write_entries.Statement.{statement}
 use Rattle.repair.proofs.write_entries.Tie as tie
 
 abbrev Inv-loop : tie.InvT-loop
-Inv-loop file sections start first count common out₀ place₀ entry₀ left₀ out place entry left = (length out ≡ length out₀) × (entry + 16 * left ≤ length out) × (framesIn file sections left place ≡ left) × (alikeIn file sections common left place ≡ true) × (sets out entry (entriesIn file sections first left place) ≡ sets out₀ 4 (entriesIn file sections first count start))
+Inv-loop file sections start first count common out₀ place₀ entry₀ left₀ out place entry left =
+    (length out ≡ length out₀) × (entry + 16 * left ≤ length out) × (framesIn file sections left place ≡ left)
+    × (alikeIn file sections common left place ≡ true)
+    × (sets out entry (entriesIn file sections first left place) ≡ sets out₀ 4 (entriesIn file sections first count start))
 
 abbrev μ-loop : tie.MeasureT-loop
 μ-loop file sections start first count common out₀ place₀ entry₀ left₀ out place entry left = left

@@ -7,7 +7,8 @@ use Rattle.setup.proofs.legal_names.Statement.{statement}
 use Rattle.setup.proofs.legal_names.Tie as tie
 
 abbrev Inv-loop : tie.InvT-loop
-Inv-loop setup n place₀ left₀ place left = every legalSectionName (sectionNames (rows left (drop place setup))) ≡ every legalSectionName (sectionNames (rows n (drop 1 setup)))
+Inv-loop setup n place₀ left₀ place left = every legalSectionName (sectionNames (rows left (drop place setup))) ≡ every legalSectionName
+    (sectionNames (rows n (drop 1 setup)))
 
 abbrev μ-loop : tie.MeasureT-loop
 μ-loop setup n place₀ left₀ place left = left

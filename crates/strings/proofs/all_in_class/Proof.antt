@@ -11,7 +11,8 @@ use Rattle.strings.proofs.all_in_class.Lts as lts
 use Rattle.strings.proofs.in_class.Reads as in-class-reads
 
 abbrev Inv-loop : tie.InvT-loop
-Inv-loop s at n class i₀ left₀ i left = (i + left ≤ length s) × (every (inClass class) (take left (drop i s)) ≡ every (inClass class) (take n (drop at s)))
+Inv-loop s at n class i₀ left₀ i left = (i + left ≤ length s)
+    × (every (inClass class) (take left (drop i s)) ≡ every (inClass class) (take n (drop at s)))
 
 abbrev μ-loop : tie.MeasureT-loop
 μ-loop s at n class i₀ left₀ i left = left

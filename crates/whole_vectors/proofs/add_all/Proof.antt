@@ -9,7 +9,8 @@ use Rattle.whole_vectors.proofs.add.Reads as add-reads
 use Rattle.whole_vectors.proofs.frame_end.Reads as frame-end-reads
 
 abbrev Inv-loop : tie.InvT-loop
-Inv-loop fields at frames notes₀ out₀ file₀ recording₀ place₀ left₀ notes out file recording place left = (length notes ≡ length notes₀) × (length out ≡ length out₀) × (length file ≡ length file₀)
+Inv-loop fields at frames notes₀ out₀ file₀ recording₀ place₀ left₀ notes out file recording place left =
+    (length notes ≡ length notes₀) × (length out ≡ length out₀) × (length file ≡ length file₀)
 
 abbrev μ-loop : tie.MeasureT-loop
 μ-loop fields at frames notes₀ out₀ file₀ recording₀ place₀ left₀ notes out file recording place left = left
