@@ -1,5 +1,5 @@
--- The calls of this crate, one after another, are the browser's: the cursor of `first_tag`, given to `next_tag` k times, shows what the browser gives for
--- number k. Assumes nothing.
+-- The calls of this crate, one after another, are the browser's: the cursor of `first_tag`, given to `next_tag` k times, shows what the browser
+-- gives for number k. Assumes nothing.
 use Prim.Native.Nat.{ℕ, zero, suc}
 use mathlib.Core.Path.{_≡_, refl, ap, _∙_}
 use mathlib.Core.List.{List}

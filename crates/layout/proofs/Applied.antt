@@ -1,5 +1,5 @@
--- What a sheet does to a table: each tag that it names becomes what it says, the others stay as they are and in their order, and a legal table stays legal.
--- Assumes nothing.
+-- What a sheet does to a table: each tag that it names becomes what it says, the others stay as they are and in their order, and a legal table stays
+-- legal. Assumes nothing.
 use Prim.Native.Nat.{ℕ, zero, suc, _≤_, _<_}
 use native.Mathlib.Omega.{arith}
 use mathlib.Core.Path.{_≡_, refl, ap, _∙_}

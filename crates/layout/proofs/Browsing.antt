@@ -1,5 +1,5 @@
--- The tag browser gives the tags of a table one after another, then the end, and stays there; a tag by its name is found where the table has it; and both are
--- refused 7 exactly where the bytes are no legal table. Assumes nothing.
+-- The tag browser gives the tags of a table one after another, then the end, and stays there; a tag by its name is found where the table has it; and
+-- both are refused 7 exactly where the bytes are no legal table. Assumes nothing.
 use Prim.Native.Nat.{ℕ, zero, suc, _+_, _≤_, _<_}
 use native.Mathlib.Omega.{arith}
 use mathlib.Core.Path.{_≡_, refl, ap, sym, _∙_}
@@ -95,8 +95,8 @@ module _ (ts : List Tag) (l : legalTable ts ≡ true) where
   table-stands : Stands (tableBytes ts) 0 (tableBytes ts)
   table-stands = record { rest = []; stands = sym (append-nil (tableBytes ts)); inside = omega arith }
 
-  -- Below the count the browser gives tag i: the bytes at the one part are its name, at the other its value, which starts behind the name and the value's
-  -- length byte and lies in the table; and the cursor goes one further.
+  -- Below the count the browser gives tag i: the bytes at the one part are its name, at the other its value, which starts behind the name and the
+  -- value's length byte and lies in the table; and the cursor goes one further.
   pub browse-tag : (i : ℕ)
       → i < length ts
       → (n : Part)

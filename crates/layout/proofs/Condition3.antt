@@ -42,7 +42,8 @@ atCall notes calls q = session (started notes) (take q calls)
 unfoldable pub closedThere : (room : ℕ) → Session → Session
 closedThere room ss = session ss (closes room ∷ closes room ∷ closes room ∷ closes room ∷ closes room ∷ [])
 
--- The moment right after the last complete frame: the recording was running, all it had handed out is in the cut, and no later such moment has more frames.
+-- The moment right after the last complete frame: the recording was running, all it had handed out is in the cut, and no later such moment has more
+-- frames.
 pub record LastComplete (notes : List ℕ) (calls : List Call) (m q : ℕ) : Type 0 where
   pub isRunning : atCall notes calls q .state .stage ≡ running
   pub inTheCut : length (writes (atCall notes calls q .pieces)) ≤ m
@@ -261,9 +262,9 @@ opens-whole notes calls m h o = go (traced notes calls h)
     go (inl f) = absurd (omega (arith, opens-long [] (ap refusal (sym (cut-none notes calls m (f .1))) ∙ o)))
     go (inr (k, t)) = whole notes calls m k h t o
 
--- Cut after any byte m of all that was handed out, the opening piece being complete: there is such a moment, closing there ends in a closed recording,
--- and the cut file is already that closed file and repair says 16, or, given room, repair gives that file byte for byte.
--- Premises: what the calls were lent are bytes and numbers of their types; the room of the five close calls holds each piece.
+-- Cut after any byte m of all that was handed out, the opening piece being complete: there is such a moment, closing there ends in a closed
+-- recording, and the cut file is already that closed file and repair says 16, or, given room, repair gives that file byte for byte. Premises: what
+-- the calls were lent are bytes and numbers of their types; the room of the five close calls holds each piece.
 pub cut-recovers : (notes : List ℕ) (calls : List Call) (m : ℕ) (opening : Piece) (others : List Piece)
     → every callFits calls ≡ true
     → ours notes calls .pieces ≡ opening ∷ others
@@ -324,8 +325,8 @@ recovered-room : (f whole : List ℕ) (out : ℕ) → Recovers f whole → refus
 recovered-room f whole out (inl (e, w)) s n o = absurd (n (ap refusal e ∙ s))
 recovered-room f whole out (inr k) s n o = repair-room f (length (tail f)) out (k (length (tail f)) (omega arith) .0) o
 
--- What the recovered file holds: for the moment right after the last complete frame, either the cut file opens and shows, or, given room, the repaired file
--- opens and shows, exactly what the calls up to that moment gave: every frame accepted by then, and nothing else.
+-- What the recovered file holds: for the moment right after the last complete frame, either the cut file opens and shows, or, given room, the
+-- repaired file opens and shows, exactly what the calls up to that moment gave: every frame accepted by then, and nothing else.
 pub cut-holds : (notes : List ℕ) (calls : List Call) (m q : ℕ) (opening : Piece) (others : List Piece)
     → every callFits calls ≡ true
     → ours notes calls .pieces ≡ opening ∷ others
@@ -382,8 +383,8 @@ cut-early notes calls m out opening others h p l = go (traced notes calls h)
 pub cut-nothing : (notes : List ℕ) (calls : List Call) (m out : ℕ) → ours notes calls .pieces ≡ [] → repair (ourCut notes calls m) out .refused ≡ 1
 cut-nothing notes calls m out e = rw (cut-none notes calls m e) (empty-repair out)
 
--- Opening a cut file, wherever it was cut, never shows anything but the whole recording: if it opens, the recording was closed, the file is the whole one,
--- and it shows all that the calls were given.
+-- Opening a cut file, wherever it was cut, never shows anything but the whole recording: if it opens, the recording was closed, the file is the
+-- whole one, and it shows all that the calls were given.
 pub cut-shows-whole : (notes : List ℕ) (calls : List Call) (m : ℕ)
     → every callFits calls ≡ true
     → refusal (ourCut notes calls m) ≡ 0

@@ -1,5 +1,5 @@
--- What the card holds after any byte of a recording's pieces: the opening with some count, index offset and user offset, then a part of what stands behind.
--- Assumes nothing.
+-- What the card holds after any byte of a recording's pieces: the opening with some count, index offset and user offset, then a part of what stands
+-- behind. Assumes nothing.
 use Prim.Native.Nat.{ℕ, zero, suc, _+_, _-_, _^_, _≤_, _<_, min}
 use native.Mathlib.Omega.{arith}
 use native.Mathlib.Nat.{zero-add, add-zero}

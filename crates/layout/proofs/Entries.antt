@@ -103,7 +103,8 @@ unfolding indexBytes
 index-count r l = number-stands 4 (length (r .frames)) (omega (arith, l .framesFew))
     (stands-front (bytesOf 4 (length (r .frames))) (entriesBytes (firstTime (r .frames)) (framesStart r) (r .frames)) (index-stands r))
 
--- and entry i, at 4 + 16·i from the index, holds the frame's time since the first frame, the offset of its mark, and its length from the mark to its last byte.
+-- and entry i, at 4 + 16·i from the index, holds the frame's time since the first frame, the offset of its mark, and its length from the mark to its
+-- last byte.
 pub index-entry : (r : Recording) (i : ℕ)
     → Legal r
     → i < length (r .frames)

@@ -1,5 +1,5 @@
--- "A recording of ours starts from a fresh state": any state whose stage is fresh, whatever its numbers. A session from it goes as the one from the fresh
--- state with zeros, and so every claim about recordings and cuts holds of it. Assumes nothing.
+-- "A recording of ours starts from a fresh state": any state whose stage is fresh, whatever its numbers. A session from it goes as the one from the
+-- fresh state with zeros, and so every claim about recordings and cuts holds of it. Assumes nothing.
 use Prim.Native.Nat.{ℕ, zero, suc, _≤_, _<_}
 use native.Mathlib.Omega.{arith}
 use mathlib.Core.Path.{_≡_, refl, ap, sym, _∙_}

@@ -1,5 +1,5 @@
--- Document 01's places, limits and byte classes as one table under one claim, beside P1 to P12: what stands at each end is accepted and what stands one past
--- it refused, the answers written by hand from the document. Assumes nothing.
+-- Document 01's places, limits and byte classes as one table under one claim, beside P1 to P12: what stands at each end is accepted and what stands
+-- one past it refused, the answers written by hand from the document. Assumes nothing.
 use Prim.Native.Nat.{ℕ, zero, suc, _+_, _^_, _≤_}
 use mathlib.Core.Path.{_≡_}
 use mathlib.Core.Bool.{Bool, true, false, not, _&&_}
@@ -91,7 +91,8 @@ sheetAs seen new = 1 ∷ 1 ∷ 65 ∷ seen ++ new
 
 pub limitRows : List Row
 limitRows =
-    -- "Header, 33 bytes: 46 53 54 46; revision byte 1; frame count UInt32 at 5; index offset UInt64 at 9; system table offset at 17; user table offset at 25"
+    -- "Header, 33 bytes: 46 53 54 46; revision byte 1; frame count UInt32 at 5; index offset UInt64 at 9; system table offset at 17; user table
+    -- offset at 25"
     row (headerBytes 0x04030201 0x0B 0x0C 0x0D)
     (0x46 ∷ 0x53 ∷ 0x54 ∷ 0x46 ∷ 0x01 ∷ 0x01 ∷ 0x02 ∷ 0x03 ∷ 0x04 ∷ 0x0B ∷ replicate 7 0 ++ 0x0C ∷ replicate 7 0 ++ 0x0D ∷ replicate 7 0)
     -- the same read, of a header in which each byte is its own place
@@ -166,7 +167,8 @@ limitRows =
     -- "n into the first four bytes of lent notes and the new entry at 16·n − 12; their other bytes stay"
     ∷ row (add (stateWith running 1 1 1000 1000 0x64) 1005 40 (replicate 4 0) (replicate 38 7) 20 .notes)
     (2 ∷ 0 ∷ 0 ∷ 0 ∷ replicate 16 7 ++ 5 ∷ 0 ∷ 0 ∷ 0 ∷ 0x64 ∷ replicate 7 0 ++ 20 ∷ 0 ∷ 0 ∷ 0 ∷ 7 ∷ 7 ∷ [])
-    -- "index (the first 4 + 16·n bytes of the notes ..), an empty user table (four zeros), the count at 5, the user offset at 25, the index offset at 9"
+    -- "index (the first 4 + 16·n bytes of the notes ..), an empty user table (four zeros), the count at 5, the user offset at 25, the index offset
+    -- at 9"
     ∷ row (flatMap pieceBytes (session (record { state = stateWith running 1 1 0 0 0x4A; notes = replicate 25 7; pieces = [] })
     (replicate 6 (closes 20)) .pieces))
     (0x4A ∷ 20 ∷ replicate 20 7 ++ 0x5E ∷ 4 ∷ replicate 4 0 ++ 5 ∷ 4 ∷ 1 ∷ 0 ∷ 0 ∷ 0 ∷ 25 ∷ 8 ∷ 0x5E ∷ replicate 7 0 ++ 9 ∷ 8 ∷ 0x4A ∷ replicate 7 0)
@@ -182,9 +184,9 @@ limitRows =
     -- "a seen kind (0 absent, 1 a value, which follows, 2 nobody looked); a new kind (0 absent, 1 a value, which follows)"
     ∷ row (map (λ s. reads sheet (sheetAs s (0 ∷ []))) ((0 ∷ []) ∷ (1 ∷ 1 ∷ 66 ∷ []) ∷ (2 ∷ []) ∷ (3 ∷ []) ∷ [])) (1 ∷ 1 ∷ 1 ∷ 0 ∷ [])
     ∷ row (map (λ n. reads sheet (sheetAs (0 ∷ []) n)) ((0 ∷ []) ∷ (1 ∷ 1 ∷ 66 ∷ []) ∷ (2 ∷ []) ∷ [])) (1 ∷ 1 ∷ 0 ∷ [])
-    -- Limits of lists that are too long to compute with, as equations on their constants: a last configuration of 65,535 bytes, 1,000 tags, a section of
-    -- 16,777,216 bytes, 1,000,000 frames in a file, the largest table of 4 + 1,000 · 512 bytes, a user table at 2^40 − 512,004. What they do to recordings
-    -- is said below.
+    -- Limits of lists that are too long to compute with, as equations on their constants: a last configuration of 65,535 bytes, 1,000 tags, a
+    -- section of 16,777,216 bytes, 1,000,000 frames in a file, the largest table of 4 + 1,000 · 512 bytes, a user table at 2^40 − 512,004. What they
+    -- do to recordings is said below.
     ∷ row (longestConfiguration ∷ mostTags ∷ longestSection ∷ mostFrames ∷ largestTable ∷ largestUserOffset ∷ [])
     (65535 ∷ 1000 ∷ 16777216 ∷ 1000000 ∷ 512004 ∷ 1099511115772 ∷ [])
     ∷ []

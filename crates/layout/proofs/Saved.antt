@@ -140,8 +140,8 @@ lowest-conflict ts (c ∷ cs) e = go (conflicts ts c) refl e (lowest-conflict ts
     go true p q l = (omega arith, p, λ i h. absurd (omega arith))
     go false p q l = (omega (arith, l q .0), l q .1, below (conflictPlace ts cs) p (l q .2))
 
--- A save is accepted exactly when the file opens, the sheet is well formed, no seen entry disagrees with the table, the new table has at most 1,000 tags,
--- and there is room for it.
+-- A save is accepted exactly when the file opens, the sheet is well formed, no seen entry disagrees with the table, the new table has at most 1,000
+-- tags, and there is room for it.
 pub save-accepted : (f bytes : List ℕ) (room : ℕ)
     → (save f bytes room .refused ≡ 0)
     ↔ ((refusal f ≡ 0) × (isBad (exactly sheet bytes) ≡ false)
@@ -174,8 +174,8 @@ pub saved-others : (f bytes : List ℕ) (room : ℕ)
 unfolding newTable
 saved-others f bytes room a = applied-others (changesOf bytes) (userTags f)
 
--- and the new table's names are the old ones that the sheet does not remove, in their order, and then, in sheet order, those that the sheet gives a value
--- and the old table had not. So a changed tag keeps its place, removed tags vanish, and new ones come last.
+-- and the new table's names are the old ones that the sheet does not remove, in their order, and then, in sheet order, those that the sheet gives a
+-- value and the old table had not. So a changed tag keeps its place, removed tags vanish, and new ones come last.
 pub saved-places : (f bytes : List ℕ)
     → tagNames (newTable f bytes) ≡ those (λ n. not (removes (changesOf bytes) n)) (tagNames (userTags f))
     ++ changeNames (those (brings (userTags f)) (changesOf bytes))

@@ -225,7 +225,8 @@ pub sheet-read : (cs : List Change) → legalSheet cs ≡ true → (isBad (exact
 unfolding changesOf valueOr
 sheet-read cs h = let e = exactly-takes legalSheet sheetBytes sheet sheet-exact cs h in (rw e, rw e)
 
--- 10, "a change sheet is malformed", holds of all bytes but the sheets of legal changes: what is well formed is the sheet of the changes that are read.
+-- 10, "a change sheet is malformed", holds of all bytes but the sheets of legal changes: what is well formed is the sheet of the changes that are
+-- read.
 pub sheet-given : (bytes : List ℕ)
     → areBytes bytes ≡ true
     → isBad (exactly sheet bytes) ≡ false

@@ -1,5 +1,5 @@
--- The code's calls in a row are the session of the definitions' calls: the same state, the same notes and the same pieces. So conditions 2 and 3 hold of
--- what the code itself hands out. Assumes nothing.
+-- The code's calls in a row are the session of the definitions' calls: the same state, the same notes and the same pieces. So conditions 2 and 3
+-- hold of what the code itself hands out. Assumes nothing.
 use Prim.Native.Nat.{ℕ, zero, suc, _^_, _≤_}
 use mathlib.Core.Path.{_≡_, refl, ap, sym, _∙_, subst}
 use mathlib.Core.Bool.{true, _&&_}
