@@ -75,9 +75,9 @@ static inline const char *fstf_refusal_name(uint64_t refused) {
 }
 
 /* ── Version ── of this header and of the library that belongs to it. */
-#define FSTF_VERSION "0.1.0"
+#define FSTF_VERSION "0.2.0"
 #define FSTF_VERSION_MAJOR 0
-#define FSTF_VERSION_MINOR 1
+#define FSTF_VERSION_MINOR 2
 #define FSTF_VERSION_PATCH 0
 
 /* ── Places and limits of the format ── Numbers in a file have their low byte first. */

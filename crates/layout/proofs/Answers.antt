@@ -32,17 +32,10 @@ is-accepted st notes zero step e h = eq-eqb (step .refused) 0 e
 is-accepted st notes (suc n) step e h = absurd (omega arith)
 
 -- A call is accepted, and the session goes on by its step, or it is refused, and the session is as it was.
-pub answered : (ss : Session) (n : ℕ) (step : Step) → step .refused ≡ 0
-    → ((n ≡ 0) × (passedOn ss (answer n (ss .state) (ss .notes) step) ≡ goesOn ss step)
-    × (accepted (answer n (ss .state) (ss .notes) step) ≡ true)) ⊎
-    ((passedOn ss (answer n (ss .state) (ss .notes) step) ≡ ss) × (accepted (answer n (ss .state) (ss .notes) step) ≡ false))
+pub answered : (ss : Session) (n : ℕ) (step : Step) → step .refused ≡ 0 → ((n ≡ 0) × (passedOn ss (answer n (ss .state) (ss .notes) step) ≡ goesOn ss step) × (accepted (answer n (ss .state) (ss .notes) step) ≡ true)) ⊎ ((passedOn ss (answer n (ss .state) (ss .notes) step) ≡ ss) × (accepted (answer n (ss .state) (ss .notes) step) ≡ false))
 unfolding passedOn pieceOf answer accepted
 answered ss zero step e = inl (refl, goes-on ss zero step e refl, is-accepted (ss .state) (ss .notes) zero step e refl)
-answered ss (suc n) step e =
-    inr (
-      ap {B = Session} (λ (l : List Piece). record { state = ss .state; notes = ss .notes; pieces = l }) (append-nil (ss .pieces)),
-      eqb·suc-zero n,
-    )
+answered ss (suc n) step e = inr (ap {B = Session} (λ (l : List Piece). record { state = ss .state; notes = ss .notes; pieces = l }) (append-nil (ss .pieces)), eqb·suc-zero n)
 
 -- ── The state's numbers ──
 

@@ -1,5 +1,5 @@
--- What a sheet does to a table: each tag that it names becomes what it says, the others stay as they are and in their order, and a legal table stays
--- legal. Assumes nothing.
+-- What a sheet does to a table: each tag that it names becomes what it says, the others stay as they are and in their order, and a legal table stays legal.
+-- Assumes nothing.
 use Prim.Native.Nat.{ℕ, zero, suc, _≤_, _<_}
 use native.Mathlib.Omega.{arith}
 use mathlib.Core.Path.{_≡_, refl, ap, _∙_}
@@ -66,8 +66,7 @@ lookUp-absent n (t ∷ ts) h =
     cond-false (same n (t .name)) (holds (t .value)) (lookUp n ts) (o .0) ∙ lookUp-absent n ts (o .1)
 
 -- a new tag is put in only where the table has none of its name
-new-step : (ts : List Tag) (c : Change) (cs : List Change) → newTags ts (c ∷ cs) ≡ tagWith (c .name)
-    (cond (among (c .name) (tagNames ts)) absent (c .new)) ++ newTags ts cs
+new-step : (ts : List Tag) (c : Change) (cs : List Change) → newTags ts (c ∷ cs) ≡ tagWith (c .name) (cond (among (c .name) (tagNames ts)) absent (c .new)) ++ newTags ts cs
 unfolding newTags tagWith
 new-step ts c cs = go (among (c .name) (tagNames ts))
   where
@@ -78,15 +77,13 @@ new-step ts c cs = go (among (c .name) (tagNames ts))
 -- ── What the sheet says of a name ──
 
 -- changes of distinct names: the one of a tag's name says what becomes of that tag,
-newEntry-at : (cs : List Change) (i : ℕ) (t : Tag) → distinct (changeNames cs) ≡ true → i < length cs → getD cs i noChange .name ≡ t .name
-    → newEntry cs t ≡ getD cs i noChange .new
+newEntry-at : (cs : List Change) (i : ℕ) (t : Tag) → distinct (changeNames cs) ≡ true → i < length cs → getD cs i noChange .name ≡ t .name → newEntry cs t ≡ getD cs i noChange .new
 unfolding newEntry distinct changeNames
 newEntry-at [] i t d h e = absurd (omega arith)
 newEntry-at (c ∷ cs) zero t d h e = cond-true (same (c .name) (t .name)) (c .new) (newEntry cs t) (rw e (same-refl (t .name)))
 newEntry-at (c ∷ cs) (suc i) t d h e =
     let b = both-true (not (among (c .name) (changeNames cs))) (distinct (changeNames cs)) d in
-    let o : same (c .name) (getD cs i noChange .name) ≡ false =
-    among-other (c .name) (getD cs i noChange .name) (changeNames cs) (not-true _ (b .0)) (among-at cs i (omega arith)) in
+    let o : same (c .name) (getD cs i noChange .name) ≡ false = among-other (c .name) (getD cs i noChange .name) (changeNames cs) (not-true _ (b .0)) (among-at cs i (omega arith)) in
     cond-false (same (c .name) (t .name)) (c .new) (newEntry cs t) (rw e at o) ∙ newEntry-at cs i t (b .1) (omega arith) e
 
 -- and where there is none the tag stays
@@ -122,16 +119,13 @@ unfolding lookUp tagWith found
 lookUp-own n m absent ts d = refl
 lookUp-own n m (holds v) ts d = rw d
 
-lookUp-kept : (n : List ℕ) (e : Entry) (cs : List Change) (ts rest : List Tag) → ((t : Tag) → n ≡ t .name → newEntry cs t ≡ e)
-    → lookUp n (keptTags cs ts ++ rest) ≡ found (among n (tagNames ts)) e (lookUp n rest)
+lookUp-kept : (n : List ℕ) (e : Entry) (cs : List Change) (ts rest : List Tag) → ((t : Tag) → n ≡ t .name → newEntry cs t ≡ e) → lookUp n (keptTags cs ts ++ rest) ≡ found (among n (tagNames ts)) e (lookUp n rest)
 unfolding keptTags among tagNames found
 lookUp-kept n e cs [] rest p = refl
 lookUp-kept n e cs (t ∷ ts) rest p = rw append-assoc (go (same n (t .name)) refl (lookUp-kept n e cs ts rest p))
   where
-    go : (b : Bool) → same n (t .name) ≡ b → lookUp n (keptTags cs ts ++ rest) ≡ found (among n (tagNames ts)) e (lookUp n rest)
-        → lookUp n (tagWith (t .name) (newEntry cs t) ++ (keptTags cs ts ++ rest)) ≡ found (b || among n (tagNames ts)) e (lookUp n rest)
-    go true s i = lookUp-own n (t .name) (newEntry cs t) _ s
-        ∙ rw (p t (same-true n (t .name) s), i) (found-again (among n (tagNames ts)) e (lookUp n rest))
+    go : (b : Bool) → same n (t .name) ≡ b → lookUp n (keptTags cs ts ++ rest) ≡ found (among n (tagNames ts)) e (lookUp n rest) → lookUp n (tagWith (t .name) (newEntry cs t) ++ (keptTags cs ts ++ rest)) ≡ found (b || among n (tagNames ts)) e (lookUp n rest)
+    go true s i = lookUp-own n (t .name) (newEntry cs t) _ s ∙ rw (p t (same-true n (t .name) s), i) (found-again (among n (tagNames ts)) e (lookUp n rest))
     go false s i = lookUp-past n (t .name) (newEntry cs t) _ s ∙ i
 
 -- the new tags have no name that the table has,
@@ -140,8 +134,7 @@ unfolding newTags among tagNames
 new-old n ts [] h = refl
 new-old n ts (c ∷ cs) h = go (among (c .name) (tagNames ts)) refl (new-old n ts cs h)
   where
-    go : (b : Bool) → among (c .name) (tagNames ts) ≡ b → among n (tagNames (newTags ts cs)) ≡ false
-        → among n (tagNames (cond b [] (tagWith (c .name) (c .new)) ++ newTags ts cs)) ≡ false
+    go : (b : Bool) → among (c .name) (tagNames ts) ≡ b → among n (tagNames (newTags ts cs)) ≡ false → among n (tagNames (cond b [] (tagWith (c .name) (c .new)) ++ newTags ts cs)) ≡ false
     go true e i = i
     go false e i = among-past n (c .name) (c .new) (newTags ts cs) (same-sym (c .name) n (among-other (c .name) n (tagNames ts) e h)) ∙ i
 
@@ -153,27 +146,21 @@ new-other n ts (c ∷ cs) h =
     let o = or-false (same n (c .name)) (among n (changeNames cs)) h in
     rw (new-step ts c cs) (among-past n (c .name) _ (newTags ts cs) (o .0) ∙ new-other n ts cs (o .1))
 
-lookUp-new : (ts : List Tag) (cs : List Change) (i : ℕ) → distinct (changeNames cs) ≡ true → i < length cs
-    → among (getD cs i noChange .name) (tagNames ts) ≡ false → lookUp (getD cs i noChange .name) (newTags ts cs) ≡ getD cs i noChange .new
+lookUp-new : (ts : List Tag) (cs : List Change) (i : ℕ) → distinct (changeNames cs) ≡ true → i < length cs → among (getD cs i noChange .name) (tagNames ts) ≡ false → lookUp (getD cs i noChange .name) (newTags ts cs) ≡ getD cs i noChange .new
 unfolding distinct changeNames
 lookUp-new ts [] i d h o = absurd (omega arith)
 lookUp-new ts (c ∷ cs) zero d h o =
     let b = both-true (not (among (c .name) (changeNames cs))) (distinct (changeNames cs)) d in
-    rw (new-step ts c cs, o) (lookUp-own (c .name) (c .name) (c .new) (newTags ts cs) (same-refl (c .name))
-    ∙ rw (lookUp-absent (c .name) (newTags ts cs) (new-other (c .name) ts cs (not-true _ (b .0)))) (found-alone (c .new)))
+    rw (new-step ts c cs, o) (lookUp-own (c .name) (c .name) (c .new) (newTags ts cs) (same-refl (c .name)) ∙ rw (lookUp-absent (c .name) (newTags ts cs) (new-other (c .name) ts cs (not-true _ (b .0)))) (found-alone (c .new)))
 lookUp-new ts (c ∷ cs) (suc i) d h o =
     let b = both-true (not (among (c .name) (changeNames cs))) (distinct (changeNames cs)) d in
     let n = getD cs i noChange .name in
-    rw (new-step ts c cs) (lookUp-past n (c .name) _ (newTags ts cs)
-    (same-sym (c .name) n (among-other (c .name) n (changeNames cs) (not-true _ (b .0)) (among-at cs i (omega arith))))
-    ∙ lookUp-new ts cs i (b .1) (omega arith) o)
+    rw (new-step ts c cs) (lookUp-past n (c .name) _ (newTags ts cs) (same-sym (c .name) n (among-other (c .name) n (changeNames cs) (not-true _ (b .0)) (among-at cs i (omega arith)))) ∙ lookUp-new ts cs i (b .1) (omega arith) o)
 
 -- Each tag that the sheet names is what it says.
-pub applied-named : (cs : List Change) (ts : List Tag) (i : ℕ) → distinct (changeNames cs) ≡ true → i < length cs
-    → lookUp (getD cs i noChange .name) (applied cs ts) ≡ getD cs i noChange .new
+pub applied-named : (cs : List Change) (ts : List Tag) (i : ℕ) → distinct (changeNames cs) ≡ true → i < length cs → lookUp (getD cs i noChange .name) (applied cs ts) ≡ getD cs i noChange .new
 unfolding applied found
-applied-named cs ts i d h = lookUp-kept n (getD cs i noChange .new) cs ts (newTags ts cs) (λ t e. newEntry-at cs i t d h e)
-    ∙ go (among n (tagNames ts)) refl
+applied-named cs ts i d h = lookUp-kept n (getD cs i noChange .new) cs ts (newTags ts cs) (λ t e. newEntry-at cs i t d h e) ∙ go (among n (tagNames ts)) refl
   where
     n : List ℕ
     n = getD cs i noChange .name
@@ -189,8 +176,7 @@ unfolding unnamed
 unnamed-append cs [] ys = refl
 unnamed-append cs (x ∷ xs) ys = go (among (x .name) (changeNames cs)) (unnamed-append cs xs ys)
   where
-    go : (b : Bool) → unnamed cs (xs ++ ys) ≡ unnamed cs xs ++ unnamed cs ys
-        → cond b (unnamed cs (xs ++ ys)) (x ∷ unnamed cs (xs ++ ys)) ≡ cond b (unnamed cs xs) (x ∷ unnamed cs xs) ++ unnamed cs ys
+    go : (b : Bool) → unnamed cs (xs ++ ys) ≡ unnamed cs xs ++ unnamed cs ys → cond b (unnamed cs (xs ++ ys)) (x ∷ unnamed cs (xs ++ ys)) ≡ cond b (unnamed cs xs) (x ∷ unnamed cs xs) ++ unnamed cs ys
     go true i = i
     go false i = ap (λ (l : List Tag). x ∷ l) i
 
@@ -203,28 +189,23 @@ unnamed-named cs n (holds v) h = rw h
 unnamed-kept : (cs : List Change) (ts : List Tag) → unnamed cs (keptTags cs ts) ≡ unnamed cs ts
 unfolding unnamed keptTags tagWith
 unnamed-kept cs [] = refl
-unnamed-kept cs (t ∷ ts) = unnamed-append cs (tagWith (t .name) (newEntry cs t)) (keptTags cs ts)
-    ∙ go (among (t .name) (changeNames cs)) refl (unnamed-kept cs ts)
+unnamed-kept cs (t ∷ ts) = unnamed-append cs (tagWith (t .name) (newEntry cs t)) (keptTags cs ts) ∙ go (among (t .name) (changeNames cs)) refl (unnamed-kept cs ts)
   where
-    go : (b : Bool) → among (t .name) (changeNames cs) ≡ b → unnamed cs (keptTags cs ts) ≡ unnamed cs ts
-        → unnamed cs (tagWith (t .name) (newEntry cs t)) ++ unnamed cs (keptTags cs ts) ≡ cond b (unnamed cs ts) (t ∷ unnamed cs ts)
+    go : (b : Bool) → among (t .name) (changeNames cs) ≡ b → unnamed cs (keptTags cs ts) ≡ unnamed cs ts → unnamed cs (tagWith (t .name) (newEntry cs t)) ++ unnamed cs (keptTags cs ts) ≡ cond b (unnamed cs ts) (t ∷ unnamed cs ts)
     go true e i = rw (unnamed-named cs (t .name) (newEntry cs t) e, i)
     go false e i = rw (newEntry-other cs t e, i, e)
 
 -- all the new tags have names of the sheet
-unnamed-new : (cs : List Change) (ts : List Tag) (ds : List Change)
-    → ((i : ℕ) → i < length ds → among (getD ds i noChange .name) (changeNames cs) ≡ true) → unnamed cs (newTags ts ds) ≡ []
+unnamed-new : (cs : List Change) (ts : List Tag) (ds : List Change) → ((i : ℕ) → i < length ds → among (getD ds i noChange .name) (changeNames cs) ≡ true) → unnamed cs (newTags ts ds) ≡ []
 unfolding unnamed newTags
 unnamed-new cs ts [] p = refl
 unnamed-new cs ts (d ∷ ds) p =
-    rw (new-step ts d ds) (unnamed-append cs (tagWith (d .name) _) (newTags ts ds)
-    ∙ rw (unnamed-named cs (d .name) _ (p 0 (omega arith)), unnamed-new cs ts ds (λ i h. p (suc i) (omega arith))))
+    rw (new-step ts d ds) (unnamed-append cs (tagWith (d .name) _) (newTags ts ds) ∙ rw (unnamed-named cs (d .name) _ (p 0 (omega arith)), unnamed-new cs ts ds (λ i h. p (suc i) (omega arith))))
 
 -- No other tag changes, in value or in order.
 pub applied-others : (cs : List Change) (ts : List Tag) → unnamed cs (applied cs ts) ≡ unnamed cs ts
 unfolding applied
-applied-others cs ts = unnamed-append cs (keptTags cs ts) (newTags ts cs)
-    ∙ rw (unnamed-kept cs ts, unnamed-new cs ts cs (among-at cs)) (append-nil (unnamed cs ts))
+applied-others cs ts = unnamed-append cs (keptTags cs ts) (newTags ts cs) ∙ rw (unnamed-kept cs ts, unnamed-new cs ts cs (among-at cs)) (append-nil (unnamed cs ts))
 
 -- ── The order of the names ──
 
@@ -252,8 +233,7 @@ unfolding newEntry removes isAbsent
 removes-is [] t = refl
 removes-is (c ∷ cs) t = go (same (c .name) (t .name)) (removes-is cs t)
   where
-    go : (b : Bool) → isAbsent (newEntry cs t) ≡ removes cs (t .name)
-        → isAbsent (cond b (c .new) (newEntry cs t)) ≡ cond b (isAbsent (c .new)) (removes cs (t .name))
+    go : (b : Bool) → isAbsent (newEntry cs t) ≡ removes cs (t .name) → isAbsent (cond b (c .new) (newEntry cs t)) ≡ cond b (isAbsent (c .new)) (removes cs (t .name))
     go true i = refl
     go false i = i
 
@@ -264,8 +244,7 @@ names-with n absent ts = refl
 names-with n (holds v) ts = refl
 
 -- the kept tags' names, and those behind them
-names-kept : (cs : List Change) (ts rest : List Tag) → tagNames (keptTags cs ts ++ rest) ≡ those (λ n. not (removes cs n)) (tagNames ts)
-    ++ tagNames rest
+names-kept : (cs : List Change) (ts rest : List Tag) → tagNames (keptTags cs ts ++ rest) ≡ those (λ n. not (removes cs n)) (tagNames ts) ++ tagNames rest
 unfolding keptTags tagNames those
 names-kept cs [] rest = refl
 names-kept cs (t ∷ ts) rest =
@@ -275,8 +254,7 @@ names-kept cs (t ∷ ts) rest =
     olds : List (List ℕ)
     olds = those (λ n. not (removes cs n)) (tagNames ts)
 
-    go : (b : Bool) → tagNames (keptTags cs ts ++ rest) ≡ olds ++ tagNames rest
-        → cond b (t .name ∷ tagNames (keptTags cs ts ++ rest)) (tagNames (keptTags cs ts ++ rest)) ≡ cond b (t .name ∷ olds) olds ++ tagNames rest
+    go : (b : Bool) → tagNames (keptTags cs ts ++ rest) ≡ olds ++ tagNames rest → cond b (t .name ∷ tagNames (keptTags cs ts ++ rest)) (tagNames (keptTags cs ts ++ rest)) ≡ cond b (t .name ∷ olds) olds ++ tagNames rest
     go true i = ap (λ (l : List (List ℕ)). t .name ∷ l) i
     go false i = i
 
@@ -286,21 +264,16 @@ unfolding newTags tagNames changeNames those brings
 names-new ts [] = refl
 names-new ts (c ∷ cs) = go (among (c .name) (tagNames ts)) (names-new ts cs)
   where
-    has : (b : Bool) → tagNames (newTags ts cs) ≡ changeNames (those (brings ts) cs)
-        → cond b (c .name ∷ tagNames (newTags ts cs)) (tagNames (newTags ts cs)) ≡ changeNames
-        (cond b (c ∷ those (brings ts) cs) (those (brings ts) cs))
+    has : (b : Bool) → tagNames (newTags ts cs) ≡ changeNames (those (brings ts) cs) → cond b (c .name ∷ tagNames (newTags ts cs)) (tagNames (newTags ts cs)) ≡ changeNames (cond b (c ∷ those (brings ts) cs) (those (brings ts) cs))
     has true i = ap (λ (l : List (List ℕ)). c .name ∷ l) i
     has false i = i
 
-    go : (b : Bool) → tagNames (newTags ts cs) ≡ changeNames (those (brings ts) cs)
-        → tagNames (cond b [] (tagWith (c .name) (c .new)) ++ newTags ts cs) ≡ changeNames
-        (cond (not b && not (isAbsent (c .new))) (c ∷ those (brings ts) cs) (those (brings ts) cs))
+    go : (b : Bool) → tagNames (newTags ts cs) ≡ changeNames (those (brings ts) cs) → tagNames (cond b [] (tagWith (c .name) (c .new)) ++ newTags ts cs) ≡ changeNames (cond (not b && not (isAbsent (c .new))) (c ∷ those (brings ts) cs) (those (brings ts) cs))
     go true i = i
     go false i = names-with (c .name) (c .new) (newTags ts cs) ∙ has (not (isAbsent (c .new))) i
 
 -- The names of the new table: the old ones that stay, in their order, then the new ones, in sheet order.
-pub applied-names : (cs : List Change) (ts : List Tag) → tagNames (applied cs ts) ≡ those (λ n. not (removes cs n)) (tagNames ts)
-    ++ changeNames (those (brings ts) cs)
+pub applied-names : (cs : List Change) (ts : List Tag) → tagNames (applied cs ts) ≡ those (λ n. not (removes cs n)) (tagNames ts) ++ changeNames (those (brings ts) cs)
 unfolding applied
 applied-names cs ts = names-kept cs ts (newTags ts cs) ∙ rw (names-new ts cs)
 
@@ -320,8 +293,7 @@ legalEntry (holds v) = legalTagValue v
 unfoldable pub legalChange : Change → Bool
 legalChange c = legalTagName (c .name) && legalEntry (c .new)
 
-legal-with : (n : List ℕ) (e : Entry) (ts : List Tag) → legalTagName n ≡ true → legalEntry e ≡ true → every legalTag ts ≡ true
-    → every legalTag (tagWith n e ++ ts) ≡ true
+legal-with : (n : List ℕ) (e : Entry) (ts : List Tag) → legalTagName n ≡ true → legalEntry e ≡ true → every legalTag ts ≡ true → every legalTag (tagWith n e ++ ts) ≡ true
 unfolding every legalTag legalEntry tagWith
 legal-with n absent ts p q h = h
 legal-with n (holds v) ts p q h = and-true _ _ (and-true _ _ p q) h
@@ -338,21 +310,18 @@ newEntry-legal (c ∷ cs) t h v = go (same (c .name) (t .name)) (newEntry-legal 
     go true i = both-true (legalTagName (c .name)) (legalEntry (c .new)) (b .0) .1
     go false i = i
 
-kept-legal : (cs : List Change) (ts rest : List Tag) → every legalChange cs ≡ true → every legalTag ts ≡ true → every legalTag rest ≡ true
-    → every legalTag (keptTags cs ts ++ rest) ≡ true
+kept-legal : (cs : List Change) (ts rest : List Tag) → every legalChange cs ≡ true → every legalTag ts ≡ true → every legalTag rest ≡ true → every legalTag (keptTags cs ts ++ rest) ≡ true
 unfolding keptTags every legalTag
 kept-legal cs [] rest p h r = r
 kept-legal cs (t ∷ ts) rest p h r =
     let b = both-true (legalTagName (t .name) && legalTagValue (t .value)) (every legalTag ts) h in
     let l = both-true (legalTagName (t .name)) (legalTagValue (t .value)) (b .0) in
-    rw append-assoc (legal-with (t .name) (newEntry cs t) (keptTags cs ts ++ rest) (l .0) (newEntry-legal cs t p (l .1))
-    (kept-legal cs ts rest p (b .1) r))
+    rw append-assoc (legal-with (t .name) (newEntry cs t) (keptTags cs ts ++ rest) (l .0) (newEntry-legal cs t p (l .1)) (kept-legal cs ts rest p (b .1) r))
 
 new-legal : (ts : List Tag) (cs : List Change) → every legalChange cs ≡ true → every legalTag (newTags ts cs) ≡ true
 unfolding newTags every legalChange legalEntry
 new-legal ts [] p = refl
-new-legal ts (c ∷ cs) p =
-    rw (new-step ts c cs) (legal-with (c .name) _ (newTags ts cs) (l .0) (go (among (c .name) (tagNames ts))) (new-legal ts cs (b .1)))
+new-legal ts (c ∷ cs) p = rw (new-step ts c cs) (legal-with (c .name) _ (newTags ts cs) (l .0) (go (among (c .name) (tagNames ts))) (new-legal ts cs (b .1)))
   where
     b : (legalChange c ≡ true) × (every legalChange cs ≡ true)
     b = both-true (legalChange c) (every legalChange cs) p
@@ -365,23 +334,20 @@ new-legal ts (c ∷ cs) p =
     go false = l .1
 
 -- one more tag, of a name that the table does not have
-distinct-with : (n : List ℕ) (e : Entry) (ts : List Tag) → among n (tagNames ts) ≡ false → distinct (tagNames ts) ≡ true
-    → distinct (tagNames (tagWith n e ++ ts)) ≡ true
+distinct-with : (n : List ℕ) (e : Entry) (ts : List Tag) → among n (tagNames ts) ≡ false → distinct (tagNames ts) ≡ true → distinct (tagNames (tagWith n e ++ ts)) ≡ true
 unfolding distinct tagNames tagWith
 distinct-with n absent ts p h = h
 distinct-with n (holds v) ts p h = rw p h
 
 -- the kept tags have no name that the table does not have
-kept-other : (n : List ℕ) (cs : List Change) (ts rest : List Tag) → among n (tagNames ts) ≡ false → among n (tagNames rest) ≡ false
-    → among n (tagNames (keptTags cs ts ++ rest)) ≡ false
+kept-other : (n : List ℕ) (cs : List Change) (ts rest : List Tag) → among n (tagNames ts) ≡ false → among n (tagNames rest) ≡ false → among n (tagNames (keptTags cs ts ++ rest)) ≡ false
 unfolding keptTags among tagNames
 kept-other n cs [] rest p r = r
 kept-other n cs (t ∷ ts) rest p r =
     let o = or-false (same n (t .name)) (among n (tagNames ts)) p in
     rw append-assoc (among-past n (t .name) (newEntry cs t) (keptTags cs ts ++ rest) (o .0) ∙ kept-other n cs ts rest (o .1) r)
 
-kept-distinct : (cs : List Change) (ts rest : List Tag) → distinct (tagNames ts) ≡ true → distinct (tagNames rest) ≡ true
-    → ((n : List ℕ) → among n (tagNames ts) ≡ true → among n (tagNames rest) ≡ false) → distinct (tagNames (keptTags cs ts ++ rest)) ≡ true
+kept-distinct : (cs : List Change) (ts rest : List Tag) → distinct (tagNames ts) ≡ true → distinct (tagNames rest) ≡ true → ((n : List ℕ) → among n (tagNames ts) ≡ true → among n (tagNames rest) ≡ false) → distinct (tagNames (keptTags cs ts ++ rest)) ≡ true
 unfolding keptTags distinct among tagNames
 kept-distinct cs [] rest d r p = r
 kept-distinct cs (t ∷ ts) rest d r p =
@@ -400,8 +366,7 @@ new-distinct ts (c ∷ cs) d =
     rw (new-step ts c cs) (distinct-with (c .name) _ (newTags ts cs) (new-other (c .name) ts cs (not-true _ (b .0))) (new-distinct ts cs (b .1)))
 
 -- A legal table and a well-formed sheet give a legal table, where its tags are not too many.
-pub applied-legal : (cs : List Change) (ts : List Tag) → every legalChange cs ≡ true → distinct (changeNames cs) ≡ true → legalTable ts ≡ true
-    → length (applied cs ts) ≤ mostTags → legalTable (applied cs ts) ≡ true
+pub applied-legal : (cs : List Change) (ts : List Tag) → every legalChange cs ≡ true → distinct (changeNames cs) ≡ true → legalTable ts ≡ true → length (applied cs ts) ≤ mostTags → legalTable (applied cs ts) ≡ true
 unfolding applied legalTable
 applied-legal cs ts p d h few =
     let b = both-true (leb (length ts) mostTags && every legalTag ts) (distinct (tagNames ts)) h in

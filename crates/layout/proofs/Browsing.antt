@@ -1,5 +1,5 @@
--- The tag browser gives the tags of a table one after another, then the end, and stays there; a tag by its name is found where the table has it; and
--- both are refused 7 exactly where the bytes are no legal table. Assumes nothing.
+-- The tag browser gives the tags of a table one after another, then the end, and stays there; a tag by its name is found where the table has it; and both are
+-- refused 7 exactly where the bytes are no legal table. Assumes nothing.
 use Prim.Native.Nat.{ℕ, zero, suc, _+_, _≤_, _<_}
 use native.Mathlib.Omega.{arith}
 use mathlib.Core.Path.{_≡_, refl, ap, sym, _∙_}
@@ -59,10 +59,8 @@ number-of [] i d h = absurd (omega arith)
 number-of (t ∷ ts) zero d h = cond-true (same (t .name) (t .name)) 0 _ (same-refl (t .name))
 number-of (t ∷ ts) (suc i) d h =
     let b = both-true (not (among (t .name) (tagNames ts))) (distinct (tagNames ts)) d in
-    let o : same (t .name) (getD ts i noTag .name) ≡ false =
-    among-other (t .name) (getD ts i noTag .name) (tagNames ts) (not-true _ (b .0)) (among-tag ts i (omega arith)) in
-    cond-false (same (getD ts i noTag .name) (t .name)) 0 _ (same-sym (t .name) (getD ts i noTag .name) o)
-    ∙ ap suc (number-of ts i (b .1) (omega arith))
+    let o : same (t .name) (getD ts i noTag .name) ≡ false = among-other (t .name) (getD ts i noTag .name) (tagNames ts) (not-true _ (b .0)) (among-tag ts i (omega arith)) in
+    cond-false (same (getD ts i noTag .name) (t .name)) 0 _ (same-sym (t .name) (getD ts i noTag .name) o) ∙ ap suc (number-of ts i (b .1) (omega arith))
 
 -- and that of a name which is not there is the count
 number-none : (name : List ℕ) (ts : List Tag) → among name (tagNames ts) ≡ false → numberOfTag name ts ≡ length ts
@@ -95,8 +93,8 @@ module _ (ts : List Tag) (l : legalTable ts ≡ true) where
   table-stands : Stands (tableBytes ts) 0 (tableBytes ts)
   table-stands = record { rest = []; stands = sym (append-nil (tableBytes ts)); inside = omega arith }
 
-  -- Below the count the browser gives tag i: the bytes at the one part are its name, at the other its value, which starts behind the name and the
-  -- value's length byte and lies in the table; and the cursor goes one further.
+  -- Below the count the browser gives tag i: the bytes at the one part are its name, at the other its value, which starts behind the name and the value's
+  -- length byte and lies in the table; and the cursor goes one further.
   pub browse-tag : (i : ℕ)
       → i < length ts
       → (n : Part)
@@ -128,8 +126,7 @@ module _ (ts : List Tag) (l : legalTable ts ≡ true) where
       let e : browse (tableBytes ts) i ≡ end = browse-at i ∙ cond-false (ltb i (length ts)) (tagAt ts i) end (le-ltb i (length ts) h) in
       (e, ap (λ (b : Browsed). cursorAfter b i) e)
 
-  told-tag : (i : ℕ) → i < length ts → (told (tableBytes ts) (browse (tableBytes ts) i) ≡ aTag (getD ts i noTag))
-      × (cursorAfter (browse (tableBytes ts) i) i ≡ i + 1)
+  told-tag : (i : ℕ) → i < length ts → (told (tableBytes ts) (browse (tableBytes ts) i) ≡ aTag (getD ts i noTag)) × (cursorAfter (browse (tableBytes ts) i) i ≡ i + 1)
   unfolding told
   told-tag i h =
       let t = browse-tag i h in
@@ -149,8 +146,7 @@ module _ (ts : List Tag) (l : legalTable ts ≡ true) where
       let t = told-tag i (omega arith) in
       let n : i + 1 ≡ suc i = omega arith in
       let z : suc j + k ≡ suc (j + k) = omega arith in
-      rw (z, drop-cons ts i noTag (omega arith), t .1, t .0, n)
-      (ap (λ (l : List Told). aTag (getD ts i noTag) ∷ l) (asked-from j (suc i) k (omega arith)))
+      rw (z, drop-cons ts i noTag (omega arith), t .1, t .0, n) (ap (λ (l : List Told). aTag (getD ts i noTag) ∷ l) (asked-from j (suc i) k (omega arith)))
 
   -- From number 0 on, asked as often as there are tags and k times more, it gives the table's tags one after another, and then k times the end.
   pub browse-all : (k : ℕ) → asked (tableBytes ts) 0 (length ts + k) ≡ map aTag ts ++ replicate k theEnd
@@ -166,14 +162,12 @@ module _ (ts : List Tag) (l : legalTable ts ≡ true) where
   unfolding legalTable
   named-found i h =
       let d = all-three (leb (length ts) mostTags) (every legalTag ts) (distinct (tagNames ts)) l in
-      let e : tagNamed (tableBytes ts) (getD ts i noTag .name) ≡ browse (tableBytes ts) i =
-      rw (named-at (getD ts i noTag .name), number-of ts i (d .2) h) (sym (browse-at i)) in
+      let e : tagNamed (tableBytes ts) (getD ts i noTag .name) ≡ browse (tableBytes ts) i = rw (named-at (getD ts i noTag .name), number-of ts i (d .2) h) (sym (browse-at i)) in
       (e, ap (told (tableBytes ts)) e ∙ told-tag i h .0)
 
   -- of a name that it does not have there is the end.
   pub named-absent : (name : List ℕ) → among name (tagNames ts) ≡ false → tagNamed (tableBytes ts) name ≡ end
-  named-absent name h = named-at name ∙ cond-false (ltb (numberOfTag name ts) (length ts)) (tagAt ts (numberOfTag name ts)) end
-      (le-ltb (numberOfTag name ts) (length ts) (omega (arith, number-none name ts h)))
+  named-absent name h = named-at name ∙ cond-false (ltb (numberOfTag name ts) (length ts)) (tagAt ts (numberOfTag name ts)) end (le-ltb (numberOfTag name ts) (length ts) (omega (arith, number-none name ts h)))
 
 -- ── Refused ──
 
@@ -188,8 +182,7 @@ browse-refused bytes i h = (λ e t. never t e, λ d. go (exactly table bytes) re
     never : ((ts : List Tag) × (legalTable ts ≡ true) × (tableBytes ts ≡ bytes)) → browse bytes i ≡ refused 7 → ⊥
     never (ts, l, q) e = no-refusal (ltb i (length ts)) ts i (sym (browse-at ts l i) ∙ ap (λ (s : List ℕ). browse s i) q ∙ e)
 
-    go : (p : Parsed (List Tag)) → exactly table bytes ≡ p → (((ts : List Tag) × (legalTable ts ≡ true) × (tableBytes ts ≡ bytes)) → ⊥)
-        → browse bytes i ≡ refused 7
+    go : (p : Parsed (List Tag)) → exactly table bytes ≡ p → (((ts : List Tag) × (legalTable ts ≡ true) × (tableBytes ts ≡ bytes)) → ⊥) → browse bytes i ≡ refused 7
     go bad e d = rw (e, browse)
     go (good ts n) e d = let g = exactly-gives legalTable tableBytes table table-exact bytes ts n h e in absurd (d (ts, g .0, sym (g .1)))
 
@@ -202,10 +195,8 @@ unfolding tagNamed
 named-refused bytes name h = (λ e t. never t e, λ d. go (exactly table bytes) refl d)
   where
     never : ((ts : List Tag) × (legalTable ts ≡ true) × (tableBytes ts ≡ bytes)) → tagNamed bytes name ≡ refused 7 → ⊥
-    never (ts, l, q) e = no-refusal (ltb (numberOfTag name ts) (length ts)) ts (numberOfTag name ts)
-        (sym (named-at ts l name) ∙ ap (λ (s : List ℕ). tagNamed s name) q ∙ e)
+    never (ts, l, q) e = no-refusal (ltb (numberOfTag name ts) (length ts)) ts (numberOfTag name ts) (sym (named-at ts l name) ∙ ap (λ (s : List ℕ). tagNamed s name) q ∙ e)
 
-    go : (p : Parsed (List Tag)) → exactly table bytes ≡ p → (((ts : List Tag) × (legalTable ts ≡ true) × (tableBytes ts ≡ bytes)) → ⊥)
-        → tagNamed bytes name ≡ refused 7
+    go : (p : Parsed (List Tag)) → exactly table bytes ≡ p → (((ts : List Tag) × (legalTable ts ≡ true) × (tableBytes ts ≡ bytes)) → ⊥) → tagNamed bytes name ≡ refused 7
     go bad e d = rw (e, tagNamed)
     go (good ts n) e d = let g = exactly-gives legalTable tableBytes table table-exact bytes ts n h e in absurd (d (ts, g .0, sym (g .1)))

@@ -30,8 +30,7 @@ closed-file ss r c h e =
     ap (λ (ps : List Piece). stored [] (writes ps)) (h .piecesAre ∙ ap (piecesOf r) five) ∙ stored-closed r (h .noUserTags)
 
 -- each of the five pieces fits a room of 8 bytes that holds the index
-closing-fits : (r : Recording) (c room : ℕ) → c ≤ 4 → 8 ≤ room → indexLength (length (r .frames)) ≤ room
-    → length (getD (closings r) c (piece 0 []) .bytes) ≤ room
+closing-fits : (r : Recording) (c room : ℕ) → c ≤ 4 → 8 ≤ room → indexLength (length (r .frames)) ≤ room → length (getD (closings r) c (piece 0 []) .bytes) ≤ room
 unfolding closings tableBytes flatMap bytesOf
 closing-fits r zero room l h k = rw length-index k
 closing-fits r (suc zero) room l h k = omega arith
@@ -45,28 +44,21 @@ and-false true b e = e
 and-false false b e = refl
 
 -- the next close call is accepted
-pub next-closes : (ss : Session) (r : Recording) (c room : ℕ) → Runs ss r c → c ≤ 4 → 8 ≤ room → indexLength (length (r .frames)) ≤ room
-    → Runs (called ss (closes room)) r (suc c)
+pub next-closes : (ss : Session) (r : Recording) (c room : ℕ) → Runs ss r c → c ≤ 4 → 8 ≤ room → indexLength (length (r .frames)) ≤ room → Runs (called ss (closes room)) r (suc c)
 unfolding called close closeLines notesShort
 next-closes ss r c room h l k i =
     let st = ss .state in
     let takes : takesClose (st .stage) ≡ true = ap takesClose (h .stageIs) ∙ at-piece c l .1 in
     let fits : length (closingPiece st (ss .notes) .bytes) ≤ room = rw (closing-is ss r c l h) (closing-fits r c room l k i) in
     let long : ltb (length (ss .notes)) (indexLength (st .frames)) ≡ false = le-ltb (length (ss .notes)) (indexLength (st .frames)) (omega arith) in
-    let first : not (takesClose (st .stage)) || brokenState st ≡ false =
-    not-or (not (takesClose (st .stage))) (brokenState st) (ap not takes) (h .stateHolds) in
-    let second : notesShort st (ss .notes) ≡ false = and-false (eqb (pieceNumber (st .stage)) 0)
-    (noRoom (length (ss .notes)) (indexLength (st .frames))) long in
-    let third : noRoom room (length (closingPiece st (ss .notes) .bytes)) || notesShort st (ss .notes) ≡ false =
-    not-or (noRoom room (length (closingPiece st (ss .notes) .bytes))) (notesShort st (ss .notes))
-    (le-ltb room (length (closingPiece st (ss .notes) .bytes)) fits) second in
+    let first : not (takesClose (st .stage)) || brokenState st ≡ false = not-or (not (takesClose (st .stage))) (brokenState st) (ap not takes) (h .stateHolds) in
+    let second : notesShort st (ss .notes) ≡ false = and-false (eqb (pieceNumber (st .stage)) 0) (noRoom (length (ss .notes)) (indexLength (st .frames))) long in
+    let third : noRoom room (length (closingPiece st (ss .notes) .bytes)) || notesShort st (ss .notes) ≡ false = not-or (noRoom room (length (closingPiece st (ss .notes) .bytes))) (notesShort st (ss .notes)) (le-ltb room (length (closingPiece st (ss .notes) .bytes)) fits) second in
     let none : firstOf (closeLines st (ss .notes) room) ≡ 0 = line-pass 12 _ _ first ∙ line-pass 9 _ _ third ∙ no-lines in
-    subst (λ (next : Session). Runs next r (suc c))
-    (sym (goes-on ss (firstOf (closeLines st (ss .notes) room)) (closeStep st (ss .notes)) refl none)) (close-runs ss r c l h)
+    subst (λ (next : Session). Runs next r (suc c)) (sym (goes-on ss (firstOf (closeLines st (ss .notes) room)) (closeStep st (ss .notes)) refl none)) (close-runs ss r c l h)
 
 -- five of them close it
-pub five-close : (ss : Session) (r : Recording) (room : ℕ) → Runs ss r 0 → 8 ≤ room → indexLength (length (r .frames)) ≤ room
-    → Runs (session ss (closes room ∷ closes room ∷ closes room ∷ closes room ∷ closes room ∷ [])) r 5
+pub five-close : (ss : Session) (r : Recording) (room : ℕ) → Runs ss r 0 → 8 ≤ room → indexLength (length (r .frames)) ≤ room → Runs (session ss (closes room ∷ closes room ∷ closes room ∷ closes room ∷ closes room ∷ [])) r 5
 unfolding session
 five-close ss r room h k i =
     let one = next-closes ss r 0 room h (omega arith) k i in
@@ -76,9 +68,7 @@ five-close ss r room h k i =
     next-closes _ r 4 room four (omega arith) k i
 
 -- and its file is the whole one
-pub five-file : (ss : Session) (r : Recording) (room : ℕ) → Runs ss r 0 → 8 ≤ room → indexLength (length (r .frames)) ≤ room
-    → (session ss (closes room ∷ closes room ∷ closes room ∷ closes room ∷ closes room ∷ []) .state .stage ≡ closed)
-    × (fileOf (session ss (closes room ∷ closes room ∷ closes room ∷ closes room ∷ closes room ∷ [])) ≡ encode r)
+pub five-file : (ss : Session) (r : Recording) (room : ℕ) → Runs ss r 0 → 8 ≤ room → indexLength (length (r .frames)) ≤ room → (session ss (closes room ∷ closes room ∷ closes room ∷ closes room ∷ closes room ∷ []) .state .stage ≡ closed) × (fileOf (session ss (closes room ∷ closes room ∷ closes room ∷ closes room ∷ closes room ∷ [])) ≡ encode r)
 unfolding stageOf
 five-file ss r room h k i =
     let runs = five-close ss r room h k i in

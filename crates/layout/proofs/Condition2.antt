@@ -27,8 +27,8 @@ legal-shown r l =
     let f = legal-front r l in
     rw (f .sections, f .system, legal-counted r l, legal-user r l)
 
--- A file that opens shows a legal recording, and is that recording's bytes to the last one. (That the elements of the list are bytes, below 256, is
--- what makes the list a file.)
+-- A file that opens shows a legal recording, and is that recording's bytes to the last one. (That the elements of the list are bytes, below 256, is what
+-- makes the list a file.)
 pub opens-legal : (f : List ℕ) → areBytes f ≡ true → refusal f ≡ 0 → Legal (shown f) × (encode (shown f) ≡ f)
 opens-legal f h o = (opens-is-legal f h (opens-passes f o), opens-bytes f h (opens-passes f o))
 
@@ -38,8 +38,7 @@ opens-exactly f h = (λ o. (shown f, opens-legal f h o .0, opens-legal f h o .1)
 
 -- ── Reading an item ──
 
--- "Reading item i runs what opening runs": where opening is refused, reading is refused with the same number, and hands back the empty part at the
--- start.
+-- "Reading item i runs what opening runs": where opening is refused, reading is refused with the same number, and hands back the empty part at the start.
 pub item-passes : (f : List ℕ) (item : Item) (n : ℕ)
     → refusal f ≡ suc n
     → (itemRefusal f item ≡ suc n)

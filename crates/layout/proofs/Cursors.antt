@@ -58,8 +58,7 @@ string-taken : (s v : List ℕ) (n : ℕ) → string s ≡ good v n → n ≡ 1 
 unfolding string
 string-taken s v n e = outer (then-good (number 1) block s v n e)
   where
-    inner : (a m k : ℕ) → n ≡ m + k → ((1 ≤ length s) × (numberOf (take 1 s) ≡ a) × (1 ≡ m))
-        → ((a ≤ length (drop m s)) × (take a (drop m s) ≡ v) × (a ≡ k)) → n ≡ 1 + length v
+    inner : (a m k : ℕ) → n ≡ m + k → ((1 ≤ length s) × (numberOf (take 1 s) ≡ a) × (1 ≡ m)) → ((a ≤ length (drop m s)) × (take a (drop m s) ≡ v) × (a ≡ k)) → n ≡ 1 + length v
     inner a m k h (l, i, j) (o, p, q) =
         let r : length v ≡ a = ap length (sym p) ∙ length-take-le a (drop m s) o in
         omega arith
@@ -70,12 +69,9 @@ string-taken s v n e = outer (then-good (number 1) block s v n e)
 -- one byte and the name, one byte and the value
 tag-taken : (s : List ℕ) (t : Tag) (n : ℕ) → read.tag s ≡ good t n → n ≡ 1 + length (t .name) + 1 + length (t .value)
 unfolding read.tag give
-tag-taken s t n e = name (then-good (only legalTagName string)
-    (λ a. only legalTagValue string then λ v. give (record { name = a; value = v })) s t n e)
+tag-taken s t n e = name (then-good (only legalTagName string) (λ a. only legalTagValue string then λ v. give (record { name = a; value = v })) s t n e)
   where
-    value : (a : List ℕ) (m k : ℕ) → m ≡ 1 + length a → n ≡ m + k
-        → ((v : List ℕ) × (i : ℕ) × (j : ℕ) × (only legalTagValue string (drop m s) ≡ good v i)
-        × (give (record { name = a; value = v }) (drop i (drop m s)) ≡ good t j) × (k ≡ i + j)) → n ≡ 1 + length (t .name) + 1 + length (t .value)
+    value : (a : List ℕ) (m k : ℕ) → m ≡ 1 + length a → n ≡ m + k → ((v : List ℕ) × (i : ℕ) × (j : ℕ) × (only legalTagValue string (drop m s) ≡ good v i) × (give (record { name = a; value = v }) (drop i (drop m s)) ≡ good t j) × (k ≡ i + j)) → n ≡ 1 + length (t .name) + 1 + length (t .value)
     value a m k h l (v, i, j, o, p, q) =
         let y : i ≡ 1 + length v = string-taken (drop m s) v i (only-good legalTagValue string (drop m s) v i o) in
         let z : 0 ≡ j = cc in
@@ -84,12 +80,9 @@ tag-taken s t n e = name (then-good (only legalTagName string)
         let u : length v ≡ length (t .value) = ap (λ (t : Tag). length (t .value)) w in
         omega arith
 
-    name : ((a : List ℕ) × (m : ℕ) × (k : ℕ) × (only legalTagName string s ≡ good a m)
-        × ((only legalTagValue string then λ v. give (record { name = a; value = v })) (drop m s) ≡ good t k) × (n ≡ m + k))
-        → n ≡ 1 + length (t .name) + 1 + length (t .value)
+    name : ((a : List ℕ) × (m : ℕ) × (k : ℕ) × (only legalTagName string s ≡ good a m) × ((only legalTagValue string then λ v. give (record { name = a; value = v })) (drop m s) ≡ good t k) × (n ≡ m + k)) → n ≡ 1 + length (t .name) + 1 + length (t .value)
     name (a, m, k, f, g, h) =
-        value a m k (string-taken s a m (only-good legalTagName string s a m f)) h
-        (then-good (only legalTagValue string) (λ v. give (record { name = a; value = v })) (drop m s) t k g)
+        value a m k (string-taken s a m (only-good legalTagName string s a m f)) h (then-good (only legalTagValue string) (λ v. give (record { name = a; value = v })) (drop m s) t k g)
 
 -- ── Where a cursor stands ──
 
@@ -101,9 +94,7 @@ pub stands-bad : (bytes : List ℕ) (place left : ℕ) → read.tag (drop place 
 unfolding standsAt
 stands-bad bytes place left e = rw (e, standsAt)
 
-pub stands-tag : (bytes : List ℕ) (place left : ℕ) (t : Tag) (n : ℕ) → read.tag (drop place bytes) ≡ good t n
-    → standsAt bytes place (suc left) ≡ at (record { start = place + 1; len = length (t .name) })
-    (record { start = place + 1 + length (t .name) + 1; len = length (t .value) }) left
+pub stands-tag : (bytes : List ℕ) (place left : ℕ) (t : Tag) (n : ℕ) → read.tag (drop place bytes) ≡ good t n → standsAt bytes place (suc left) ≡ at (record { start = place + 1; len = length (t .name) }) (record { start = place + 1 + length (t .name) + 1; len = length (t .value) }) left
 unfolding standsAt
 stands-tag bytes place left t n e = rw (e, standsAt)
 
@@ -112,27 +103,22 @@ stands-tag bytes place left t n e = rw (e, standsAt)
 -- the cursor at tag k of those that stand from a place on
 unfoldable tagOf : (place : ℕ) → List Tag → (k : ℕ) → Cursor
 tagOf place [] k = end
-tagOf place (t ∷ ts) zero = at (record { start = place + 1; len = length (t .name) })
-    (record { start = place + 1 + length (t .name) + 1; len = length (t .value) }) (length ts)
+tagOf place (t ∷ ts) zero = at (record { start = place + 1; len = length (t .name) }) (record { start = place + 1 + length (t .name) + 1; len = length (t .value) }) (length ts)
 tagOf place (t ∷ ts) (suc k) = tagOf (place + length (tagBytes t)) ts k
 
 length-tag : (t : Tag) → length (tagBytes t) ≡ 1 + length (t .name) + 1 + length (t .value)
 unfolding tagBytes shortString
 length-tag t = rw length-append (omega arith)
 
-moved-from : (bytes : List ℕ) (ts : List Tag) (place m k : ℕ) → times (length ts) read.tag (drop place bytes) ≡ good ts m
-    → moved bytes k (standsAt bytes place (length ts)) ≡ tagOf place ts k
+moved-from : (bytes : List ℕ) (ts : List Tag) (place m k : ℕ) → times (length ts) read.tag (drop place bytes) ≡ good ts m → moved bytes k (standsAt bytes place (length ts)) ≡ tagOf place ts k
 unfolding moved nextTag tagOf
 moved-from bytes [] place m k e = rw (stands-none bytes place) (moved-end bytes k)
-moved-from bytes (t ∷ ts) place m k e = go k (λ j k. moved-from bytes ts (place + length (tagBytes t)) j k)
-    (times-suc-good read.tag (length ts) (drop place bytes) (t ∷ ts) m e)
+moved-from bytes (t ∷ ts) place m k e = go k (λ j k. moved-from bytes ts (place + length (tagBytes t)) j k) (times-suc-good read.tag (length ts) (drop place bytes) (t ∷ ts) m e)
   where
     Rest : Type 0
-    Rest = (j k : ℕ) → times (length ts) read.tag (drop (place + length (tagBytes t)) bytes) ≡ good ts j
-        → moved bytes k (standsAt bytes (place + length (tagBytes t)) (length ts)) ≡ tagOf (place + length (tagBytes t)) ts k
+    Rest = (j k : ℕ) → times (length ts) read.tag (drop (place + length (tagBytes t)) bytes) ≡ good ts j → moved bytes k (standsAt bytes (place + length (tagBytes t)) (length ts)) ≡ tagOf (place + length (tagBytes t)) ts k
 
-    first : (n j k : ℕ) → Rest → read.tag (drop place bytes) ≡ good t n → times (length ts) read.tag (drop n (drop place bytes)) ≡ good ts j
-        → moved bytes k (standsAt bytes place (suc (length ts))) ≡ tagOf place (t ∷ ts) k
+    first : (n j k : ℕ) → Rest → read.tag (drop place bytes) ≡ good t n → times (length ts) read.tag (drop n (drop place bytes)) ≡ good ts j → moved bytes k (standsAt bytes place (suc (length ts))) ≡ tagOf place (t ∷ ts) k
     first n j zero rest f g = stands-tag bytes place (length ts) t n f
     first n j (suc k) rest f g =
         let q : n ≡ 1 + length (t .name) + 1 + length (t .value) = tag-taken (drop place bytes) t n f in
@@ -140,21 +126,14 @@ moved-from bytes (t ∷ ts) place m k e = go k (λ j k. moved-from bytes ts (pla
         let a : place + 1 + length (t .name) + 1 + length (t .value) ≡ place + length (tagBytes t) = omega (arith, length-tag t) in
         rw (stands-tag bytes place (length ts) t n f, a) (rest j k (rw (← b, ← drop-drop n place bytes) g))
 
-    go : (k : ℕ) → Rest → ((x : Tag) × (xs : List Tag) × (n : ℕ) × (j : ℕ) × (read.tag (drop place bytes) ≡ good x n)
-        × (times (length ts) read.tag (drop n (drop place bytes)) ≡ good xs j) × (x ∷ xs ≡ t ∷ ts) × (n + j ≡ m))
-        → moved bytes k (standsAt bytes place (suc (length ts))) ≡ tagOf place (t ∷ ts) k
+    go : (k : ℕ) → Rest → ((x : Tag) × (xs : List Tag) × (n : ℕ) × (j : ℕ) × (read.tag (drop place bytes) ≡ good x n) × (times (length ts) read.tag (drop n (drop place bytes)) ≡ good xs j) × (x ∷ xs ≡ t ∷ ts) × (n + j ≡ m)) → moved bytes k (standsAt bytes place (suc (length ts))) ≡ tagOf place (t ∷ ts) k
     go k rest (x, xs, n, j, f, g, h, i) =
         let a : x ≡ t = cc in
         let b : xs ≡ ts = cc in
         first n j k rest (f ∙ ap (λ (t : Tag). good t n) a) (g ∙ ap (λ (ts : List Tag). good ts j) b)
 
 -- it stands behind the tags ahead of it
-tag-of : (place : ℕ) (ts : List Tag) (k : ℕ) → k < length ts
-    → tagOf place ts k ≡ at (record { start = place + length (flatMap tagBytes (take k ts)) + 1; len = length (getD ts k noTag .name) })
-    (record {
-      start = place + length (flatMap tagBytes (take k ts)) + 1 + length (getD ts k noTag .name) + 1;
-      len = length (getD ts k noTag .value);
-    }) (length ts - k - 1)
+tag-of : (place : ℕ) (ts : List Tag) (k : ℕ) → k < length ts → tagOf place ts k ≡ at (record { start = place + length (flatMap tagBytes (take k ts)) + 1; len = length (getD ts k noTag .name) }) (record { start = place + length (flatMap tagBytes (take k ts)) + 1 + length (getD ts k noTag .name) + 1; len = length (getD ts k noTag .value) }) (length ts - k - 1)
 unfolding tagOf flatMap
 tag-of place [] k h = absurd (omega arith)
 tag-of place (t ∷ ts) zero h =
@@ -162,8 +141,7 @@ tag-of place (t ∷ ts) zero h =
     let b : suc (length ts) - 0 - 1 ≡ length ts = omega arith in
     rw (a, b)
 tag-of place (t ∷ ts) (suc k) h =
-    let a : place + length (tagBytes t ++ flatMap tagBytes (take k ts)) ≡ place + length (tagBytes t) + length (flatMap tagBytes (take k ts)) =
-    omega (arith, length-append (tagBytes t) (flatMap tagBytes (take k ts))) in
+    let a : place + length (tagBytes t ++ flatMap tagBytes (take k ts)) ≡ place + length (tagBytes t) + length (flatMap tagBytes (take k ts)) = omega (arith, length-append (tagBytes t) (flatMap tagBytes (take k ts))) in
     let b : suc (length ts) - suc k - 1 ≡ length ts - k - 1 = omega arith in
     rw (a, b) (tag-of (place + length (tagBytes t)) ts k (omega arith))
 
@@ -178,25 +156,20 @@ unfolding times
 times-length p zero s xs m e = let y : [] ≡ xs = cc in rw (← y)
 times-length {A} p (suc k) s ys m e = go (λ s xs m. times-length p k s xs m) (times-suc-good p k s ys m e)
   where
-    go : ((s : List ℕ) (xs : List A) (m : ℕ) → times k p s ≡ good xs m → length xs ≡ k)
-        → ((x : A) × (xs : List A) × (n : ℕ) × (j : ℕ) × (p s ≡ good x n) × (times k p (drop n s) ≡ good xs j) × (x ∷ xs ≡ ys) × (n + j ≡ m))
-        → length ys ≡ suc k
+    go : ((s : List ℕ) (xs : List A) (m : ℕ) → times k p s ≡ good xs m → length xs ≡ k) → ((x : A) × (xs : List A) × (n : ℕ) × (j : ℕ) × (p s ≡ good x n) × (times k p (drop n s) ≡ good xs j) × (x ∷ xs ≡ ys) × (n + j ≡ m)) → length ys ≡ suc k
     go rest (x, xs, n, j, f, g, h, i) = ap length (sym h) ∙ ap suc (rest (drop n s) xs j g)
 
 -- the tags of a table stand behind its number
 tags-read : (bytes : List ℕ) (ts : List Tag) (n : ℕ) → table bytes ≡ good ts n → (m : ℕ) × (times (length ts) read.tag (drop 4 bytes) ≡ good ts m)
 unfolding table
-tags-read bytes ts n e = outer (then-good (only (within 0 mostTags) (number 4)) (λ n. times n read.tag) bytes ts n
-    (only-good (λ ts. distinct (tagNames ts)) (only (within 0 mostTags) (number 4) then λ n. times n read.tag) bytes ts n e))
+tags-read bytes ts n e = outer (then-good (only (within 0 mostTags) (number 4)) (λ n. times n read.tag) bytes ts n (only-good (λ ts. distinct (tagNames ts)) (only (within 0 mostTags) (number 4) then λ n. times n read.tag) bytes ts n e))
   where
-    inner : (a m k : ℕ) → times a read.tag (drop m bytes) ≡ good ts k → ((4 ≤ length bytes) × (numberOf (take 4 bytes) ≡ a) × (4 ≡ m))
-        → (m : ℕ) × (times (length ts) read.tag (drop 4 bytes) ≡ good ts m)
+    inner : (a m k : ℕ) → times a read.tag (drop m bytes) ≡ good ts k → ((4 ≤ length bytes) × (numberOf (take 4 bytes) ≡ a) × (4 ≡ m)) → (m : ℕ) × (times (length ts) read.tag (drop 4 bytes) ≡ good ts m)
     inner a m k g (l, i, j) =
         let b : length ts ≡ a = times-length read.tag a (drop m bytes) ts k g in
         (k, rw (b, j) g)
 
-    outer : ((a : ℕ) × (m : ℕ) × (k : ℕ) × (only (within 0 mostTags) (number 4) bytes ≡ good a m) × (times a read.tag (drop m bytes) ≡ good ts k)
-        × (n ≡ m + k)) → (m : ℕ) × (times (length ts) read.tag (drop 4 bytes) ≡ good ts m)
+    outer : ((a : ℕ) × (m : ℕ) × (k : ℕ) × (only (within 0 mostTags) (number 4) bytes ≡ good a m) × (times a read.tag (drop m bytes) ≡ good ts k) × (n ≡ m + k)) → (m : ℕ) × (times (length ts) read.tag (drop 4 bytes) ≡ good ts m)
     outer (a, m, k, f, g, h) = inner a m k g (number-good 4 bytes a m (only-good (within 0 mostTags) (number 4) bytes a m f))
 
 -- ── The claims ──
@@ -217,9 +190,7 @@ cursor-browses bytes k = go (exactly table bytes) refl
         rw (e, firstTag, browse, moved-from bytes ts 4 m k t) (at-tag ts (ltb k (length ts)) refl)
 
 -- Over a legal table, the cursor at tag k has the tags behind it left.
-pub cursor-left : (bytes : List ℕ) (ts : List Tag) (n k : ℕ) → exactly table bytes ≡ good ts n → k < length ts
-    → moved bytes k (firstTag bytes) ≡ at (record { start = nameStart 0 ts k; len = length (getD ts k noTag .name) })
-    (record { start = valueStart 0 ts k; len = length (getD ts k noTag .value) }) (length ts - k - 1)
+pub cursor-left : (bytes : List ℕ) (ts : List Tag) (n k : ℕ) → exactly table bytes ≡ good ts n → k < length ts → moved bytes k (firstTag bytes) ≡ at (record { start = nameStart 0 ts k; len = length (getD ts k noTag .name) }) (record { start = valueStart 0 ts k; len = length (getD ts k noTag .value) }) (length ts - k - 1)
 unfolding firstTag nameStart valueStart
 cursor-left bytes ts n k e h =
     let (m, t) = tags-read bytes ts n (exactly-good table bytes ts n e .0) in

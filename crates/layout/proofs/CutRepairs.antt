@@ -31,11 +31,7 @@ use Rattle.layout.proofs.CutWalks.{table-local, index-none, complete, c
 -- more than a header
 pub opens-long : (f : List ℕ) → refusal f ≡ 0 → headerLength < length f
 unfolding notFstf
-opens-long f o = omega (
-  arith,
-  ltb-false (length f) (headerLength + 1)
-      (or-false (ltb (length f) (headerLength + 1)) _ (opens-passes f o .front .mark) .0),
-)
+opens-long f o = omega (arith, ltb-false (length f) (headerLength + 1) (or-false (ltb (length f) (headerLength + 1)) _ (opens-passes f o .front .mark) .0))
 
 -- an index offset
 opens-index : (f : List ℕ) → refusal f ≡ 0 → 1 ≤ indexOffset f
@@ -54,8 +50,7 @@ opening-header r m l n =
     let h : List ℕ = headerBytes 0 0 (systemAt (r .sections)) 0 in
     let t : List ℕ = definitionsBytes (r .sections) ++ (configurationsBytes (r .sections) ++ tableBytes (r .system)) in
     let a : opening r ≡ h ++ t = simp append-assoc in
-    let e : take m (opening r) ≡ h ++ take (m - length h) t =
-    rw (a, take-append, take-all m h (omega (arith, length-header 0 0 (systemAt (r .sections)) 0))) in
+    let e : take m (opening r) ≡ h ++ take (m - length h) t = rw (a, take-append, take-all m h (omega (arith, length-header 0 0 (systemAt (r .sections)) 0))) in
     rw e (header-read 0 0 (systemAt (r .sections)) 0 (take (m - length h) t) (omega arith) (omega arith) (system-fits r l) (omega arith))
 
 -- It does not open.
@@ -77,12 +72,10 @@ opening-table r m l h = go (table (drop at (take m (opening r)))) refl (drop-cut
 
     whole : table (drop at (opening r)) ≡ good (r .system) (length (tableBytes (r .system)))
     whole =
-        let e : length before ≡ at =
-        omega (arith, length-append before (tableBytes (r .system)), length-front 0 0 0 (r .sections) (tableBytes (r .system))) in
+        let e : length before ≡ at = omega (arith, length-append before (tableBytes (r .system)), length-front 0 0 0 (r .sections) (tableBytes (r .system))) in
         ap table (drop-at before (tableBytes (r .system)) at e) ∙ rw append-nil at (table-exact .takes (r .system) [] (l .systemLegal))
 
-    go : (v : Parsed (List Tag)) → table (drop at (take m (opening r))) ≡ v
-        → (t : List ℕ) × (drop at (take m (opening r)) ++ t ≡ drop at (opening r)) → isBad v ≡ true
+    go : (v : Parsed (List Tag)) → table (drop at (take m (opening r))) ≡ v → (t : List ℕ) × (drop at (take m (opening r)) ++ t ≡ drop at (opening r)) → isBad v ≡ true
     go bad e c = refl
     go (good ts n) e (t, c) =
         let w = table-local (drop at (take m (opening r))) t ts n e in
@@ -98,20 +91,16 @@ opening-system r m l n h =
     or-right far (isBad (readSystem f)) (rw (opening-header r m l n .system) (opening-table r m l h))
 
 -- a front with a bad system table is refused 3 or 4
-front-three-four : (f : List ℕ) (ls : List Line) → notFstf f ≡ false → otherRevision f ≡ false → badSystem f ≡ true
-    → (firstOf (frontLines f ++ ls) ≡ 3) ⊎ (firstOf (frontLines f ++ ls) ≡ 4)
+front-three-four : (f : List ℕ) (ls : List Line) → notFstf f ≡ false → otherRevision f ≡ false → badSystem f ≡ true → (firstOf (frontLines f ++ ls) ≡ 3) ⊎ (firstOf (frontLines f ++ ls) ≡ 4)
 unfolding frontLines
 front-three-four f ls a b c = go (decided (badSections f))
   where
     go : (badSections f ≡ true) ⊎ (badSections f ≡ false) → (firstOf (frontLines f ++ ls) ≡ 3) ⊎ (firstOf (frontLines f ++ ls) ≡ 4)
     go (inl d) = inl (line-pass 1 (notFstf f) _ a ∙ line-pass 2 (otherRevision f) _ b ∙ line-holds 3 (badSections f) _ d)
-    go (inr d) = inr (line-pass 1 (notFstf f) _ a ∙ line-pass 2 (otherRevision f) _ b ∙ line-pass 3 (badSections f) _ d
-        ∙ line-holds 4 (badSystem f) _ c)
+    go (inr d) = inr (line-pass 1 (notFstf f) _ a ∙ line-pass 2 (otherRevision f) _ b ∙ line-pass 3 (badSections f) _ d ∙ line-holds 4 (badSystem f) _ c)
 
 -- Repair of it answers 1, 3 or 4.
-pub opening-repair : (r : Recording) (m out : ℕ) → Legal r → m < framesStart r
-    → (repair (take m (opening r)) out .refused ≡ 1) ⊎ (repair (take m (opening r)) out .refused ≡ 3) ⊎
-    (repair (take m (opening r)) out .refused ≡ 4)
+pub opening-repair : (r : Recording) (m out : ℕ) → Legal r → m < framesStart r → (repair (take m (opening r)) out .refused ≡ 1) ⊎ (repair (take m (opening r)) out .refused ≡ 3) ⊎ (repair (take m (opening r)) out .refused ≡ 4)
 unfolding repair repairAnswer repairRefusal repairLines frontLines notFstf
 opening-repair r m out l h = go (le-or-lt (headerLength + 1) m)
   where
@@ -124,19 +113,15 @@ opening-repair r m out l h = go (le-or-lt (headerLength + 1) m)
     answers : (n : ℕ) → repairRefusal f out ≡ suc n → repair f out .refused ≡ suc n
     answers n e = rw e
 
-    later : (repairRefusal f out ≡ 3) ⊎ (repairRefusal f out ≡ 4)
-        → (repair f out .refused ≡ 1) ⊎ (repair f out .refused ≡ 3) ⊎ (repair f out .refused ≡ 4)
+    later : (repairRefusal f out ≡ 3) ⊎ (repairRefusal f out ≡ 4) → (repair f out .refused ≡ 1) ⊎ (repair f out .refused ≡ 3) ⊎ (repair f out .refused ≡ 4)
     later (inl e) = inr (inl (answers 2 e))
     later (inr e) = inr (inr (answers 3 e))
 
     go : (headerLength + 1 ≤ m) ⊎ (m < headerLength + 1) → (repair f out .refused ≡ 1) ⊎ (repair f out .refused ≡ 3) ⊎ (repair f out .refused ≡ 4)
     go (inl n) =
         let g = opening-header r m l (omega arith) in
-        later (front-three-four f _ (not-fstf f (omega (arith, size)) (g .mark)) (first-revision f (g .version))
-        (opening-system r m l (omega arith) h))
-    go (inr n) = inl (answers 0
-        (line-holds 1 (notFstf f) _ (ap (λ (b : Bool). b || not (same (take 4 f) fileMark))
-        (lt-ltb (length f) (headerLength + 1) (omega (arith, size))))))
+        later (front-three-four f _ (not-fstf f (omega (arith, size)) (g .mark)) (first-revision f (g .version)) (opening-system r m l (omega arith) h))
+    go (inr n) = inl (answers 0 (line-holds 1 (notFstf f) _ (ap (λ (b : Bool). b || not (same (take 4 f) fileMark)) (lt-ltb (length f) (headerLength + 1) (omega (arith, size))))))
 
 -- an empty file
 pub empty-repair : (out : ℕ) → repair [] out .refused ≡ 1
@@ -153,14 +138,11 @@ opens-sixteen f out o =
     rw p
 
 -- a file that does not, whose front passes and of which a legal recording is kept, is repaired
-repair-accepts : (f : List ℕ) (out : ℕ) → FrontPasses f → FrontGiven f
-    → Walked mostFrames (length (definedIn f)) (drop (walkStart f) f) (walked f) → Legal (keptOf f) → eqb (refusal f) 0 ≡ false
-    → length (tail f) ≤ out → repair f out ≡ repairing f
+repair-accepts : (f : List ℕ) (out : ℕ) → FrontPasses f → FrontGiven f → Walked mostFrames (length (definedIn f)) (drop (walkStart f) f) (walked f) → Legal (keptOf f) → eqb (refusal f) 0 ≡ false → length (tail f) ≤ out → repair f out ≡ repairing f
 unfolding repair repairing repairAnswer repairRefusal repairLines firstOf tooLong keptOf
 repair-accepts f out p g w k o room =
     let ordered : not (inOrder (walked f .frames)) ≡ false = ap not (k .framesOrdered) in
-    let short : ltb (2 ^ 40) (keptLength f + indexLength (keptCount f) + largestTable) ≡ false =
-    le-ltb (2 ^ 40) (keptLength f + indexLength (keptCount f) + largestTable) (omega (arith, k .userOffsetFits, kept-user f g (w .size))) in
+    let short : ltb (2 ^ 40) (keptLength f + indexLength (keptCount f) + largestTable) ≡ false = le-ltb (2 ^ 40) (keptLength f + indexLength (keptCount f) + largestTable) (omega (arith, k .userOffsetFits, kept-user f g (w .size))) in
     let z : repairRefusal f out ≡ 0 = front-pass f _ p ∙ rw (o, ordered, short, le-ltb out (length (tail f)) room) in
     rw z
 
@@ -177,14 +159,12 @@ all-frames r n e h = rw (take-all n (r .frames) h, ← e)
 
 -- the file is already whole and repair says 16, or, given room, repair gives the whole one
 abbrev pub Recovers : (f whole : List ℕ) → Type 0
-Recovers f whole = ((f ≡ whole) × ((out : ℕ) → repair f out .refused ≡ 16)) ⊎ ((out : ℕ) → length (tail f) ≤ out
-    → (repair f out .refused ≡ 0) × (repaired f (repair f out) ≡ whole))
+Recovers f whole = ((f ≡ whole) × ((out : ℕ) → repair f out .refused ≡ 16)) ⊎ ((out : ℕ) → length (tail f) ≤ out → (repair f out .refused ≡ 0) × (repaired f (repair f out) ≡ whole))
 
 module _ (r : Recording) (m : ℕ) (f : List ℕ) (s : CutShape r m f) (l : Legal r) where
   -- the front is read back
   cut-front : FrontRead (s .count) (s .index) (s .user) (r .sections) (r .system) (take (m - framesStart r) (behind r)) f
-  cut-front = rw (s .shape) (front-read (s .count) (s .index) (s .user) (r .sections) (r .system) (take (m - framesStart r) (behind r))
-      (s .countFits) (s .indexFits) (s .userFits) (legal-sections r l) (l .systemLegal) (system-fits r l))
+  cut-front = rw (s .shape) (front-read (s .count) (s .index) (s .user) (r .sections) (r .system) (take (m - framesStart r) (behind r)) (s .countFits) (s .indexFits) (s .userFits) (legal-sections r l) (l .systemLegal) (system-fits r l))
 
   cut-given : FrontGiven f
   unfolding valueOr
@@ -199,14 +179,11 @@ module _ (r : Recording) (m : ℕ) (f : List ℕ) (s : CutShape r m f) (l : Lega
       }
 
   -- the walk takes the complete frames
-  cut-walk : (walked f ≡ took (take (complete (m - framesStart r) (r .frames)) (r .frames)))
-      × Walked mostFrames (length (definedIn f)) (drop (walkStart f) f) (took (take (complete (m - framesStart r) (r .frames)) (r .frames)))
+  cut-walk : (walked f ≡ took (take (complete (m - framesStart r) (r .frames)) (r .frames))) × Walked mostFrames (length (definedIn f)) (drop (walkStart f) f) (took (take (complete (m - framesStart r) (r .frames)) (r .frames)))
   unfolding walked walkOf behind
   cut-walk =
       let g = cut-front in
-      rw (g .defined, g .behind) (walk-cut mostFrames (length (r .sections)) (m - framesStart r) (r .frames)
-      (indexBytes (framesStart r) (r .frames) ++ tableBytes []) (l .framesFew) (l .framesLegal)
-      (index-none (length (r .sections)) (framesStart r) (r .frames) (tableBytes []) (l .framesFew)))
+      rw (g .defined, g .behind) (walk-cut mostFrames (length (r .sections)) (m - framesStart r) (r .frames) (indexBytes (framesStart r) (r .frames) ++ tableBytes []) (l .framesFew) (l .framesLegal) (index-none (length (r .sections)) (framesStart r) (r .frames) (tableBytes []) (l .framesFew)))
 
   -- what repair keeps is the recording of those
   cut-kept : keptOf f ≡ firstFrames (complete (m - framesStart r) (r .frames)) r
@@ -219,8 +196,7 @@ module _ (r : Recording) (m : ℕ) (f : List ℕ) (s : CutShape r m f) (l : Lega
   cut-counted h =
       let g = cut-front in
       let all : length (behind r) ≤ m - framesStart r = omega arith in
-      rw (g .count, s .late h .0, g .defined, g .behind, take-all (m - framesStart r) (behind r) all)
-      (walk-exactly (r .frames) (length (r .sections)) (indexBytes (framesStart r) (r .frames) ++ tableBytes []) (l .framesLegal))
+      rw (g .count, s .late h .0, g .defined, g .behind, take-all (m - framesStart r) (behind r) all) (walk-exactly (r .frames) (length (r .sections)) (indexBytes (framesStart r) (r .frames) ++ tableBytes []) (l .framesLegal))
 
   -- A cut file that opens has the index offset whole, and so all of the file.
   pub cut-opens : r .user ≡ [] → refusal f ≡ 0 → (bodyLength r + 12 < m) × (f ≡ encode r)
@@ -230,32 +206,27 @@ module _ (r : Recording) (m : ℕ) (f : List ℕ) (s : CutShape r m f) (l : Lega
       go : (m ≤ bodyLength r + 12) ⊎ (bodyLength r + 12 < m) → (bodyLength r + 12 < m) × (f ≡ encode r)
       go (inl h) = absurd (omega (arith, opens-index f o, cut-front .index, s .early h))
       go (inr h) =
-          let end : framesStart r + took (r .frames) .bytes ≡ indexOffset f =
-          rw (cut-front .start ∙ sym (frames-start r), cut-counted h) at (index-given f (opens-passes f o .index) .end) in
+          let end : framesStart r + took (r .frames) .bytes ≡ indexOffset f = rw (cut-front .start ∙ sym (frames-start r), cut-counted h) at (index-given f (opens-passes f o .index) .end) in
           (h, shape-whole r m f s e h (omega (arith, end, cut-front .index, frames-end r)))
 
   -- Then it is the file of the complete frames, and repair says 16.
-  cut-whole : r .user ≡ [] → refusal f ≡ 0 → (f ≡ encode (firstFrames (complete (m - framesStart r) (r .frames)) r))
-      × ((out : ℕ) → repair f out .refused ≡ 16)
+  cut-whole : r .user ≡ [] → refusal f ≡ 0 → (f ≡ encode (firstFrames (complete (m - framesStart r) (r .frames)) r)) × ((out : ℕ) → repair f out .refused ≡ 16)
   unfolding bodyLength
   cut-whole e o =
       let w = cut-opens e o in
       let t : take (length (r .frames)) (r .frames) ≡ r .frames = take-all (length (r .frames)) (r .frames) (omega arith) in
-      let n : length (r .frames) ≤ complete (m - framesStart r) (r .frames) =
-      complete-most (m - framesStart r) (length (r .frames)) (r .frames) (omega arith) (rw t (omega (arith, w .0, length-behind r))) in
+      let n : length (r .frames) ≤ complete (m - framesStart r) (r .frames) = complete-most (m - framesStart r) (length (r .frames)) (r .frames) (omega arith) (rw t (omega (arith, w .0, length-behind r))) in
       (w .1 ∙ ap encode (all-frames r (complete (m - framesStart r) (r .frames)) e n), λ out. opens-sixteen f out o)
 
   -- Repair of one that does not gives, byte for byte, the file of the complete frames.
-  cut-repaired : Legal (keptOf f) → eqb (refusal f) 0 ≡ false → (out : ℕ) → length (tail f) ≤ out
-      → (repair f out .refused ≡ 0) × (repaired f (repair f out) ≡ encode (keptOf f))
+  cut-repaired : Legal (keptOf f) → eqb (refusal f) 0 ≡ false → (out : ℕ) → length (tail f) ≤ out → (repair f out .refused ≡ 0) × (repaired f (repair f out) ≡ encode (keptOf f))
   unfolding repairing
   cut-repaired k o out room =
       let w : Walked mostFrames (length (definedIn f)) (drop (walkStart f) f) (walked f) = rw (cut-walk .0) (cut-walk .1) in
       rw (repair-accepts f out (cut-front .passes) cut-given w k o room) (refl, repaired-bytes f cut-given w)
 
   -- What repair makes of a cut file.
-  pub cut-repairs : r .user ≡ [] → Legal (firstFrames (complete (m - framesStart r) (r .frames)) r)
-      → Recovers f (encode (firstFrames (complete (m - framesStart r) (r .frames)) r))
+  pub cut-repairs : r .user ≡ [] → Legal (firstFrames (complete (m - framesStart r) (r .frames)) r) → Recovers f (encode (firstFrames (complete (m - framesStart r) (r .frames)) r))
   cut-repairs e k = go (decided (eqb (refusal f) 0))
     where
       go : (eqb (refusal f) 0 ≡ true) ⊎ (eqb (refusal f) 0 ≡ false) → Recovers f (encode (firstFrames (complete (m - framesStart r) (r .frames)) r))

@@ -61,23 +61,18 @@ only-local {A} ok p l s t x n e = go (onward-good (p s) (λ a m. cond (ok a) (go
 then-local : {A B : Type 0} (p : Reader A) (next : A → Reader B) → Local p → ((a : A) → Local (next a)) → Local (p then next)
 then-local {A} {B} p next l k s t x n e = go (then-good p next s x n e)
   where
-    go : ((a : A) × (i : ℕ) × (m : ℕ) × (p s ≡ good a i) × (next a (drop i s) ≡ good x m) × (n ≡ i + m))
-        → (n ≤ length s) × ((p then next) (s ++ t) ≡ good x n)
+    go : ((a : A) × (i : ℕ) × (m : ℕ) × (p s ≡ good a i) × (next a (drop i s) ≡ good x m) × (n ≡ i + m)) → (n ≤ length s) × ((p then next) (s ++ t) ≡ good x n)
     go (a, i, m, f, g, j) =
         let h = l s t a i f in
-        let d = k a (drop i s) t x m g in (
-          omega (arith, h .0, d .0, length-drop i s),
-          then-takes p next (s ++ t) a x i m (h .1) (rw (drop-append-le i s t (h .0)) (d .1))
-              ∙ ap (good x) (sym j),
-        )
+        let d = k a (drop i s) t x m g in
+        (omega (arith, h .0, d .0, length-drop i s), then-takes p next (s ++ t) a x i m (h .1) (rw (drop-append-le i s t (h .0)) (d .1)) ∙ ap (good x) (sym j))
 
 times-local : {A : Type 0} (k : ℕ) (p : Reader A) → Local p → Local (times k p)
 unfolding times
 times-local zero p l s t x n e = let m : 0 ≡ n = cc in (omega arith, e)
 times-local {A} (suc k) p l s t x n e = go (times-suc-good p k s x n e) (times-local k p l)
   where
-    go : ((y : A) × (ys : List A) × (i : ℕ) × (m : ℕ) × (p s ≡ good y i) × (times k p (drop i s) ≡ good ys m) × (y ∷ ys ≡ x) × (i + m ≡ n))
-        → Local (times k p) → (n ≤ length s) × (times (suc k) p (s ++ t) ≡ good x n)
+    go : ((y : A) × (ys : List A) × (i : ℕ) × (m : ℕ) × (p s ≡ good y i) × (times k p (drop i s) ≡ good ys m) × (y ∷ ys ≡ x) × (i + m ≡ n)) → Local (times k p) → (n ≤ length s) × (times (suc k) p (s ++ t) ≡ good x n)
     go (y, ys, i, m, f, g, u, v) more =
         let h = l s t y i f in
         let d = more (drop i s) t ys m g in
@@ -132,8 +127,7 @@ cut-frame k j f l h = go (frame k (take j (frameBytes f))) refl
 pub index-none : (k at : ℕ) (fs : List Frame) (rest : List ℕ) → length fs ≤ mostFrames → frame k (indexBytes at fs ++ rest) ≡ bad
 unfolding indexBytes frame _then_ only onward
 index-none k at fs rest h =
-    let e : number 4 (bytesOf 4 (length fs) ++ (entriesBytes (firstTime fs) at fs ++ rest)) ≡ good (length fs) (length (bytesOf 4 (length fs))) =
-    number-exact 4 .takes (length fs) (entriesBytes (firstTime fs) at fs ++ rest) (lt-ltb (length fs) (256 ^ 4) (omega arith)) in
+    let e : number 4 (bytesOf 4 (length fs) ++ (entriesBytes (firstTime fs) at fs ++ rest)) ≡ good (length fs) (length (bytesOf 4 (length fs))) = number-exact 4 .takes (length fs) (entriesBytes (firstTime fs) at fs ++ rest) (lt-ltb (length fs) (256 ^ 4) (omega arith)) in
     let u : eqb (length fs) frameMark ≡ false = ne-eqb (length fs) frameMark (λ q. omega arith) in
     rw (append-assoc, e, u)
 
@@ -144,8 +138,7 @@ unfoldable pub complete : ℕ → List Frame → ℕ
 complete j [] = 0
 complete j (f ∷ fs) = cond (leb (length (frameBytes f)) j) (suc (complete (j - length (frameBytes f)) fs)) 0
 
-complete-more : (j : ℕ) (f : Frame) (fs : List Frame) → length (frameBytes f) ≤ j
-    → complete j (f ∷ fs) ≡ suc (complete (j - length (frameBytes f)) fs)
+complete-more : (j : ℕ) (f : Frame) (fs : List Frame) → length (frameBytes f) ≤ j → complete j (f ∷ fs) ≡ suc (complete (j - length (frameBytes f)) fs)
 unfolding complete
 complete-more j f fs h = cond-true (leb (length (frameBytes f)) j) _ _ (le-leb (length (frameBytes f)) j h)
 
@@ -158,8 +151,7 @@ unfolding complete
 complete-few j [] = omega arith
 complete-few j (f ∷ fs) = go (le-or-lt (length (frameBytes f)) j) (complete-few (j - length (frameBytes f)) fs)
   where
-    go : (length (frameBytes f) ≤ j) ⊎ (j < length (frameBytes f)) → complete (j - length (frameBytes f)) fs ≤ length fs
-        → complete j (f ∷ fs) ≤ suc (length fs)
+    go : (length (frameBytes f) ≤ j) ⊎ (j < length (frameBytes f)) → complete (j - length (frameBytes f)) fs ≤ length fs → complete j (f ∷ fs) ≤ suc (length fs)
     go (inl h) more = omega (arith, complete-more j f fs h)
     go (inr h) more = omega (arith, complete-none j f fs h)
 
@@ -168,9 +160,7 @@ unfolding complete flatMap
 complete-within j [] = omega arith
 complete-within j (f ∷ fs) = go (le-or-lt (length (frameBytes f)) j) (complete-within (j - length (frameBytes f)) fs)
   where
-    go : (length (frameBytes f) ≤ j) ⊎ (j < length (frameBytes f))
-        → length (flatMap frameBytes (take (complete (j - length (frameBytes f)) fs) fs)) ≤ j - length (frameBytes f)
-        → length (flatMap frameBytes (take (complete j (f ∷ fs)) (f ∷ fs))) ≤ j
+    go : (length (frameBytes f) ≤ j) ⊎ (j < length (frameBytes f)) → length (flatMap frameBytes (take (complete (j - length (frameBytes f)) fs) fs)) ≤ j - length (frameBytes f) → length (flatMap frameBytes (take (complete j (f ∷ fs)) (f ∷ fs))) ≤ j
     go (inl h) more = rw (complete-more j f fs h, length-append) (omega arith)
     go (inr h) more = rw (complete-none j f fs h) (omega arith)
 
@@ -184,42 +174,25 @@ complete-most j (suc i) (f ∷ fs) l h =
     omega (arith, complete-more j f fs (omega arith), complete-most (j - length (frameBytes f)) i fs (omega arith) (omega arith))
 
 -- A cut row of frames with no frame behind it: the complete ones, and then no frame.
-pub cut-row : (k j : ℕ) (fs : List Frame) (rest : List ℕ) → every (legalFrame k) fs ≡ true → frame k rest ≡ bad
-    → (left : List ℕ) × (take j (flatMap frameBytes fs ++ rest) ≡ flatMap frameBytes (take (complete j fs) fs) ++ left) × (frame k left ≡ bad)
+pub cut-row : (k j : ℕ) (fs : List Frame) (rest : List ℕ) → every (legalFrame k) fs ≡ true → frame k rest ≡ bad → (left : List ℕ) × (take j (flatMap frameBytes fs ++ rest) ≡ flatMap frameBytes (take (complete j fs) fs) ++ left) × (frame k left ≡ bad)
 unfolding flatMap every
 cut-row k j [] rest l b = (take j rest, rw take-nil, cut-none k j rest b)
-cut-row k j (f ∷ fs) rest l b = go (le-or-lt (length (frameBytes f)) j)
-    (cut-row k (j - length (frameBytes f)) fs rest (both-true (legalFrame k f) (every (legalFrame k) fs) l .1) b)
+cut-row k j (f ∷ fs) rest l b = go (le-or-lt (length (frameBytes f)) j) (cut-row k (j - length (frameBytes f)) fs rest (both-true (legalFrame k f) (every (legalFrame k) fs) l .1) b)
   where
-    go : (length (frameBytes f) ≤ j) ⊎ (j < length (frameBytes f))
-        → ((left : List ℕ) × (take (j - length (frameBytes f)) (flatMap frameBytes fs ++ rest) ≡ flatMap frameBytes
-        (take (complete (j - length (frameBytes f)) fs) fs) ++ left) × (frame k left ≡ bad))
-        → (left : List ℕ) × (take j (flatMap frameBytes (f ∷ fs) ++ rest) ≡ flatMap frameBytes (take (complete j (f ∷ fs)) (f ∷ fs)) ++ left)
-        × (frame k left ≡ bad)
+    go : (length (frameBytes f) ≤ j) ⊎ (j < length (frameBytes f)) → ((left : List ℕ) × (take (j - length (frameBytes f)) (flatMap frameBytes fs ++ rest) ≡ flatMap frameBytes (take (complete (j - length (frameBytes f)) fs) fs) ++ left) × (frame k left ≡ bad)) → (left : List ℕ) × (take j (flatMap frameBytes (f ∷ fs) ++ rest) ≡ flatMap frameBytes (take (complete j (f ∷ fs)) (f ∷ fs)) ++ left) × (frame k left ≡ bad)
     go (inl h) (left, e, n) =
         (left, rw (complete-more j f fs h, append-assoc, append-assoc, take-append, take-all, e), n)
-    go (inr h) more = (
-      take j (frameBytes f),
-      rw (complete-none j f fs h, append-assoc, take-append-le j (frameBytes f) _ (omega arith)),
-      cut-frame k j f (both-true (legalFrame k f) (every (legalFrame k) fs) l .0) h,
-    )
+    go (inr h) more = (take j (frameBytes f), rw (complete-none j f fs h, append-assoc, take-append-le j (frameBytes f) _ (omega arith)), cut-frame k j f (both-true (legalFrame k f) (every (legalFrame k) fs) l .0) h)
 
 -- The walk over a cut row of frames, with no frame behind it, takes just the complete ones, and they stand at the front.
-pub walk-cut : (most k j : ℕ) (fs : List Frame) (rest : List ℕ) → length fs ≤ most → every (legalFrame k) fs ≡ true → frame k rest ≡ bad
-    → (walk most k (take j (flatMap frameBytes fs ++ rest)) ≡ took (take (complete j fs) fs))
-    × Walked most k (take j (flatMap frameBytes fs ++ rest)) (took (take (complete j fs) fs))
+pub walk-cut : (most k j : ℕ) (fs : List Frame) (rest : List ℕ) → length fs ≤ most → every (legalFrame k) fs ≡ true → frame k rest ≡ bad → (walk most k (take j (flatMap frameBytes fs ++ rest)) ≡ took (take (complete j fs) fs)) × Walked most k (take j (flatMap frameBytes fs ++ rest)) (took (take (complete j fs) fs))
 unfolding took
 walk-cut most k j fs rest m l b =
     let c = cut-row k j fs rest l b in
     go (c .0) (c .1) (c .2)
   where
-    go : (left : List ℕ) → take j (flatMap frameBytes fs ++ rest) ≡ flatMap frameBytes (take (complete j fs) fs) ++ left → frame k left ≡ bad
-        → (walk most k (take j (flatMap frameBytes fs ++ rest)) ≡ took (take (complete j fs) fs))
-        × Walked most k (take j (flatMap frameBytes fs ++ rest)) (took (take (complete j fs) fs))
+    go : (left : List ℕ) → take j (flatMap frameBytes fs ++ rest) ≡ flatMap frameBytes (take (complete j fs) fs) ++ left → frame k left ≡ bad → (walk most k (take j (flatMap frameBytes fs ++ rest)) ≡ took (take (complete j fs) fs)) × Walked most k (take j (flatMap frameBytes fs ++ rest)) (took (take (complete j fs) fs))
     go left e n =
         let few : length (take (complete j fs) fs) ≤ most = rw length-take (omega arith) in
         let legal : every (legalFrame k) (take (complete j fs) fs) ≡ true = every-take (legalFrame k) (complete j fs) fs l in
-        rw e (
-          walk-stops (take (complete j fs) fs) most k left few legal n,
-          record { legal = legal; few = few; size = refl; front = rw drop-append-seam },
-        )
+        rw e (walk-stops (take (complete j fs) fs) most k left few legal n, record { legal = legal; few = few; size = refl; front = rw drop-append-seam })

@@ -1,5 +1,5 @@
--- What the card holds after any byte of a recording's pieces: the opening with some count, index offset and user offset, then a part of what stands
--- behind. Assumes nothing.
+-- What the card holds after any byte of a recording's pieces: the opening with some count, index offset and user offset, then a part of what stands behind.
+-- Assumes nothing.
 use Prim.Native.Nat.{ℕ, zero, suc, _+_, _-_, _^_, _≤_, _<_, min}
 use native.Mathlib.Omega.{arith}
 use native.Mathlib.Nat.{zero-add, add-zero}
@@ -36,8 +36,7 @@ half-length w j n = rw (length-append, length-drop) (omega (arith, length-take j
 
 half-areBytes : (w j n : ℕ) → areBytes (halfBytes w j n) ≡ true
 unfolding halfBytes
-half-areBytes w j n = bytes-append (take j (bytesOf w n)) _ (bytes-take j (bytesOf w n) (bytesOf-bytes w n))
-    (bytes-drop (length (take j (bytesOf w n))) (bytesOf w 0) (bytesOf-bytes w 0))
+half-areBytes w j n = bytes-append (take j (bytesOf w n)) _ (bytes-take j (bytesOf w n) (bytesOf-bytes w n)) (bytes-drop (length (take j (bytesOf w n))) (bytesOf w 0) (bytesOf-bytes w 0))
 
 -- they are again the bytes of a number
 half-bytes : (w j n : ℕ) → bytesOf w (half w j n) ≡ take j (bytesOf w n) ++ drop (length (take j (bytesOf w n))) (bytesOf w 0)
@@ -62,22 +61,14 @@ unfolding half halfBytes
 half-none w n = numberOf-bytesOf w 0 (omega (arith, half-fits w 0 n))
 
 -- the first j bytes of a number stored at a field that was zero
-stored-count : (j n i u : ℕ) (ss : List Section) (system t : List ℕ)
-    → stored (frontBytes 0 i u ss system ++ t) (take j (writesAt countPlace (bytesOf 4 n))) ≡ frontBytes (half 4 j n) i u ss system ++ t
-stored-count j n i u ss system t = rw (front-with 0, front-with (half 4 j n), half-bytes)
-    (cut-count j (bytesOf 4 0) (bytesOf 8 i) (bytesOf 8 u) ss system t (bytesOf 4 n) (length-bytesOf 4 0) (length-bytesOf 4 n))
+stored-count : (j n i u : ℕ) (ss : List Section) (system t : List ℕ) → stored (frontBytes 0 i u ss system ++ t) (take j (writesAt countPlace (bytesOf 4 n))) ≡ frontBytes (half 4 j n) i u ss system ++ t
+stored-count j n i u ss system t = rw (front-with 0, front-with (half 4 j n), half-bytes) (cut-count j (bytesOf 4 0) (bytesOf 8 i) (bytesOf 8 u) ss system t (bytesOf 4 n) (length-bytesOf 4 0) (length-bytesOf 4 n))
 
-stored-user : (j n c i : ℕ) (ss : List Section) (system t : List ℕ)
-    → stored (frontBytes c i 0 ss system ++ t) (take j (writesAt userPlace (bytesOf 8 n))) ≡ frontBytes c i (half 8 j n) ss system ++ t
-stored-user j n c i ss system t = rw (front-with c i 0, front-with c i (half 8 j n), half-bytes)
-    (cut-user j (bytesOf 4 c) (bytesOf 8 i) (bytesOf 8 0) ss system t (bytesOf 8 n) (length-bytesOf 4 c) (length-bytesOf 8 i) (length-bytesOf 8 0)
-    (length-bytesOf 8 n))
+stored-user : (j n c i : ℕ) (ss : List Section) (system t : List ℕ) → stored (frontBytes c i 0 ss system ++ t) (take j (writesAt userPlace (bytesOf 8 n))) ≡ frontBytes c i (half 8 j n) ss system ++ t
+stored-user j n c i ss system t = rw (front-with c i 0, front-with c i (half 8 j n), half-bytes) (cut-user j (bytesOf 4 c) (bytesOf 8 i) (bytesOf 8 0) ss system t (bytesOf 8 n) (length-bytesOf 4 c) (length-bytesOf 8 i) (length-bytesOf 8 0) (length-bytesOf 8 n))
 
-stored-index : (j n c u : ℕ) (ss : List Section) (system t : List ℕ)
-    → stored (frontBytes c 0 u ss system ++ t) (take j (writesAt indexPlace (bytesOf 8 n))) ≡ frontBytes c (half 8 j n) u ss system ++ t
-stored-index j n c u ss system t = rw (front-with c 0, front-with c (half 8 j n), half-bytes)
-    (cut-index j (bytesOf 4 c) (bytesOf 8 0) (bytesOf 8 u) ss system t (bytesOf 8 n) (length-bytesOf 4 c) (length-bytesOf 8 0)
-    (length-bytesOf 8 n))
+stored-index : (j n c u : ℕ) (ss : List Section) (system t : List ℕ) → stored (frontBytes c 0 u ss system ++ t) (take j (writesAt indexPlace (bytesOf 8 n))) ≡ frontBytes c (half 8 j n) u ss system ++ t
+stored-index j n c u ss system t = rw (front-with c 0, front-with c (half 8 j n), half-bytes) (cut-index j (bytesOf 4 c) (bytesOf 8 0) (bytesOf 8 u) ss system t (bytesOf 8 n) (length-bytesOf 4 c) (length-bytesOf 8 0) (length-bytesOf 8 n))
 
 -- ── The pieces of a recording, byte by byte ──
 
@@ -114,8 +105,7 @@ writes-frames at (f ∷ fs) =
 
 -- the three fields
 unfoldable pub fieldWrites : Recording → List Written
-fieldWrites r = writesAt countPlace (bytesOf 4 (length (r .frames)))
-    ++ (writesAt userPlace (bytesOf 8 (userStart r)) ++ writesAt indexPlace (bytesOf 8 (framesEnd r)))
+fieldWrites r = writesAt countPlace (bytesOf 4 (length (r .frames))) ++ (writesAt userPlace (bytesOf 8 (userStart r)) ++ writesAt indexPlace (bytesOf 8 (framesEnd r)))
 
 pub writes-all : (r : Recording) → writes (piecesOf r 5) ≡ writesAt 0 (opening r ++ behind r) ++ fieldWrites r
 unfolding piecesOf closings writes behind fieldWrites
@@ -132,34 +122,18 @@ unfolding bodyLength
 length-body r = rw (length-append, length-opening)
 
 -- the body of the file, cut behind its opening
-cut-body : (r : Recording) (m : ℕ) → framesStart r ≤ m → stored [] (take m (writesAt 0 (opening r ++ behind r))) ≡ opening r
-    ++ take (m - framesStart r) (behind r)
+cut-body : (r : Recording) (m : ℕ) → framesStart r ≤ m → stored [] (take m (writesAt 0 (opening r ++ behind r))) ≡ opening r ++ take (m - framesStart r) (behind r)
 cut-body r m h =
     let o : length (opening r) ≡ framesStart r = length-opening r in
     let l : length (opening r) ≤ m = omega arith in
     rw (cut-end m [] 0 (opening r ++ behind r) refl, take-append, o, take-all m (opening r) l)
 
 -- what is written of the fields after j bytes of them, over an opening of zeros
-cut-fields : (r : Recording) (j : ℕ) (t : List ℕ) → stored (opening r ++ t) (take j (fieldWrites r)) ≡ frontBytes (half 4 j (length (r .frames)))
-    (half 8 (j - 4 - 8) (framesEnd r)) (half 8 (j - 4) (userStart r)) (r .sections) (tableBytes (r .system)) ++ t
+cut-fields : (r : Recording) (j : ℕ) (t : List ℕ) → stored (opening r ++ t) (take j (fieldWrites r)) ≡ frontBytes (half 4 j (length (r .frames))) (half 8 (j - 4 - 8) (framesEnd r)) (half 8 (j - 4) (userStart r)) (r .sections) (tableBytes (r .system)) ++ t
 unfolding fieldWrites
-cut-fields r j t = rw (
-  take-append,
-  length-writesAt,
-  length-bytesOf,
-  stored-append,
-  stored-count,
-  take-append,
-  length-writesAt,
-  length-bytesOf,
-  stored-append,
-  stored-user,
-  stored-index,
-)
+cut-fields r j t = rw (take-append, length-writesAt, length-bytesOf, stored-append, stored-count, take-append, length-writesAt, length-bytesOf, stored-append, stored-user, stored-index)
 
-cut-stored : (r : Recording) (m : ℕ) → framesStart r ≤ m → stored [] (take m (writes (piecesOf r 5))) ≡ frontBytes
-    (half 4 (m - bodyLength r) (length (r .frames))) (half 8 (m - bodyLength r - 4 - 8) (framesEnd r))
-    (half 8 (m - bodyLength r - 4) (userStart r)) (r .sections) (tableBytes (r .system)) ++ take (m - framesStart r) (behind r)
+cut-stored : (r : Recording) (m : ℕ) → framesStart r ≤ m → stored [] (take m (writes (piecesOf r 5))) ≡ frontBytes (half 4 (m - bodyLength r) (length (r .frames))) (half 8 (m - bodyLength r - 4 - 8) (framesEnd r)) (half 8 (m - bodyLength r - 4) (userStart r)) (r .sections) (tableBytes (r .system)) ++ take (m - framesStart r) (behind r)
 cut-stored r m h =
     rw (writes-all, take-append, length-writesAt, length-body, stored-append, cut-body r m h) (cut-fields r (m - bodyLength r) _)
 
@@ -193,16 +167,12 @@ cut-shape r m l h =
       early = λ e.
           let z : m - bodyLength r - 4 - 8 ≡ 0 = omega arith in
           rw z (half-none 8 (framesEnd r));
-      late = λ e. (
-        half-whole 4 (m - bodyLength r) (length (r .frames)) (omega arith) few,
-        half-whole 8 (m - bodyLength r - 4) (userStart r) (omega arith) low,
-      );
+      late = λ e. (half-whole 4 (m - bodyLength r) (length (r .frames)) (omega arith) few, half-whole 8 (m - bodyLength r - 4) (userStart r) (omega arith) low);
       whole = λ e. half-whole 8 (m - bodyLength r - 4 - 8) (framesEnd r) (omega arith) (omega arith);
     }
 
 -- the whole file of a recording without user tags
-pub encode-whole : (r : Recording) → r .user ≡ [] → encode r ≡ frontBytes (length (r .frames)) (framesEnd r) (userStart r) (r .sections)
-    (tableBytes (r .system)) ++ behind r
+pub encode-whole : (r : Recording) → r .user ≡ [] → encode r ≡ frontBytes (length (r .frames)) (framesEnd r) (userStart r) (r .sections) (tableBytes (r .system)) ++ behind r
 unfolding frontOf behind
 encode-whole r e = rw (encode-parts, e)
 
@@ -216,16 +186,10 @@ cut-opening r m h =
     let o = length-opening r in
     let a : m ≤ length (opening r) = omega arith in
     let w : m ≤ length (writesAt 0 (opening r ++ behind r)) = rw (length-writesAt, length-append) (omega arith) in
-    rw (
-      writes-all,
-      take-append-le m (writesAt 0 (opening r ++ behind r)) _ w,
-      cut-end m [] 0 (opening r ++ behind r) refl,
-      take-append-le m (opening r) (behind r) a,
-    )
+    rw (writes-all, take-append-le m (writesAt 0 (opening r ++ behind r)) _ w, cut-end m [] 0 (opening r ++ behind r) refl, take-append-le m (opening r) (behind r) a)
 
 -- a cut that has all, and the index offset whole, is the whole file
-pub shape-whole : (r : Recording) (m : ℕ) (f : List ℕ) (s : CutShape r m f) → r .user ≡ [] → bodyLength r + 12 < m → s .index ≡ framesEnd r
-    → f ≡ encode r
+pub shape-whole : (r : Recording) (m : ℕ) (f : List ℕ) (s : CutShape r m f) → r .user ≡ [] → bodyLength r + 12 < m → s .index ≡ framesEnd r → f ≡ encode r
 unfolding bodyLength
 shape-whole r m f s e h i =
     let all : length (behind r) ≤ m - framesStart r = omega arith in
@@ -236,15 +200,12 @@ shape-whole r m f s e h i =
 -- the pieces with c of the closing ones, and the others
 pieces-split : (r : Recording) (c : ℕ) → writes (piecesOf r 5) ≡ writes (piecesOf r c) ++ writes (drop c (closings r))
 unfolding piecesOf closings
-pieces-split r c = ap (λ (l : List Piece). writes (piece 0 (opening r) ∷ framePieces (framesStart r) (r .frames) ++ l))
-    (sym (take-append-drop c (closings r)))
-    ∙ rw (← append-assoc (framePieces (framesStart r) (r .frames)))
-    (writes-append (piece 0 (opening r) ∷ framePieces (framesStart r) (r .frames) ++ take c (closings r)) (drop c (closings r)))
+pieces-split r c = ap (λ (l : List Piece). writes (piece 0 (opening r) ∷ framePieces (framesStart r) (r .frames) ++ l)) (sym (take-append-drop c (closings r)))
+    ∙ rw (← append-assoc (framePieces (framesStart r) (r .frames))) (writes-append (piece 0 (opening r) ∷ framePieces (framesStart r) (r .frames) ++ take c (closings r)) (drop c (closings r)))
 
 pub length-all : (r : Recording) → length (writes (piecesOf r 5)) ≡ bodyLength r + 20
 unfolding fieldWrites
-length-all r = rw writes-all (simp (length-append, length-writesAt, length-bytesOf)
-    (omega (arith, length-body r, length-append (opening r) (behind r))))
+length-all r = rw writes-all (simp (length-append, length-writesAt, length-bytesOf) (omega (arith, length-body r, length-append (opening r) (behind r))))
 
 -- the index offset is written last
 last-piece : (r : Recording) (c : ℕ) → c < 5 → 8 ≤ length (writes (drop c (closings r)))
@@ -257,20 +218,12 @@ last-piece r (suc (suc (suc (suc zero)))) h = simp (length-append, length-writes
 last-piece r (suc (suc (suc (suc (suc c))))) h = absurd (omega arith)
 
 pub length-early : (r : Recording) (c : ℕ) → c < 5 → length (writes (piecesOf r c)) ≤ bodyLength r + 12
-length-early r c h = omega (
-  arith,
-  length-all r,
-  last-piece r c h,
-  ap length (pieces-split r c),
-  length-append (writes (piecesOf r c)) (writes (drop c (closings r))),
-)
+length-early r c h = omega (arith, length-all r, last-piece r c h, ap length (pieces-split r c), length-append (writes (piecesOf r c)) (writes (drop c (closings r))))
 
-pub length-pieces : (r : Recording) (c : ℕ) → length (writes (piecesOf r c)) ≡ framesStart r + length (flatMap frameBytes (r .frames)) + length
-    (writes (take c (closings r)))
+pub length-pieces : (r : Recording) (c : ℕ) → length (writes (piecesOf r c)) ≡ framesStart r + length (flatMap frameBytes (r .frames)) + length (writes (take c (closings r)))
 unfolding piecesOf writes
 length-pieces r c =
-    let w : writes (framePieces (framesStart r) (r .frames) ++ take c (closings r)) ≡ writes (framePieces (framesStart r) (r .frames))
-    ++ writes (take c (closings r)) = writes-append (framePieces (framesStart r) (r .frames)) (take c (closings r)) in
+    let w : writes (framePieces (framesStart r) (r .frames) ++ take c (closings r)) ≡ writes (framePieces (framesStart r) (r .frames)) ++ writes (take c (closings r)) = writes-append (framePieces (framesStart r) (r .frames)) (take c (closings r)) in
     rw (length-append, length-writesAt, length-opening, w, length-append, writes-frames, length-writesAt) (omega arith)
 
 -- before the first closing piece

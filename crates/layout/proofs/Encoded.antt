@@ -67,8 +67,7 @@ pub drop-index : (r : Recording) → drop (framesEnd r) (encode r) ≡ behindFra
 drop-index r = rw (frames-end r, ← drop-drop (length (flatMap frameBytes (r .frames))) (framesStart r) (encode r), drop-frames r, drop-append-seam)
 
 pub drop-user : (r : Recording) → drop (userStart r) (encode r) ≡ tableBytes (r .user)
-drop-user r = rw (user-start r, ← drop-drop (indexLength (length (r .frames))) (framesEnd r) (encode r), drop-index r)
-    (drop-at (indexBytes (framesStart r) (r .frames)) _ _ (length-index (framesStart r) (r .frames)))
+drop-user r = rw (user-start r, ← drop-drop (indexLength (length (r .frames))) (framesEnd r) (encode r), drop-index r) (drop-at (indexBytes (framesStart r) (r .frames)) _ _ (length-index (framesStart r) (r .frames)))
 
 pub length-encode : (r : Recording) → length (encode r) ≡ userStart r + length (tableBytes (r .user))
 length-encode r = rw (encode-parts r) (simp (length-append, length-frontOf, length-index) (omega (arith, frames-end r, user-start r)))
@@ -159,16 +158,13 @@ index-given f h =
 pub legal-sections : (r : Recording) → Legal r → LegalSections (r .sections)
 legal-sections r l = record { some = l .atLeastOneSection; few = l .atMostEightSections; legal = l .sectionsLegal; differ = l .sectionsDiffer }
 
-pub legal-front : (r : Recording) → Legal r → FrontRead (length (r .frames)) (framesEnd r) (userStart r) (r .sections) (r .system)
-    (flatMap frameBytes (r .frames) ++ behindFrames r) (encode r)
+pub legal-front : (r : Recording) → Legal r → FrontRead (length (r .frames)) (framesEnd r) (userStart r) (r .sections) (r .system) (flatMap frameBytes (r .frames) ++ behindFrames r) (encode r)
 unfolding frontOf
 legal-front r l =
     let a = frames-start r in
     let b = frames-end r in
     let c = user-start r in
-    rw (encode-parts r) (front-read (length (r .frames)) (framesEnd r) (userStart r) (r .sections) (r .system)
-    (flatMap frameBytes (r .frames) ++ behindFrames r) (omega (arith, l .framesFew)) (omega (arith, l .userOffsetFits))
-    (omega (arith, l .userOffsetFits)) (legal-sections r l) (l .systemLegal) (omega (arith, l .userOffsetFits)))
+    rw (encode-parts r) (front-read (length (r .frames)) (framesEnd r) (userStart r) (r .sections) (r .system) (flatMap frameBytes (r .frames) ++ behindFrames r) (omega (arith, l .framesFew)) (omega (arith, l .userOffsetFits)) (omega (arith, l .userOffsetFits)) (legal-sections r l) (l .systemLegal) (omega (arith, l .userOffsetFits)))
 
 -- the frames that are counted are the recording's
 pub legal-counted : (r : Recording) → Legal r → counted (encode r) ≡ took (r .frames)
@@ -206,19 +202,13 @@ legal-index r l =
       all = rw (f .count, a) (omega arith);
       end = rw (s, a, f .index) (sym (frames-end r));
       ordered = rw a (l .framesOrdered);
-      index = rw (s, a, f .index, f .user, drop-index r) (take-at (indexBytes (framesStart r) (r .frames)) (tableBytes (r .user))
-          (userStart r - framesEnd r) (omega (arith, length-index (framesStart r) (r .frames), user-start r)));
+      index = rw (s, a, f .index, f .user, drop-index r) (take-at (indexBytes (framesStart r) (r .frames)) (tableBytes (r .user)) (userStart r - framesEnd r) (omega (arith, length-index (framesStart r) (r .frames), user-start r)));
     }
 
 -- no line of opening holds
 pub legal-passes : (r : Recording) → Legal r → Passes (encode r)
 unfolding badUser
-legal-passes r l = record {
-  front = legal-front r l .passes;
-  closed = closed-pass (encode r) (legal-closed r l);
-  index = index-pass (encode r) (legal-index r l);
-  user = rw (legal-user r l);
-}
+legal-passes r l = record { front = legal-front r l .passes; closed = closed-pass (encode r) (legal-closed r l); index = index-pass (encode r) (legal-index r l); user = rw (legal-user r l) }
 
 -- ── What a file is that opens ──
 
@@ -228,11 +218,9 @@ unfolding counted walkOf
 counted-walked f h = walk-gives (headerCount f) (length (definedIn f)) (drop (walkStart f) f) (bytes-drop (walkStart f) f h)
 
 -- the user table that it reads
-pub user-given : (f : List ℕ) → areBytes f ≡ true → badUser f ≡ false
-    → (legalTable (valueOr [] (readUser f)) ≡ true) × (drop (userOffset f) f ≡ tableBytes (valueOr [] (readUser f)))
+pub user-given : (f : List ℕ) → areBytes f ≡ true → badUser f ≡ false → (legalTable (valueOr [] (readUser f)) ≡ true) × (drop (userOffset f) f ≡ tableBytes (valueOr [] (readUser f)))
 unfolding badUser readUser
-user-given f h b = exactly-gives legalTable tableBytes table table-exact (drop (userOffset f) f) (valueOr [] (readUser f)) (taken (readUser f))
-    (bytes-drop (userOffset f) f h) (read-good [] (readUser f) b)
+user-given f h b = exactly-gives legalTable tableBytes table table-exact (drop (userOffset f) f) (valueOr [] (readUser f)) (taken (readUser f)) (bytes-drop (userOffset f) f h) (read-good [] (readUser f) b)
 
 -- the places in a file that opens are those of the recording it shows
 pub record Placed (f : List ℕ) : Type 0 where
@@ -248,8 +236,7 @@ opens-placed f h p =
     let w = counted-walked f h in
     let c = closed-given f (p .closed) in
     let x = index-given f (p .index) in
-    let n : length (take (userOffset f - indexOffset f) (drop (indexOffset f) f)) ≡ userOffset f - indexOffset f =
-    length-take-le (userOffset f - indexOffset f) (drop (indexOffset f) f) (simp length-drop (omega arith)) in
+    let n : length (take (userOffset f - indexOffset f) (drop (indexOffset f) f)) ≡ userOffset f - indexOffset f = length-take-le (userOffset f - indexOffset f) (drop (indexOffset f) f) (simp length-drop (omega arith)) in
     let a : walkStart f ≡ framesStart (shown f) = g .start ∙ sym (frames-start (shown f)) in
     let b : indexOffset f ≡ framesEnd (shown f) = omega (arith, frames-end (shown f), w .size, x .end, a) in
     record {
@@ -270,15 +257,10 @@ opens-bytes f h p =
     let k : ℕ = userOffset f - indexOffset f in
     let e : i + k ≡ userOffset f = omega (arith, q .index, q .user, user-start (shown f)) in
     let t : drop k (drop i f) ≡ tableBytes (valueOr [] (readUser f)) = drop-drop k i f ∙ ap (λ (n : ℕ). drop n f) e ∙ user-given f h (p .user) .1 in
-    let b : drop i f ≡ indexBytes (walkStart f) (counted f .frames) ++ tableBytes (valueOr [] (readUser f)) =
-    sym (take-append-drop k (drop i f)) ∙ rw (x .index, t) in
-    let c : drop (walkStart f) f ≡ flatMap frameBytes (counted f .frames) ++ drop i f =
-    w .front ∙ ap (λ (s : List ℕ). flatMap frameBytes (counted f .frames) ++ s)
-    (drop-drop (counted f .bytes) (walkStart f) f ∙ ap (λ (n : ℕ). drop n f) (x .end)) in
-    let d : drop (walkStart f) f ≡ flatMap frameBytes (shown f .frames) ++ behindFrames (shown f) =
-    c ∙ ap (λ (s : List ℕ). flatMap frameBytes (counted f .frames) ++ s) (b ∙ rw (q .start)) in
-    let a : frontOf (shown f) ≡ frontBytes (headerCount f) (indexOffset f) (userOffset f) (sectionsIn f) (tableBytes (systemIn f)) =
-    rw (q .count, q .index, q .user) in
+    let b : drop i f ≡ indexBytes (walkStart f) (counted f .frames) ++ tableBytes (valueOr [] (readUser f)) = sym (take-append-drop k (drop i f)) ∙ rw (x .index, t) in
+    let c : drop (walkStart f) f ≡ flatMap frameBytes (counted f .frames) ++ drop i f = w .front ∙ ap (λ (s : List ℕ). flatMap frameBytes (counted f .frames) ++ s) (drop-drop (counted f .bytes) (walkStart f) f ∙ ap (λ (n : ℕ). drop n f) (x .end)) in
+    let d : drop (walkStart f) f ≡ flatMap frameBytes (shown f .frames) ++ behindFrames (shown f) = c ∙ ap (λ (s : List ℕ). flatMap frameBytes (counted f .frames) ++ s) (b ∙ rw (q .start)) in
+    let a : frontOf (shown f) ≡ frontBytes (headerCount f) (indexOffset f) (userOffset f) (sectionsIn f) (tableBytes (systemIn f)) = rw (q .count, q .index, q .user) in
     encode-parts (shown f) ∙ rw (a, ← d) (sym (g .bytes))
 
 pub opens-is-legal : (f : List ℕ) → areBytes f ≡ true → Passes f → Legal (shown f)

@@ -22,8 +22,7 @@ use Rattle.layout.proofs.Sizes.{length-entry, flatMap-most}
 -- ── What fits ──
 
 -- no frame of a legal recording is before its first, and none more than 4,294,967,295 ms after it
-follow-span : (first last : ℕ) (fs : List Frame) (i : ℕ) → rank first ≤ rank last → follow first last fs ≡ true → i < length fs
-    → (rank first ≤ rank (getD fs i noFrame .time)) × (rank (getD fs i noFrame .time) - rank first ≤ longestSpan)
+follow-span : (first last : ℕ) (fs : List Frame) (i : ℕ) → rank first ≤ rank last → follow first last fs ≡ true → i < length fs → (rank first ≤ rank (getD fs i noFrame .time)) × (rank (getD fs i noFrame .time) - rank first ≤ longestSpan)
 unfolding follow follows
 follow-span first last [] i h e k = absurd (omega arith)
 follow-span first last (f ∷ fs) zero h e k =
@@ -55,56 +54,38 @@ unfolding frameBytes
 frame-most k f h l =
     let t = frame-legal k f .1 l in
     let m = flatMap-most (λ s. leb (length s) longestSection) sizedBytes (longestSection + 4) sized-most (f .sections) (t .3) in
-    omega (
-      arith,
-      length-append (frameHeadBytes (f .time) (f .exposure)) (flatMap sizedBytes (f .sections)),
-      length-head (f .time) (f .exposure),
-      m,
-      t .2,
-    )
+    omega (arith, length-append (frameHeadBytes (f .time) (f .exposure)) (flatMap sizedBytes (f .sections)), length-head (f .time) (f .exposure), m, t .2)
 
 -- ── Where an entry stands ──
 
-entry-stands : {s : List ℕ} {place : ℕ} (first at : ℕ) (fs : List Frame) (i : ℕ) → i < length fs → Stands s place (entriesBytes first at fs)
-    → Stands s (place + 16 * i) (entryBytes first (getD fs i noFrame .time) (at + length (flatMap frameBytes (take i fs)))
-    (length (frameBytes (getD fs i noFrame))))
+entry-stands : {s : List ℕ} {place : ℕ} (first at : ℕ) (fs : List Frame) (i : ℕ) → i < length fs → Stands s place (entriesBytes first at fs) → Stands s (place + 16 * i) (entryBytes first (getD fs i noFrame .time) (at + length (flatMap frameBytes (take i fs))) (length (frameBytes (getD fs i noFrame))))
 unfolding entriesBytes flatMap
 entry-stands first at [] i h p = absurd (omega arith)
 entry-stands {s} {place} first at (f ∷ fs) zero h p =
     let e : at + 0 ≡ at = omega arith in
-    rw e (stands-at (place + 16 * 0) (omega arith) (stands-front (entryBytes first (f .time) at (length (frameBytes f)))
-    (entriesBytes first (at + length (frameBytes f)) fs) p))
+    rw e (stands-at (place + 16 * 0) (omega arith) (stands-front (entryBytes first (f .time) at (length (frameBytes f))) (entriesBytes first (at + length (frameBytes f)) fs) p))
 entry-stands {s} {place} first at (f ∷ fs) (suc i) h p =
-    let e : at + length (frameBytes f ++ flatMap frameBytes (take i fs)) ≡ at + length (frameBytes f) + length (flatMap frameBytes (take i fs)) =
-    rw length-append (omega arith) in
+    let e : at + length (frameBytes f ++ flatMap frameBytes (take i fs)) ≡ at + length (frameBytes f) + length (flatMap frameBytes (take i fs)) = rw length-append (omega arith) in
     let q = stands-back (entryBytes first (f .time) at (length (frameBytes f))) (entriesBytes first (at + length (frameBytes f)) fs) p in
-    rw e (stands-at (place + 16 * suc i) (omega (arith, length-entry first (f .time) at (length (frameBytes f))))
-    (entry-stands first (at + length (frameBytes f)) fs i (omega arith) q))
+    rw e (stands-at (place + 16 * suc i) (omega (arith, length-entry first (f .time) at (length (frameBytes f)))) (entry-stands first (at + length (frameBytes f)) fs i (omega arith) q))
 
 index-stands : (r : Recording) → Stands (encode r) (framesEnd r) (indexBytes (framesStart r) (r .frames))
 index-stands r =
-    record {
-      rest = tableBytes (r .user);
-      stands = drop-index r;
-      inside = omega (arith, length-encode r, user-start r, length-index (framesStart r) (r .frames));
-    }
+    record { rest = tableBytes (r .user); stands = drop-index r; inside = omega (arith, length-encode r, user-start r, length-index (framesStart r) (r .frames)) }
 
 -- a number that stands somewhere and fits its width is read there
 number-stands : {s : List ℕ} {place : ℕ} (w n : ℕ) → n < 256 ^ w → Stands s place (bytesOf w n) → field place w s ≡ n
 unfolding field
-number-stands {s} {place} w n h p = ap numberOf (ap (λ (k : ℕ). take k (drop place s)) (sym (length-bytesOf w n)) ∙ stands-take p)
-    ∙ numberOf-bytesOf w n h
+number-stands {s} {place} w n h p = ap numberOf (ap (λ (k : ℕ). take k (drop place s)) (sym (length-bytesOf w n)) ∙ stands-take p) ∙ numberOf-bytesOf w n h
 
 -- ── The index ──
 
 -- The index of a legal recording starts with its number of frames;
 pub index-count : (r : Recording) → Legal r → field (framesEnd r) 4 (encode r) ≡ length (r .frames)
 unfolding indexBytes
-index-count r l = number-stands 4 (length (r .frames)) (omega (arith, l .framesFew))
-    (stands-front (bytesOf 4 (length (r .frames))) (entriesBytes (firstTime (r .frames)) (framesStart r) (r .frames)) (index-stands r))
+index-count r l = number-stands 4 (length (r .frames)) (omega (arith, l .framesFew)) (stands-front (bytesOf 4 (length (r .frames))) (entriesBytes (firstTime (r .frames)) (framesStart r) (r .frames)) (index-stands r))
 
--- and entry i, at 4 + 16·i from the index, holds the frame's time since the first frame, the offset of its mark, and its length from the mark to its
--- last byte.
+-- and entry i, at 4 + 16·i from the index, holds the frame's time since the first frame, the offset of its mark, and its length from the mark to its last byte.
 pub index-entry : (r : Recording) (i : ℕ)
     → Legal r
     → i < length (r .frames)
@@ -119,17 +100,12 @@ index-entry r i l h =
     let place = framesStart r + length (flatMap frameBytes (take i fs)) in
     let size = length (frameBytes f) in
     let span = order-span fs i (l .framesOrdered) h in
-    let small = frame-most (length (r .sections)) f (l .atMostEightSections)
-    (every-one (legalFrame (length (r .sections))) fs i noFrame (l .framesLegal) h) in
+    let small = frame-most (length (r .sections)) f (l .atMostEightSections) (every-one (legalFrame (length (r .sections))) fs i noFrame (l .framesLegal) h) in
     let all = stands-back (bytesOf 4 (length fs)) (entriesBytes (firstTime fs) (framesStart r) fs) (index-stands r) in
     let four : framesEnd r + length (bytesOf 4 (length fs)) ≡ framesEnd r + 4 = omega (arith, length-bytesOf 4 (length fs)) in
     let entry = entry-stands (firstTime fs) (framesStart r) fs i h (stands-at (framesEnd r + 4) four all) in
     let head = stands-front (bytesOf 4 since ++ bytesOf 8 place) (bytesOf 4 size) entry in
     let a = number-stands 4 since (omega (arith, span .1)) (stands-front (bytesOf 4 since) (bytesOf 8 place) head) in
-    let b = number-stands 8 place (omega (arith, flatMap-take frameBytes i fs, frames-end r, user-start r, l .userOffsetFits))
-    (stands-at (framesEnd r + 4 + 16 * i + 4) (omega (arith, length-bytesOf 4 since))
-    (stands-back (bytesOf 4 since) (bytesOf 8 place) head)) in
-    let c = number-stands 4 size small (stands-at (framesEnd r + 4 + 16 * i + 12)
-    (omega (arith, length-append (bytesOf 4 since) (bytesOf 8 place), length-bytesOf 4 since, length-bytesOf 8 place))
-    (stands-back (bytesOf 4 since ++ bytesOf 8 place) (bytesOf 4 size) entry)) in
+    let b = number-stands 8 place (omega (arith, flatMap-take frameBytes i fs, frames-end r, user-start r, l .userOffsetFits)) (stands-at (framesEnd r + 4 + 16 * i + 4) (omega (arith, length-bytesOf 4 since)) (stands-back (bytesOf 4 since) (bytesOf 8 place) head)) in
+    let c = number-stands 4 size small (stands-at (framesEnd r + 4 + 16 * i + 12) (omega (arith, length-append (bytesOf 4 since) (bytesOf 8 place), length-bytesOf 4 since, length-bytesOf 8 place)) (stands-back (bytesOf 4 since ++ bytesOf 8 place) (bytesOf 4 size) entry)) in
     (omega (arith, span .0, a), b, c)

@@ -25,8 +25,7 @@ pub record Exact {A : Type 0} (ok : A → Bool) (bytes : A → List ℕ) (p : Re
 pub reads : {A : Type 0} {ok : A → Bool} {bytes : A → List ℕ} {p : Reader A} → Exact ok bytes p → Reads (λ x. ok x ≡ true) bytes p
 reads e = record { takes = e .takes; gives = e .gives }
 
-pub exact : {A : Type 0} {Ok : A → Type 0} {ok : A → Bool} {bytes bytes′ : A → List ℕ} {p : Reader A} → Reads Ok bytes p
-    → ((x : A) → Ok x ↔ (ok x ≡ true)) → ((x : A) → Ok x → bytes x ≡ bytes′ x) → Exact ok bytes′ p
+pub exact : {A : Type 0} {Ok : A → Type 0} {ok : A → Bool} {bytes bytes′ : A → List ℕ} {p : Reader A} → Reads Ok bytes p → ((x : A) → Ok x ↔ (ok x ≡ true)) → ((x : A) → Ok x → bytes x ≡ bytes′ x) → Exact ok bytes′ p
 exact e oks alike = let r = reads-alike e oks alike in record { takes = r .takes; gives = r .gives }
 
 -- ── How exact readers are put together ──
@@ -34,8 +33,7 @@ exact e oks alike = let r = reads-alike e oks alike in record { takes = r .takes
 pub number-exact : (w : ℕ) → Exact (λ n. ltb n (256 ^ w)) (bytesOf w) (number w)
 number-exact w = exact (number-reads w) (λ n. (lt-ltb n (256 ^ w), ltb-true n (256 ^ w))) (λ n h. refl)
 
-pub times-exact : {A : Type 0} (ok : A → Bool) (bytes : A → List ℕ) (p : Reader A) (k : ℕ) → Exact ok bytes p
-    → Exact (λ xs. eqb (length xs) k && every ok xs) (flatMap bytes) (times k p)
+pub times-exact : {A : Type 0} (ok : A → Bool) (bytes : A → List ℕ) (p : Reader A) (k : ℕ) → Exact ok bytes p → Exact (λ xs. eqb (length xs) k && every ok xs) (flatMap bytes) (times k p)
 times-exact ok bytes p k e =
     exact (times-reads ok k (reads e))
     (λ xs. (
@@ -89,24 +87,20 @@ unfolding legalTag tagBytes tag
 tag-exact =
     exact
     (then-reads (λ t. t .name) (only-reads legalTagName (reads string-exact))
-    (λ n. then-reads (λ t. t .value) (only-reads legalTagValue (reads string-exact)) (λ v. give-reads (record { name = n; value = v }))
-    (λ v t o g. sym (ap (λ (t : Tag). t .value) g)))
+    (λ n. then-reads (λ t. t .value) (only-reads legalTagValue (reads string-exact)) (λ v. give-reads (record { name = n; value = v })) (λ v t o g. sym (ap (λ (t : Tag). t .value) g)))
     (λ n t o g. sym (ap (λ (t : Tag). t .name) (g .1))))
     (λ t. (
       λ h. and-true (legalTagName (t .name)) (legalTagValue (t .value)) (h .0 .1) (h .1 .0 .1),
-      λ h. let b = both-true (legalTagName (t .name)) (legalTagValue (t .value)) h in
-          ((name-short (t .name) (b .0), b .0), ((value-short (t .value) (b .1), b .1), refl)),
+      λ h. let b = both-true (legalTagName (t .name)) (legalTagValue (t .value)) h in ((name-short (t .name) (b .0), b .0), ((value-short (t .value) (b .1), b .1), refl)),
     ))
     (λ t h. rw append-nil)
 
 pub table-exact : Exact legalTable tableBytes table
 unfolding legalTable tableBytes table
 table-exact =
-    exact (only-reads (λ ts. distinct (tagNames ts)) (then-reads length (only-reads (within 0 mostTags) (number-reads 4))
-    (λ n. times-reads legalTag n (reads tag-exact)) (λ n ts o g. sym (g .0))))
+    exact (only-reads (λ ts. distinct (tagNames ts)) (then-reads length (only-reads (within 0 mostTags) (number-reads 4)) (λ n. times-reads legalTag n (reads tag-exact)) (λ n ts o g. sym (g .0))))
     (λ ts. (
-      λ h. three-true (leb (length ts) mostTags) (every legalTag ts) (distinct (tagNames ts))
-          (both-true (leb 0 (length ts)) (leb (length ts) mostTags) (h .0 .0 .1) .1) (h .0 .1 .1) (h .1),
+      λ h. three-true (leb (length ts) mostTags) (every legalTag ts) (distinct (tagNames ts)) (both-true (leb 0 (length ts)) (leb (length ts) mostTags) (h .0 .0 .1) .1) (h .0 .1 .1) (h .1),
       λ h. let b = all-three (leb (length ts) mostTags) (every legalTag ts) (distinct (tagNames ts)) h in
           (((omega (arith, leb-true (length ts) mostTags (b .0)), within-zero mostTags (length ts) (b .0)), (refl, b .1)), b .2),
     ))
@@ -116,19 +110,14 @@ pub sized-exact : Exact (λ s. leb (length s) longestSection) sizedBytes sized
 unfolding sizedBytes sized
 sized-exact =
     exact (then-reads length (only-reads (within 0 longestSection) (number-reads 4)) block-reads (λ n s o g. sym g))
-    (λ s. (
-      λ h. both-true (leb 0 (length s)) (leb (length s) longestSection) (h .0 .1) .1,
-      λ h. ((omega (arith, leb-true (length s) longestSection h), within-zero longestSection (length s) h), refl),
-    ))
+    (λ s. (λ h. both-true (leb 0 (length s)) (leb (length s) longestSection) (h .0 .1) .1, λ h. ((omega (arith, leb-true (length s) longestSection h), within-zero longestSection (length s) h), refl)))
     (λ s h. refl)
 
 -- what a legal frame is, in facts
-pub frame-legal : (k : ℕ) (f : Frame) → ((f .time < 256 ^ 8) × (f .exposure < 256 ^ 4) × (length (f .sections) ≡ k)
-    × (every (λ s. leb (length s) longestSection) (f .sections) ≡ true)) ↔ (legalFrame k f ≡ true)
+pub frame-legal : (k : ℕ) (f : Frame) → ((f .time < 256 ^ 8) × (f .exposure < 256 ^ 4) × (length (f .sections) ≡ k) × (every (λ s. leb (length s) longestSection) (f .sections) ≡ true)) ↔ (legalFrame k f ≡ true)
 unfolding legalFrame
 frame-legal k f = (
-  λ h. and-true (t && e && n) ss (three-true t e n (le-leb (suc (f .time)) (2 ^ 64) (h .0)) (le-leb (suc (f .exposure)) (2 ^ 32) (h .1))
-      (eq-eqb (length (f .sections)) k (h .2))) (h .3),
+  λ h. and-true (t && e && n) ss (three-true t e n (le-leb (suc (f .time)) (2 ^ 64) (h .0)) (le-leb (suc (f .exposure)) (2 ^ 32) (h .1)) (eq-eqb (length (f .sections)) k (h .2))) (h .3),
   λ h. let i = both-true (t && e && n) ss h in
       let j = all-three t e n (i .0) in
       (leb-true (suc (f .time)) (2 ^ 64) (j .0), leb-true (suc (f .exposure)) (2 ^ 32) (j .1), eqb-true (length (f .sections)) k (j .2), i .1),
@@ -150,10 +139,7 @@ pub frame-exact : (k : ℕ) → Exact (legalFrame k) frameBytes (frame k)
 unfolding frameBytes frameHeadBytes frame
 frame-exact k =
     exact
-    (then-reads (λ f. frameMark) (only-reads (λ mark. eqb mark frameMark) (number-reads 4))
-    (λ mark. then-reads (λ f. f .time) (number-reads 8) (λ t. then-reads (λ f. f .exposure) (number-reads 4)
-    (λ e. then-reads (λ f. f .sections) (times-reads (λ s. leb (length s) longestSection) k (reads sized-exact))
-    (λ ss. give-reads (record { time = t; exposure = e; sections = ss }))
+    (then-reads (λ f. frameMark) (only-reads (λ mark. eqb mark frameMark) (number-reads 4)) (λ mark. then-reads (λ f. f .time) (number-reads 8) (λ t. then-reads (λ f. f .exposure) (number-reads 4) (λ e. then-reads (λ f. f .sections) (times-reads (λ s. leb (length s) longestSection) k (reads sized-exact)) (λ ss. give-reads (record { time = t; exposure = e; sections = ss }))
     (λ ss f o g. sym (ap (λ (f : Frame). f .sections) g)))
     (λ e f o g. sym (ap (λ (f : Frame). f .exposure) (g .1))))
     (λ t f o g. sym (ap (λ (f : Frame). f .time) (g .1 .1))))
@@ -183,21 +169,18 @@ unfolding legalDefinition definitionBytes definition
 definition-exact =
     exact
     (then-reads (λ d. d .name) (only-reads legalSectionName (reads string-exact))
-    (λ n. then-reads (λ d. d .offset) (number-reads 8) (λ at. give-reads (record { name = n; offset = at }))
-    (λ at d o g. sym (ap (λ (d : Definition). d .offset) g)))
+    (λ n. then-reads (λ d. d .offset) (number-reads 8) (λ at. give-reads (record { name = n; offset = at })) (λ at d o g. sym (ap (λ (d : Definition). d .offset) g)))
     (λ n d o g. sym (ap (λ (d : Definition). d .name) (g .1))))
     (λ d. (
       λ h. and-true (legalSectionName (d .name)) (ltb (d .offset) (256 ^ 8)) (h .0 .1) (lt-ltb (d .offset) (256 ^ 8) (h .1 .0)),
-      λ h. let b = both-true (legalSectionName (d .name)) (ltb (d .offset) (256 ^ 8)) h in
-          ((sectionName-short (d .name) (b .0), b .0), (ltb-true (d .offset) (256 ^ 8) (b .1), refl)),
+      λ h. let b = both-true (legalSectionName (d .name)) (ltb (d .offset) (256 ^ 8)) h in ((sectionName-short (d .name) (b .0), b .0), (ltb-true (d .offset) (256 ^ 8) (b .1), refl)),
     ))
     (λ d h. rw append-nil)
 
 pub definitions-exact : Exact legalDefinitions (λ ds. length ds ∷ flatMap definitionBytes ds) definitions
 unfolding legalDefinitions definitions
 definitions-exact =
-    exact (only-reads (λ ds. distinct (definedNames ds)) (then-reads length (only-reads (within 1 mostSections) (number-reads 1))
-    (λ n. times-reads legalDefinition n (reads definition-exact)) (λ n ds o g. sym (g .0))))
+    exact (only-reads (λ ds. distinct (definedNames ds)) (then-reads length (only-reads (within 1 mostSections) (number-reads 1)) (λ n. times-reads legalDefinition n (reads definition-exact)) (λ n ds o g. sym (g .0))))
     (λ ds. (
       λ h. three-true (within 1 mostSections (length ds)) (every legalDefinition ds) (distinct (definedNames ds)) (h .0 .0 .1) (h .0 .1 .1) (h .1),
       λ h. let b = all-three (within 1 mostSections (length ds)) (every legalDefinition ds) (distinct (definedNames ds)) h in
@@ -218,14 +201,11 @@ unfolding setUpSectionFits setUpSectionBytes setUpSection
 setUpSection-exact =
     exact
     (then-reads (λ s. s .name) (reads string-exact)
-    (λ n. then-reads (λ s. s .configuration) (then-reads length (number-reads 2) block-reads (λ k c o g. sym g))
-    (λ c. give-reads (record { name = n; configuration = c })) (λ c s o g. sym (ap (λ (s : Section). s .configuration) g)))
+    (λ n. then-reads (λ s. s .configuration) (then-reads length (number-reads 2) block-reads (λ k c o g. sym g)) (λ c. give-reads (record { name = n; configuration = c })) (λ c s o g. sym (ap (λ (s : Section). s .configuration) g)))
     (λ n s o g. sym (ap (λ (s : Section). s .name) (g .1))))
     (λ s. (
-      λ h. and-true (leb (length (s .name)) 255) (leb (length (s .configuration)) 65535) (h .0)
-          (le-leb (length (s .configuration)) 65535 (omega (arith, h .1 .0 .0))),
-      λ h. let b = both-true (leb (length (s .name)) 255) (leb (length (s .configuration)) 65535) h in
-          (b .0, ((omega (arith, leb-true (length (s .configuration)) 65535 (b .1)), refl), refl)),
+      λ h. and-true (leb (length (s .name)) 255) (leb (length (s .configuration)) 65535) (h .0) (le-leb (length (s .configuration)) 65535 (omega (arith, h .1 .0 .0))),
+      λ h. let b = both-true (leb (length (s .name)) 255) (leb (length (s .configuration)) 65535) h in (b .0, ((omega (arith, leb-true (length (s .configuration)) 65535 (b .1)), refl), refl)),
     ))
     (λ s h. simp (append-assoc, append-nil))
 
@@ -242,13 +222,11 @@ setUpList-exact =
 -- ── Where nothing may follow ──
 
 -- what an exact reader reads exactly is the encoding
-pub exactly-gives : {A : Type 0} (ok : A → Bool) (bytes : A → List ℕ) (p : Reader A) → Exact ok bytes p → (s : List ℕ) (x : A) (n : ℕ)
-    → areBytes s ≡ true → exactly p s ≡ good x n → (ok x ≡ true) × (s ≡ bytes x)
+pub exactly-gives : {A : Type 0} (ok : A → Bool) (bytes : A → List ℕ) (p : Reader A) → Exact ok bytes p → (s : List ℕ) (x : A) (n : ℕ) → areBytes s ≡ true → exactly p s ≡ good x n → (ok x ≡ true) × (s ≡ bytes x)
 exactly-gives ok bytes p e s x n h q =
     let g = exactly-good p s x n q in
     let r = e .gives s x n h (g .0) in
     (r .0, r .2 ∙ ap (λ (l : List ℕ). bytes x ++ l) (drop-of-length-le s {i = n} (omega (arith, g .1))) ∙ append-nil (bytes x))
 
-pub exactly-takes : {A : Type 0} (ok : A → Bool) (bytes : A → List ℕ) (p : Reader A) → Exact ok bytes p → (x : A) → ok x ≡ true
-    → exactly p (bytes x) ≡ good x (length (bytes x))
+pub exactly-takes : {A : Type 0} (ok : A → Bool) (bytes : A → List ℕ) (p : Reader A) → Exact ok bytes p → (x : A) → ok x ≡ true → exactly p (bytes x) ≡ good x (length (bytes x))
 exactly-takes ok bytes p e x h = exactly-is p (bytes x) x (rw append-nil at (e .takes x [] h))

@@ -23,15 +23,13 @@ frontWith count index user ss system =
     ++ configurationsBytes ss
     ++ system
 
-pub front-with : (count index user : ℕ) (ss : List Section) (system : List ℕ)
-    → frontBytes count index user ss system ≡ frontWith (bytesOf 4 count) (bytesOf 8 index) (bytesOf 8 user) ss system
+pub front-with : (count index user : ℕ) (ss : List Section) (system : List ℕ) → frontBytes count index user ss system ≡ frontWith (bytesOf 4 count) (bytesOf 8 index) (bytesOf 8 user) ss system
 unfolding frontBytes headerBytes frontWith
 front-with count index user ss system = refl
 
 -- a field that is stored, or the first m bytes of it, takes the place of what stood there
 module _ (m : ℕ) (count index user : List ℕ) (ss : List Section) (system rest new : List ℕ) where
-  pub cut-count : length count ≡ 4 → length new ≡ 4 → stored (frontWith count index user ss system ++ rest)
-      (take m (writesAt countPlace new)) ≡ frontWith (take m new ++ drop (length (take m new)) count) index user ss system ++ rest
+  pub cut-count : length count ≡ 4 → length new ≡ 4 → stored (frontWith count index user ss system ++ rest) (take m (writesAt countPlace new)) ≡ frontWith (take m new ++ drop (length (take m new)) count) index user ss system ++ rest
   unfolding frontWith fileMark
   cut-count p q =
       let place : List ℕ = bytesOf 8 (definitionsEnd ss + length (configurationsBytes ss)) in
@@ -42,9 +40,7 @@ module _ (m : ℕ) (count index user : List ℕ) (ss : List Section) (system res
       ∙ cut-middle m before count after countPlace new refl (omega arith)
       ∙ sym (split (take m new ++ drop (length (take m new)) count))
 
-  pub cut-index : length count ≡ 4 → length index ≡ 8 → length new ≡ 8
-      → stored (frontWith count index user ss system ++ rest) (take m (writesAt indexPlace new)) ≡ frontWith count
-      (take m new ++ drop (length (take m new)) index) user ss system ++ rest
+  pub cut-index : length count ≡ 4 → length index ≡ 8 → length new ≡ 8 → stored (frontWith count index user ss system ++ rest) (take m (writesAt indexPlace new)) ≡ frontWith count (take m new ++ drop (length (take m new)) index) user ss system ++ rest
   unfolding frontWith fileMark
   cut-index p q r =
       let place : List ℕ = bytesOf 8 (definitionsEnd ss + length (configurationsBytes ss)) in
@@ -55,9 +51,7 @@ module _ (m : ℕ) (count index user : List ℕ) (ss : List Section) (system res
       ∙ cut-middle m before index after indexPlace new (rw (length-append, p)) (omega arith)
       ∙ sym (split (take m new ++ drop (length (take m new)) index))
 
-  pub cut-user : length count ≡ 4 → length index ≡ 8 → length user ≡ 8 → length new ≡ 8
-      → stored (frontWith count index user ss system ++ rest) (take m (writesAt userPlace new)) ≡ frontWith count index
-      (take m new ++ drop (length (take m new)) user) ss system ++ rest
+  pub cut-user : length count ≡ 4 → length index ≡ 8 → length user ≡ 8 → length new ≡ 8 → stored (frontWith count index user ss system ++ rest) (take m (writesAt userPlace new)) ≡ frontWith count index (take m new ++ drop (length (take m new)) user) ss system ++ rest
   unfolding frontWith fileMark
   cut-user p q r s =
       let place : List ℕ = bytesOf 8 (definitionsEnd ss + length (configurationsBytes ss)) in
@@ -82,18 +76,15 @@ stored-frames f at (x ∷ xs) e =
 -- ── The three fields as numbers ──
 
 module _ (count index user new : ℕ) (ss : List Section) (system rest : List ℕ) where
-  pub store-count : stored (frontBytes count index user ss system ++ rest)
-      (writesAt countPlace (bytesOf 4 new)) ≡ frontBytes new index user ss system ++ rest
+  pub store-count : stored (frontBytes count index user ss system ++ rest) (writesAt countPlace (bytesOf 4 new)) ≡ frontBytes new index user ss system ++ rest
   unfolding frontBytes headerBytes frontWith bytesOf writesAt
   store-count = cut-count 4 (bytesOf 4 count) (bytesOf 8 index) (bytesOf 8 user) ss system rest (bytesOf 4 new) refl refl
 
-  pub store-index : stored (frontBytes count index user ss system ++ rest)
-      (writesAt indexPlace (bytesOf 8 new)) ≡ frontBytes count new user ss system ++ rest
+  pub store-index : stored (frontBytes count index user ss system ++ rest) (writesAt indexPlace (bytesOf 8 new)) ≡ frontBytes count new user ss system ++ rest
   unfolding frontBytes headerBytes frontWith bytesOf writesAt
   store-index = cut-index 8 (bytesOf 4 count) (bytesOf 8 index) (bytesOf 8 user) ss system rest (bytesOf 8 new) refl refl refl
 
-  pub store-user : stored (frontBytes count index user ss system ++ rest)
-      (writesAt userPlace (bytesOf 8 new)) ≡ frontBytes count index new ss system ++ rest
+  pub store-user : stored (frontBytes count index user ss system ++ rest) (writesAt userPlace (bytesOf 8 new)) ≡ frontBytes count index new ss system ++ rest
   unfolding frontBytes headerBytes frontWith bytesOf writesAt
   store-user = cut-user 8 (bytesOf 4 count) (bytesOf 8 index) (bytesOf 8 user) ss system rest (bytesOf 8 new) refl refl refl refl
 
@@ -108,19 +99,15 @@ unfolding openFile framesEnd framesStart
 length-openFile r = length-append (frontBytes 0 0 0 (r .sections) (tableBytes (r .system))) (flatMap frameBytes (r .frames))
 
 -- one piece more
-pub stored-next : (f g : List ℕ) (p : Piece) (ps : List Piece) → stored f (writesAt (p .place) (p .bytes)) ≡ g
-    → stored f (writes (p ∷ ps)) ≡ stored g (writes ps)
+pub stored-next : (f g : List ℕ) (p : Piece) (ps : List Piece) → stored f (writesAt (p .place) (p .bytes)) ≡ g → stored f (writes (p ∷ ps)) ≡ stored g (writes ps)
 stored-next f g p ps e = stored-pieces f p ps ∙ ap (λ (h : List ℕ). stored h (writes ps)) e
 
 -- the opening piece and the frames are that file
-pub stored-open : (r : Recording)
-    → stored [] (writes (piece 0 (frontBytes 0 0 0 (r .sections) (tableBytes (r .system))) ∷ framePieces (framesStart r) (r .frames))) ≡ openFile
-    r
+pub stored-open : (r : Recording) → stored [] (writes (piece 0 (frontBytes 0 0 0 (r .sections) (tableBytes (r .system))) ∷ framePieces (framesStart r) (r .frames))) ≡ openFile r
 unfolding openFile framesStart
 stored-open r =
     let front : List ℕ = frontBytes 0 0 0 (r .sections) (tableBytes (r .system)) in
-    stored-next [] front (piece 0 front) (framePieces (framesStart r) (r .frames)) (stored-end [] 0 front refl)
-    ∙ stored-frames front (framesStart r) (r .frames) refl
+    stored-next [] front (piece 0 front) (framePieces (framesStart r) (r .frames)) (stored-end [] 0 front refl) ∙ stored-frames front (framesStart r) (r .frames) refl
 
 -- what is left to store when they are
 pub stored-closing : (r : Recording) (c : ℕ) → stored [] (writes (piecesOf r c)) ≡ stored (openFile r) (writes (take c (closings r)))
@@ -142,14 +129,11 @@ stored-closed r u =
     let user : List ℕ = tableBytes [] in
     let n = length (r .frames) in
     let rest : List ℕ = frames ++ (index ++ user) in
-    let length-two : userStart r ≡ length (openFile r ++ index) =
-    unfold userStart in rw length-append (omega (arith, length-openFile r, length-index (framesStart r) (r .frames))) in
-    let regroup : (count at place : ℕ) → frontBytes count at place ss system ++ frames ++ index ++ user ≡ frontBytes count at place ss system
-    ++ rest = λ count at place. simp append-assoc in
+    let length-two : userStart r ≡ length (openFile r ++ index) = unfold userStart in rw length-append (omega (arith, length-openFile r, length-index (framesStart r) (r .frames))) in
+    let regroup : (count at place : ℕ) → frontBytes count at place ss system ++ frames ++ index ++ user ≡ frontBytes count at place ss system ++ rest = λ count at place. simp append-assoc in
     stored-closing r 5
     ∙ stored-next (openFile r) (openFile r ++ index) _ (drop 1 (closings r)) (stored-end (openFile r) (framesEnd r) index (sym (length-openFile r)))
-    ∙ stored-next (openFile r ++ index) (frontBytes 0 0 0 ss system ++ rest) _ (drop 2 (closings r))
-    (stored-end (openFile r ++ index) (userStart r) user length-two ∙ regroup 0 0 0)
+    ∙ stored-next (openFile r ++ index) (frontBytes 0 0 0 ss system ++ rest) _ (drop 2 (closings r)) (stored-end (openFile r ++ index) (userStart r) user length-two ∙ regroup 0 0 0)
     ∙ stored-next _ (frontBytes n 0 0 ss system ++ rest) _ (drop 3 (closings r)) (store-count 0 0 0 n ss system rest)
     ∙ stored-next _ (frontBytes n 0 (userStart r) ss system ++ rest) _ (drop 4 (closings r)) (store-user n 0 0 (userStart r) ss system rest)
     ∙ stored-next _ (frontBytes n (framesEnd r) (userStart r) ss system ++ rest) _ [] (store-index n 0 (userStart r) (framesEnd r) ss system rest)

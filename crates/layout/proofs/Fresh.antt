@@ -1,5 +1,5 @@
--- "A recording of ours starts from a fresh state": any state whose stage is fresh, whatever its numbers. A session from it goes as the one from the
--- fresh state with zeros, and so every claim about recordings and cuts holds of it. Assumes nothing.
+-- "A recording of ours starts from a fresh state": any state whose stage is fresh, whatever its numbers. A session from it goes as the one from the fresh
+-- state with zeros, and so every claim about recordings and cuts holds of it. Assumes nothing.
 use Prim.Native.Nat.{ℕ, zero, suc, _≤_, _<_}
 use native.Mathlib.Omega.{arith}
 use mathlib.Core.Path.{_≡_, refl, ap, sym, _∙_}
@@ -26,20 +26,17 @@ Alike : State → List ℕ → Session → Session → Type 0
 Alike st notes a b = (a ≡ b) ⊎ ((a ≡ startedFrom st notes) × (b ≡ started notes))
 
 -- the same number for both: both go on alike, or both are refused
-answers-alike : (st : State) (notes : List ℕ) (m n : ℕ) (step : Step) → m ≡ n
-    → Alike st notes (passedOn (startedFrom st notes) (answer m st notes step)) (passedOn (started notes) (answer n freshState notes step))
+answers-alike : (st : State) (notes : List ℕ) (m n : ℕ) (step : Step) → m ≡ n → Alike st notes (passedOn (startedFrom st notes) (answer m st notes step)) (passedOn (started notes) (answer n freshState notes step))
 unfolding Alike passedOn pieceOf answer started
 answers-alike st notes zero n step e = inl (rw (← e))
 answers-alike st notes (suc m) n step e = inr (refl, rw (← e))
 
 -- a call that fresh does not take
-refused-alike : (st : State) (notes : List ℕ) (m n : ℕ) (step other : Step) → m ≡ 12 → n ≡ 12
-    → Alike st notes (passedOn (startedFrom st notes) (answer m st notes step)) (passedOn (started notes) (answer n freshState notes other))
+refused-alike : (st : State) (notes : List ℕ) (m n : ℕ) (step other : Step) → m ≡ 12 → n ≡ 12 → Alike st notes (passedOn (startedFrom st notes) (answer m st notes step)) (passedOn (started notes) (answer n freshState notes other))
 unfolding Alike passedOn pieceOf answer started
 refused-alike st notes m n step other p q = rw (p, q) (inr (refl, refl))
 
-accepts-alike : (st : State) (notes : List ℕ) (m n : ℕ) (step : Step) → m ≡ n
-    → accepted (answer m st notes step) ≡ accepted (answer n freshState notes step)
+accepts-alike : (st : State) (notes : List ℕ) (m n : ℕ) (step : Step) → m ≡ n → accepted (answer m st notes step) ≡ accepted (answer n freshState notes step)
 unfolding accepted answer
 accepts-alike st notes zero n step e = rw (← e)
 accepts-alike st notes (suc m) n step e = rw (← e)
@@ -49,14 +46,12 @@ unfolding accepted answer
 accepts-none st notes m step e = rw e
 
 -- the numbers of a fresh state are not looked at to begin
-begin-lines : (st : State) (setUp system notes : List ℕ) (room : ℕ) → st .stage ≡ fresh
-    → firstOf (beginLines st setUp system notes room) ≡ firstOf (beginLines freshState setUp system notes room)
+begin-lines : (st : State) (setUp system notes : List ℕ) (room : ℕ) → st .stage ≡ fresh → firstOf (beginLines st setUp system notes room) ≡ firstOf (beginLines freshState setUp system notes room)
 unfolding beginLines
 begin-lines st setUp system notes room e = rw e
 
 -- fresh takes no frame and no close call
-add-lines : (st : State) (time exposure : ℕ) (sections notes : List ℕ) (room : ℕ) → st .stage ≡ fresh
-    → firstOf (addLines st time exposure sections notes room) ≡ 12
+add-lines : (st : State) (time exposure : ℕ) (sections notes : List ℕ) (room : ℕ) → st .stage ≡ fresh → firstOf (addLines st time exposure sections notes room) ≡ 12
 unfolding addLines isRunning
 add-lines st time exposure sections notes room e = line-holds 12 (not (isRunning (st .stage)) || brokenState st) _ (rw e)
 
@@ -64,36 +59,26 @@ close-lines : (st : State) (notes : List ℕ) (room : ℕ) → st .stage ≡ fre
 unfolding closeLines takesClose
 close-lines st notes room e = line-holds 12 (not (takesClose (st .stage)) || brokenState st) _ (rw e)
 
-call-alike : (st : State) (notes : List ℕ) (c : Call) → st .stage ≡ fresh
-    → Alike st notes (called (startedFrom st notes) c) (called (started notes) c)
+call-alike : (st : State) (notes : List ℕ) (c : Call) → st .stage ≡ fresh → Alike st notes (called (startedFrom st notes) c) (called (started notes) c)
 unfolding called begin add close started
 call-alike st notes (begins setUp system room) e = answers-alike st notes _ _ _ (begin-lines st setUp system notes room e)
-call-alike st notes (adds time exposure sections room) e = refused-alike st notes _ _ _ _ (add-lines st time exposure sections notes room e)
-    (add-lines freshState time exposure sections notes room refl)
+call-alike st notes (adds time exposure sections room) e = refused-alike st notes _ _ _ _ (add-lines st time exposure sections notes room e) (add-lines freshState time exposure sections notes room refl)
 call-alike st notes (closes room) e = refused-alike st notes _ _ _ _ (close-lines st notes room e) (close-lines freshState notes room refl)
 
-given-alike : (st : State) (notes : List ℕ) (c : Call) (r : Recording) → st .stage ≡ fresh
-    → givenBy (startedFrom st notes) c r ≡ givenBy (started notes) c r
+given-alike : (st : State) (notes : List ℕ) (c : Call) (r : Recording) → st .stage ≡ fresh → givenBy (startedFrom st notes) c r ≡ givenBy (started notes) c r
 unfolding givenBy begin add started
 given-alike st notes (begins setUp system room) r e = rw (accepts-alike st notes _ _ _ (begin-lines st setUp system notes room e))
-given-alike st notes (adds time exposure sections room) r e =
-    rw (
-      accepts-none st notes _ _ (add-lines st time exposure sections notes room e),
-      accepts-none freshState notes _ _ (add-lines freshState time exposure sections notes room refl),
-    )
+given-alike st notes (adds time exposure sections room) r e = rw (accepts-none st notes _ _ (add-lines st time exposure sections notes room e), accepts-none freshState notes _ _ (add-lines freshState time exposure sections notes room refl))
 given-alike st notes (closes room) r e = refl
 
 -- ── Any calls ──
 
-sessions-alike : (st : State) (notes : List ℕ) (calls : List Call) → st .stage ≡ fresh
-    → Alike st notes (session (startedFrom st notes) calls) (session (started notes) calls)
+sessions-alike : (st : State) (notes : List ℕ) (calls : List Call) → st .stage ≡ fresh → Alike st notes (session (startedFrom st notes) calls) (session (started notes) calls)
 unfolding session Alike
 sessions-alike st notes [] e = inr (refl, refl)
 sessions-alike st notes (c ∷ cs) e = go (call-alike st notes c e) (sessions-alike st notes cs e)
   where
-    go : Alike st notes (called (startedFrom st notes) c) (called (started notes) c)
-        → Alike st notes (session (startedFrom st notes) cs) (session (started notes) cs)
-        → Alike st notes (session (called (startedFrom st notes) c) cs) (session (called (started notes) c) cs)
+    go : Alike st notes (called (startedFrom st notes) c) (called (started notes) c) → Alike st notes (session (startedFrom st notes) cs) (session (started notes) cs) → Alike st notes (session (called (startedFrom st notes) c) cs) (session (called (started notes) c) cs)
     go (inl s) i = inl (ap (λ (ss : Session). session ss cs) s)
     go (inr (a, b)) i = rw (a, b) i
 
@@ -105,10 +90,7 @@ unfolding given Alike
 fresh-given st notes [] r e = refl
 fresh-given st notes (c ∷ cs) r e = go (call-alike st notes c e) (λ (x : Recording). fresh-given st notes cs x e)
   where
-    go : Alike st notes (called (startedFrom st notes) c) (called (started notes) c)
-        → ((x : Recording) → given (startedFrom st notes) cs x ≡ given (started notes) cs x)
-        → given (called (startedFrom st notes) c) cs (givenBy (startedFrom st notes) c r) ≡ given (called (started notes) c) cs
-        (givenBy (started notes) c r)
+    go : Alike st notes (called (startedFrom st notes) c) (called (started notes) c) → ((x : Recording) → given (startedFrom st notes) cs x ≡ given (started notes) cs x) → given (called (startedFrom st notes) c) cs (givenBy (startedFrom st notes) c r) ≡ given (called (started notes) c) cs (givenBy (started notes) c r)
     go (inl s) i = rw (s, given-alike st notes c r e)
     go (inr (a, b)) i = rw (a, b, given-alike st notes c r e) (i (givenBy (started notes) c r))
 
@@ -122,23 +104,16 @@ pub fresh-start : (st : State) (notes : List ℕ) (calls : List Call)
 unfolding Alike started
 fresh-start st notes calls e = go (sessions-alike st notes calls e)
   where
-    go : Alike st notes (session (startedFrom st notes) calls) (session (started notes) calls)
-        → (session (startedFrom st notes) calls .pieces ≡ session (started notes) calls .pieces)
-        × (session (startedFrom st notes) calls .notes ≡ session (started notes) calls .notes)
-        × (session (startedFrom st notes) calls .state .stage ≡ session (started notes) calls .state .stage)
-        × ((session (started notes) calls .state .stage ≡ fresh → ⊥)
-        → session (startedFrom st notes) calls .state ≡ session (started notes) calls .state)
+    go : Alike st notes (session (startedFrom st notes) calls) (session (started notes) calls) → (session (startedFrom st notes) calls .pieces ≡ session (started notes) calls .pieces) × (session (startedFrom st notes) calls .notes ≡ session (started notes) calls .notes) × (session (startedFrom st notes) calls .state .stage ≡ session (started notes) calls .state .stage) × ((session (started notes) calls .state .stage ≡ fresh → ⊥) → session (startedFrom st notes) calls .state ≡ session (started notes) calls .state)
     go (inl s) = rw s (refl, refl, refl, λ d. refl)
     go (inr (a, b)) = rw (a, b) (refl, refl, e, λ d. absurd (d refl))
 
 -- past fresh, the two sessions are the same
-fresh-past : (st : State) (notes : List ℕ) (calls : List Call) → st .stage ≡ fresh → (session (started notes) calls .state .stage ≡ fresh → ⊥)
-    → session (startedFrom st notes) calls ≡ session (started notes) calls
+fresh-past : (st : State) (notes : List ℕ) (calls : List Call) → st .stage ≡ fresh → (session (started notes) calls .state .stage ≡ fresh → ⊥) → session (startedFrom st notes) calls ≡ session (started notes) calls
 unfolding Alike started
 fresh-past st notes calls e d = go (sessions-alike st notes calls e)
   where
-    go : Alike st notes (session (startedFrom st notes) calls) (session (started notes) calls)
-        → session (startedFrom st notes) calls ≡ session (started notes) calls
+    go : Alike st notes (session (startedFrom st notes) calls) (session (started notes) calls) → session (startedFrom st notes) calls ≡ session (started notes) calls
     go (inl s) = s
     go (inr (a, b)) = absurd (d (ap (λ (ss : Session). ss .state .stage) b))
 
@@ -201,18 +176,15 @@ pub record LastCompleteFrom (st : State) (notes : List ℕ) (calls : List Call) 
       → atCallFrom st notes calls q′ .state .frames ≤ atCallFrom st notes calls q .state .frames
 
 -- at a moment where it runs, the recording is the one from the zeros
-running-same : (st : State) (notes : List ℕ) (calls : List Call) (q : ℕ) → st .stage ≡ fresh → atCall notes calls q .state .stage ≡ running
-    → atCallFrom st notes calls q ≡ atCall notes calls q
+running-same : (st : State) (notes : List ℕ) (calls : List Call) (q : ℕ) → st .stage ≡ fresh → atCall notes calls q .state .stage ≡ running → atCallFrom st notes calls q ≡ atCall notes calls q
 unfolding atCall atCallFrom
 running-same st notes calls q e r = fresh-past st notes (take q calls) e (running-past _ r)
 
-same-stage : (st : State) (notes : List ℕ) (calls : List Call) (q : ℕ) → st .stage ≡ fresh
-    → atCallFrom st notes calls q .state .stage ≡ atCall notes calls q .state .stage
+same-stage : (st : State) (notes : List ℕ) (calls : List Call) (q : ℕ) → st .stage ≡ fresh → atCallFrom st notes calls q .state .stage ≡ atCall notes calls q .state .stage
 unfolding atCall atCallFrom
 same-stage st notes calls q e = fresh-start st notes (take q calls) e .2
 
-same-pieces : (st : State) (notes : List ℕ) (calls : List Call) (q : ℕ) → st .stage ≡ fresh
-    → atCallFrom st notes calls q .pieces ≡ atCall notes calls q .pieces
+same-pieces : (st : State) (notes : List ℕ) (calls : List Call) (q : ℕ) → st .stage ≡ fresh → atCallFrom st notes calls q .pieces ≡ atCall notes calls q .pieces
 unfolding atCall atCallFrom
 same-pieces st notes calls q e = fresh-start st notes (take q calls) e .0
 
@@ -306,8 +278,7 @@ pub cut-nothing-from : (st : State) (notes : List ℕ) (calls : List Call) (m ou
     → st .stage ≡ fresh
     → session (startedFrom st notes) calls .pieces ≡ []
     → repair (cutFrom st notes calls m) out .refused ≡ 1
-cut-nothing-from st notes calls m out e p = rw (same-cut st notes calls m e)
-    (cut-nothing notes calls m out (sym (fresh-start st notes calls e .0) ∙ p))
+cut-nothing-from st notes calls m out e p = rw (same-cut st notes calls m e) (cut-nothing notes calls m out (sym (fresh-start st notes calls e .0) ∙ p))
 
 pub cut-shows-whole-from : (st : State) (notes : List ℕ) (calls : List Call) (m : ℕ)
     → st .stage ≡ fresh
@@ -319,6 +290,5 @@ pub cut-shows-whole-from : (st : State) (notes : List ℕ) (calls : List Call) (
 cut-shows-whole-from st notes calls m e h o =
     let s = same-cut st notes calls m e in
     let w = cut-shows-whole notes calls m h (rw s at o) in
-    let f : fileOf (session (startedFrom st notes) calls) ≡ fileOf (ours notes calls) =
-    unfold fileOf in ap (λ (ps : List Piece). stored [] (writes ps)) (fresh-start st notes calls e .0) in
+    let f : fileOf (session (startedFrom st notes) calls) ≡ fileOf (ours notes calls) = unfold fileOf in ap (λ (ps : List Piece). stored [] (writes ps)) (fresh-start st notes calls e .0) in
     (fresh-start st notes calls e .2 ∙ w .0, s ∙ w .1 ∙ sym f, rw (s, fresh-given st notes calls nothingGiven e) (w .2))

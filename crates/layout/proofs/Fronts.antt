@@ -56,15 +56,12 @@ unfolding field
 field-at before behind place w n e h = rw (drop-at before _ place e, take-at (bytesOf w n) behind w (length-bytesOf w n)) (numberOf-bytesOf w n h)
 
 -- a number that was read stands at the front of what begins at its place
-pub field-front : (place w : ℕ) (f : List ℕ) → areBytes f ≡ true → place + w ≤ length f
-    → drop place f ≡ bytesOf w (field place w f) ++ drop (place + w) f
+pub field-front : (place w : ℕ) (f : List ℕ) → areBytes f ≡ true → place + w ≤ length f → drop place f ≡ bytesOf w (field place w f) ++ drop (place + w) f
 unfolding field
 field-front place w f h e =
     let l : length (take w (drop place f)) ≡ w = length-take-le w (drop place f) (simp length-drop (omega arith)) in
-    let b : bytesOf (length (take w (drop place f))) (numberOf (take w (drop place f))) ≡ take w (drop place f) =
-    bytesOf-numberOf (take w (drop place f)) (bytes-take w (drop place f) (bytes-drop place f h)) in
-    let c : bytesOf w (numberOf (take w (drop place f))) ≡ take w (drop place f) =
-    ap (λ (n : ℕ). bytesOf n (numberOf (take w (drop place f)))) (sym l) ∙ b in
+    let b : bytesOf (length (take w (drop place f))) (numberOf (take w (drop place f))) ≡ take w (drop place f) = bytesOf-numberOf (take w (drop place f)) (bytes-take w (drop place f) (bytes-drop place f h)) in
+    let c : bytesOf w (numberOf (take w (drop place f))) ≡ take w (drop place f) = ap (λ (n : ℕ). bytesOf n (numberOf (take w (drop place f)))) (sym l) ∙ b in
     rw (c, ← drop-drop w place f) (sym (take-append-drop w (drop place f)))
 
 pub record HeaderRead (c i s u : ℕ) (f : List ℕ) : Type 0 where
@@ -76,26 +73,21 @@ pub record HeaderRead (c i s u : ℕ) (f : List ℕ) : Type 0 where
   pub version : getD f 4 0 ≡ revision
 
 -- the header's fields are read back, whatever follows
-pub header-read : (c i s u : ℕ) (rest : List ℕ) → c < 256 ^ 4 → i < 256 ^ 8 → s < 256 ^ 8 → u < 256 ^ 8
-    → HeaderRead c i s u (headerBytes c i s u ++ rest)
+pub header-read : (c i s u : ℕ) (rest : List ℕ) → c < 256 ^ 4 → i < 256 ^ 8 → s < 256 ^ 8 → u < 256 ^ 8 → HeaderRead c i s u (headerBytes c i s u ++ rest)
 unfolding headerBytes headerCount indexOffset systemOffset userOffset fileMark
 header-read c i s u rest hc hi hs hu =
     let m : List ℕ = fileMark ++ (revision ∷ []) in
     record {
       count = ap (field countPlace 4) (simp append-assoc) ∙ field-at m (bytesOf 8 i ++ (bytesOf 8 s ++ (bytesOf 8 u ++ rest))) countPlace 4 c refl hc;
-      index = ap (field indexPlace 8) (simp append-assoc) ∙ field-at (m ++ bytesOf 4 c) (bytesOf 8 s ++ (bytesOf 8 u ++ rest)) indexPlace 8 i
-          (simp (length-append, length-bytesOf)) hi;
-      system = ap (field systemPlace 8) (simp append-assoc) ∙ field-at (m ++ bytesOf 4 c ++ bytesOf 8 i) (bytesOf 8 u ++ rest) systemPlace 8 s
-          (simp (length-append, length-bytesOf)) hs;
-      user = ap (field userPlace 8) (simp append-assoc) ∙ field-at (m ++ bytesOf 4 c ++ bytesOf 8 i ++ bytesOf 8 s) rest userPlace 8 u
-          (simp (length-append, length-bytesOf)) hu;
+      index = ap (field indexPlace 8) (simp append-assoc) ∙ field-at (m ++ bytesOf 4 c) (bytesOf 8 s ++ (bytesOf 8 u ++ rest)) indexPlace 8 i (simp (length-append, length-bytesOf)) hi;
+      system = ap (field systemPlace 8) (simp append-assoc) ∙ field-at (m ++ bytesOf 4 c ++ bytesOf 8 i) (bytesOf 8 u ++ rest) systemPlace 8 s (simp (length-append, length-bytesOf)) hs;
+      user = ap (field userPlace 8) (simp append-assoc) ∙ field-at (m ++ bytesOf 4 c ++ bytesOf 8 i ++ bytesOf 8 s) rest userPlace 8 u (simp (length-append, length-bytesOf)) hu;
       mark = refl;
       version = refl;
     }
 
 -- what stands before a file's definitions is the header of the fields that are read from it
-pub header-back : (f : List ℕ) → areBytes f ≡ true → headerLength ≤ length f → take 4 f ≡ fileMark → getD f 4 0 ≡ revision
-    → f ≡ headerBytes (headerCount f) (indexOffset f) (systemOffset f) (userOffset f) ++ drop headerLength f
+pub header-back : (f : List ℕ) → areBytes f ≡ true → headerLength ≤ length f → take 4 f ≡ fileMark → getD f 4 0 ≡ revision → f ≡ headerBytes (headerCount f) (indexOffset f) (systemOffset f) (userOffset f) ++ drop headerLength f
 unfolding headerBytes headerCount indexOffset systemOffset userOffset
 header-back f h l m v =
     let r : drop 4 f ≡ getD f 4 0 ∷ drop 5 f = drop-cons f 4 0 (omega arith) in
@@ -131,8 +123,7 @@ pub configurations-none : length (configurationsBytes []) ≡ 0
 unfolding configurationsBytes flatMap
 configurations-none = refl
 
-pub length-configurations : (s : Section) (ss : List Section)
-    → length (configurationsBytes (s ∷ ss)) ≡ length (s .configuration) + length (configurationsBytes ss)
+pub length-configurations : (s : Section) (ss : List Section) → length (configurationsBytes (s ∷ ss)) ≡ length (s .configuration) + length (configurationsBytes ss)
 unfolding configurationsBytes flatMap
 length-configurations s ss = length-append (s .configuration) (configurationsBytes ss)
 
@@ -145,15 +136,13 @@ pub section-short : (s : Section) → legalSection s ≡ true → length (s .con
 unfolding legalSection
 section-short s h = leb-true _ _ (both-true (legalSectionName (s .name)) (leb (length (s .configuration)) longestConfiguration) h .1)
 
-pub defined-legal : (at : ℕ) (ss : List Section) → every legalSection ss ≡ true → at + length (configurationsBytes ss) < 256 ^ 8
-    → every legalDefinition (definedAt at ss) ≡ true
+pub defined-legal : (at : ℕ) (ss : List Section) → every legalSection ss ≡ true → at + length (configurationsBytes ss) < 256 ^ 8 → every legalDefinition (definedAt at ss) ≡ true
 unfolding every definedAt legalDefinition
 defined-legal at [] h e = refl
 defined-legal at (s ∷ ss) h e =
     let l = both-true (legalSection s) (every legalSection ss) h in
     let b : at + length (s .configuration) + length (configurationsBytes ss) < 256 ^ 8 = omega (arith, length-configurations s ss) in
-    and-true _ _ (and-true _ _ (section-name s (l .0)) (lt-ltb at (256 ^ 8) (omega arith)))
-    (defined-legal (at + length (s .configuration)) ss (l .1) b)
+    and-true _ _ (and-true _ _ (section-name s (l .0)) (lt-ltb at (256 ^ 8) (omega arith))) (defined-legal (at + length (s .configuration)) ss (l .1) b)
 
 -- offsets run on by at most a configuration
 defined-steps : (at n : ℕ) (ss : List Section) → every legalSection ss ≡ true → n ≤ longestConfiguration → steps at (definedAt (at + n) ss) ≡ true
@@ -161,8 +150,7 @@ unfolding every definedAt steps
 defined-steps at n [] h e = refl
 defined-steps at n (s ∷ ss) h e =
     let l = both-true (legalSection s) (every legalSection ss) h in
-    let t : steps (at + n) (definedAt (at + n + length (s .configuration)) ss) ≡ true =
-    defined-steps (at + n) (length (s .configuration)) ss (l .1) (section-short s (l .0)) in
+    let t : steps (at + n) (definedAt (at + n + length (s .configuration)) ss) ≡ true = defined-steps (at + n) (length (s .configuration)) ss (l .1) (section-short s (l .0)) in
     and-true _ _ (and-true _ _ (le-leb at (at + n) (omega arith)) (le-leb (at + n - at) longestConfiguration (omega arith))) t
 
 defined-offsets : (at : ℕ) (ss : List Section) → every legalSection ss ≡ true → offsetsLegal at (definedAt at ss) ≡ true
@@ -173,9 +161,7 @@ defined-offsets at (s ∷ ss) h =
     and-true _ _ (eq-eqb at at refl) (defined-steps at (length (s .configuration)) ss (l .1) (section-short s (l .0)))
 
 -- from the last offset to the configurations' end is at most a configuration
-defined-last : (at n : ℕ) (ss : List Section) → every legalSection ss ≡ true → n ≤ longestConfiguration
-    → (lastOffset at (definedAt (at + n) ss) ≤ at + n + length (configurationsBytes ss))
-    × (at + n + length (configurationsBytes ss) ≤ lastOffset at (definedAt (at + n) ss) + longestConfiguration)
+defined-last : (at n : ℕ) (ss : List Section) → every legalSection ss ≡ true → n ≤ longestConfiguration → (lastOffset at (definedAt (at + n) ss) ≤ at + n + length (configurationsBytes ss)) × (at + n + length (configurationsBytes ss) ≤ lastOffset at (definedAt (at + n) ss) + longestConfiguration)
 unfolding every definedAt lastOffset
 defined-last at n [] h e = (omega arith, omega (arith, configurations-none))
 defined-last at n (s ∷ ss) h e =
@@ -189,8 +175,7 @@ next-defined at [] = omega (arith, configurations-none)
 next-defined at (s ∷ ss) = refl
 
 -- the sections come back from their definitions and configurations
-sections-read : (f : List ℕ) (at : ℕ) (ss : List Section) (rest : List ℕ) → systemOffset f ≡ at + length (configurationsBytes ss)
-    → drop at f ≡ configurationsBytes ss ++ rest → sectionsFrom f (definedAt at ss) ≡ ss
+sections-read : (f : List ℕ) (at : ℕ) (ss : List Section) (rest : List ℕ) → systemOffset f ≡ at + length (configurationsBytes ss) → drop at f ≡ configurationsBytes ss ++ rest → sectionsFrom f (definedAt at ss) ≡ ss
 unfolding definedAt sectionsFrom configurationsBytes flatMap
 sections-read f at [] rest e d = refl
 sections-read f at (s ∷ ss) rest e d =
@@ -212,8 +197,7 @@ pub record LegalSections (ss : List Section) : Type 0 where
   pub legal : every legalSection ss ≡ true
   pub differ : distinct (sectionNames ss) ≡ true
 
-defined-all-legal : (ss : List Section) (at : ℕ) → LegalSections ss → at + length (configurationsBytes ss) < 256 ^ 8
-    → legalDefinitions (definedAt at ss) ≡ true
+defined-all-legal : (ss : List Section) (at : ℕ) → LegalSections ss → at + length (configurationsBytes ss) < 256 ^ 8 → legalDefinitions (definedAt at ss) ≡ true
 unfolding legalDefinitions
 defined-all-legal ss at l h =
     rw (length-defined, defined-names)
@@ -224,8 +208,7 @@ defined-all-legal ss at l h =
     (l .differ))
 
 -- the definitions of legal sections are read back
-defined-read : (ss : List Section) (rest : List ℕ) → LegalSections ss → systemAt ss < 256 ^ 8
-    → definitions (definitionsBytes ss ++ rest) ≡ good (definedAt (definitionsEnd ss) ss) (length (definitionsBytes ss))
+defined-read : (ss : List Section) (rest : List ℕ) → LegalSections ss → systemAt ss < 256 ^ 8 → definitions (definitionsBytes ss ++ rest) ≡ good (definedAt (definitionsEnd ss) ss) (length (definitionsBytes ss))
 unfolding definitionsBytes
 defined-read ss rest l h =
     let t = definitions-exact .takes (definedAt (definitionsEnd ss) ss) rest (defined-all-legal ss (definitionsEnd ss) l h) in
@@ -250,17 +233,13 @@ pub first-revision : (f : List ℕ) → getD f 4 0 ≡ revision → otherRevisio
 unfolding otherRevision
 first-revision f v = rw v
 
-sections-pass : (f : List ℕ) (ds : List Definition) (n : ℕ) → readDefinitions f ≡ good ds n → offsetsLegal (headerLength + n) ds ≡ true
-    → badSections f ≡ false
+sections-pass : (f : List ℕ) (ds : List Definition) (n : ℕ) → readDefinitions f ≡ good ds n → offsetsLegal (headerLength + n) ds ≡ true → badSections f ≡ false
 unfolding badSections definedIn valueOr taken
 sections-pass f ds n r o = rw r (rw o)
 
-system-pass : (f : List ℕ) (ts : List Tag) (n : ℕ) → readSystem f ≡ good ts n → lastOffset 0 (definedIn f) ≤ systemOffset f
-    → systemOffset f ≤ lastOffset 0 (definedIn f) + longestConfiguration → badSystem f ≡ false
+system-pass : (f : List ℕ) (ts : List Tag) (n : ℕ) → readSystem f ≡ good ts n → lastOffset 0 (definedIn f) ≤ systemOffset f → systemOffset f ≤ lastOffset 0 (definedIn f) + longestConfiguration → badSystem f ≡ false
 unfolding badSystem
-system-pass f ts n r a b =
-    not-or _ _ (not-or _ _ (le-ltb (systemOffset f) (lastOffset 0 (definedIn f)) a)
-    (le-ltb (lastOffset 0 (definedIn f) + longestConfiguration) (systemOffset f) b)) (rw r)
+system-pass f ts n r a b = not-or _ _ (not-or _ _ (le-ltb (systemOffset f) (lastOffset 0 (definedIn f)) a) (le-ltb (lastOffset 0 (definedIn f) + longestConfiguration) (systemOffset f) b)) (rw r)
 
 -- what is read, and where
 pub definitions-at : (f s : List ℕ) → drop headerLength f ≡ s → readDefinitions f ≡ definitions s
@@ -280,9 +259,7 @@ unfolding walkStart taken
 start-at f ts n at o e = rw (o, e)
 
 -- the last of some sections' offsets
-sections-last : (at : ℕ) (ss : List Section) → 1 ≤ length ss → every legalSection ss ≡ true
-    → (lastOffset 0 (definedAt at ss) ≤ at + length (configurationsBytes ss))
-    × (at + length (configurationsBytes ss) ≤ lastOffset 0 (definedAt at ss) + longestConfiguration)
+sections-last : (at : ℕ) (ss : List Section) → 1 ≤ length ss → every legalSection ss ≡ true → (lastOffset 0 (definedAt at ss) ≤ at + length (configurationsBytes ss)) × (at + length (configurationsBytes ss) ≤ lastOffset 0 (definedAt at ss) + longestConfiguration)
 unfolding definedAt lastOffset every
 sections-last at [] p h = absurd (omega arith)
 sections-last at (s ∷ ss) p h =
@@ -290,17 +267,12 @@ sections-last at (s ∷ ss) p h =
     let t = defined-last at (length (s .configuration)) ss (l .1) (section-short s (l .0)) in
     (omega (arith, t .0, length-configurations s ss), omega (arith, t .1, length-configurations s ss))
 
-front-read-of : (c i u : ℕ) (ss : List Section) (ts : List Tag) (rest f : List ℕ) → HeaderRead c i (systemAt ss) u f → headerLength < length f
-    → drop headerLength f ≡ definitionsBytes ss ++ (configurationsBytes ss ++ (tableBytes ts ++ rest)) → LegalSections ss → legalTable ts ≡ true
-    → systemAt ss < 256 ^ 8 → FrontRead c i u ss ts rest f
+front-read-of : (c i u : ℕ) (ss : List Section) (ts : List Tag) (rest f : List ℕ) → HeaderRead c i (systemAt ss) u f → headerLength < length f → drop headerLength f ≡ definitionsBytes ss ++ (configurationsBytes ss ++ (tableBytes ts ++ rest)) → LegalSections ss → legalTable ts ≡ true → systemAt ss < 256 ^ 8 → FrontRead c i u ss ts rest f
 front-read-of c i u ss ts rest f h n d l t b =
     let at : ℕ = definitionsEnd ss in
-    let rd : readDefinitions f ≡ good (definedAt at ss) (length (definitionsBytes ss)) =
-    definitions-at f _ d ∙ defined-read ss (configurationsBytes ss ++ (tableBytes ts ++ rest)) l b in
+    let rd : readDefinitions f ≡ good (definedAt at ss) (length (definitionsBytes ss)) = definitions-at f _ d ∙ defined-read ss (configurationsBytes ss ++ (tableBytes ts ++ rest)) l b in
     let di : definedIn f ≡ definedAt at ss = defined-in f _ _ rd in
-    let cs : drop at f ≡ configurationsBytes ss ++ (tableBytes ts ++ rest) =
-    ap (λ (m : ℕ). drop m f) (sym (length-definitionsBytes ss)) ∙ sym (drop-drop (length (definitionsBytes ss)) headerLength f)
-    ∙ rw (d, drop-append-seam) in
+    let cs : drop at f ≡ configurationsBytes ss ++ (tableBytes ts ++ rest) = ap (λ (m : ℕ). drop m f) (sym (length-definitionsBytes ss)) ∙ sym (drop-drop (length (definitionsBytes ss)) headerLength f) ∙ rw (d, drop-append-seam) in
     let sy : drop (systemAt ss) f ≡ tableBytes ts ++ rest = sym (drop-drop (length (configurationsBytes ss)) at f) ∙ rw (cs, drop-append-seam) in
     let rs : readSystem f ≡ good ts (length (tableBytes ts)) = system-at f _ _ (h .system) sy ∙ table-exact .takes ts rest t in
     let ws : walkStart f ≡ systemAt ss + length (tableBytes ts) = start-at f _ _ _ (h .system) rs in
@@ -312,8 +284,7 @@ front-read-of c i u ss ts rest f h n d l t b =
       passes = record {
         mark = not-fstf f n (h .mark);
         version = first-revision f (h .version);
-        sections = sections-pass f (definedAt at ss) (length (definitionsBytes ss)) rd
-            (rw (length-definitionsBytes ss) (defined-offsets at ss (l .legal)));
+        sections = sections-pass f (definedAt at ss) (length (definitionsBytes ss)) rd (rw (length-definitionsBytes ss) (defined-offsets at ss (l .legal)));
         system = system-pass f ts (length (tableBytes ts)) rs (rw (di, h .system) (last .0)) (rw (di, h .system) (last .1));
       };
       sections = rw di (sections-read f at ss (tableBytes ts ++ rest) (h .system) cs);
@@ -324,15 +295,12 @@ front-read-of c i u ss ts rest f h n d l t b =
     }
 
 -- Everything that opening goes by up to the frames is read back, whatever follows.
-pub front-read : (c i u : ℕ) (ss : List Section) (ts : List Tag) (rest : List ℕ) → c < 256 ^ 4 → i < 256 ^ 8 → u < 256 ^ 8 → LegalSections ss
-    → legalTable ts ≡ true → systemAt ss < 256 ^ 8 → FrontRead c i u ss ts rest (frontBytes c i u ss (tableBytes ts) ++ rest)
+pub front-read : (c i u : ℕ) (ss : List Section) (ts : List Tag) (rest : List ℕ) → c < 256 ^ 4 → i < 256 ^ 8 → u < 256 ^ 8 → LegalSections ss → legalTable ts ≡ true → systemAt ss < 256 ^ 8 → FrontRead c i u ss ts rest (frontBytes c i u ss (tableBytes ts) ++ rest)
 unfolding frontBytes
 front-read c i u ss ts rest hc hi hu l t b =
     let s : List ℕ = definitionsBytes ss ++ (configurationsBytes ss ++ (tableBytes ts ++ rest)) in
     let e : frontBytes c i u ss (tableBytes ts) ++ rest ≡ headerBytes c i (systemAt ss) u ++ s = simp append-assoc in
-    rw e (front-read-of c i u ss ts rest (headerBytes c i (systemAt ss) u ++ s) (header-read c i (systemAt ss) u s hc hi b hu)
-    (simp (length-append, length-header) (omega (arith, definitions-some ss)))
-    (drop-at (headerBytes c i (systemAt ss) u) s headerLength (length-header c i (systemAt ss) u)) l t b)
+    rw e (front-read-of c i u ss ts rest (headerBytes c i (systemAt ss) u ++ s) (header-read c i (systemAt ss) u s hc hi b hu) (simp (length-append, length-header) (omega (arith, definitions-some ss))) (drop-at (headerBytes c i (systemAt ss) u) s headerLength (length-header c i (systemAt ss) u)) l t b)
 
 -- ── What a file's front is ──
 
@@ -350,13 +318,11 @@ definition-name : (d : Definition) → legalDefinition d ≡ true → legalSecti
 unfolding legalDefinition
 definition-name d h = both-true (legalSectionName (d .name)) (ltb (d .offset) (256 ^ 8)) h .0
 
-configured-one : (f : List ℕ) (at : ℕ) (d : Definition) (ds : List Definition) → systemOffset f ≤ length f → legalDefinition d ≡ true
-    → at ≤ d .offset → d .offset - at ≤ longestConfiguration → Configured f (d .offset) ds → Configured f at (d ∷ ds)
+configured-one : (f : List ℕ) (at : ℕ) (d : Definition) (ds : List Definition) → systemOffset f ≤ length f → legalDefinition d ≡ true → at ≤ d .offset → d .offset - at ≤ longestConfiguration → Configured f (d .offset) ds → Configured f at (d ∷ ds)
 unfolding nextOffset sectionsFrom definedAt configurationsBytes flatMap every legalSection
 configured-one f at d ds fits l a b i =
     let n : ℕ = nextOffset (systemOffset f) ds in
-    let m : length (take (n - d .offset) (drop (d .offset) f)) ≡ n - d .offset =
-    length-take-le (n - d .offset) (drop (d .offset) f) (simp length-drop (omega arith)) in
+    let m : length (take (n - d .offset) (drop (d .offset) f)) ≡ n - d .offset = length-take-le (n - d .offset) (drop (d .offset) f) (simp length-drop (omega arith)) in
     let e : d .offset + (n - d .offset) ≡ n = omega arith in
     record {
       low = a;
@@ -365,16 +331,13 @@ configured-one f at d ds fits l a b i =
       again = rw (m, e) (ap (λ (l : List Definition). d ∷ l) (i .again));
       bytes =
           append-assoc (take (n - d .offset) (drop (d .offset) f)) (configurationsBytes (sectionsFrom f ds)) (drop (systemOffset f) f)
-          ∙ ap (λ (t : List ℕ). take (n - d .offset) (drop (d .offset) f) ++ t)
-          (i .bytes ∙ ap (λ (k : ℕ). drop k f) (sym e) ∙ sym (drop-drop (n - d .offset) (d .offset) f))
+          ∙ ap (λ (t : List ℕ). take (n - d .offset) (drop (d .offset) f) ++ t) (i .bytes ∙ ap (λ (k : ℕ). drop k f) (sym e) ∙ sym (drop-drop (n - d .offset) (d .offset) f))
           ∙ take-append-drop (n - d .offset) (drop (d .offset) f);
       size = omega (arith, length-append (take (n - d .offset) (drop (d .offset) f)) (configurationsBytes (sectionsFrom f ds)), m, e, i .size);
-      legal = and-true _ _ (and-true _ _ (definition-name d l)
-          (le-leb (length (take (n - d .offset) (drop (d .offset) f))) longestConfiguration (omega arith))) (i .legal);
+      legal = and-true _ _ (and-true _ _ (definition-name d l) (le-leb (length (take (n - d .offset) (drop (d .offset) f))) longestConfiguration (omega arith))) (i .legal);
     }
 
-configured : (f : List ℕ) (at : ℕ) (ds : List Definition) → systemOffset f ≤ length f → every legalDefinition ds ≡ true → steps at ds ≡ true
-    → lastOffset at ds ≤ systemOffset f → systemOffset f ≤ lastOffset at ds + longestConfiguration → Configured f at ds
+configured : (f : List ℕ) (at : ℕ) (ds : List Definition) → systemOffset f ≤ length f → every legalDefinition ds ≡ true → steps at ds ≡ true → lastOffset at ds ≤ systemOffset f → systemOffset f ≤ lastOffset at ds + longestConfiguration → Configured f at ds
 unfolding nextOffset sectionsFrom definedAt every steps lastOffset configurationsBytes flatMap
 configured f at [] fits l s a b = record { low = a; near = b; high = omega arith; again = refl; bytes = refl; size = omega arith; legal = refl }
 configured f at (d ∷ ds) fits l s a b =
@@ -384,9 +347,7 @@ configured f at (d ∷ ds) fits l s a b =
     configured-one f at d ds fits (k .0) (leb-true _ _ (v .0)) (leb-true _ _ (v .1)) (configured f (d .offset) ds fits (k .1) (t .1) a b)
 
 -- the first offset is `end`
-configured-from : (f : List ℕ) (end : ℕ) (ds : List Definition) → systemOffset f ≤ length f → 1 ≤ length ds → every legalDefinition ds ≡ true
-    → offsetsLegal end ds ≡ true → lastOffset 0 ds ≤ systemOffset f → systemOffset f ≤ lastOffset 0 ds + longestConfiguration
-    → Configured f end ds × (nextOffset (systemOffset f) ds ≡ end)
+configured-from : (f : List ℕ) (end : ℕ) (ds : List Definition) → systemOffset f ≤ length f → 1 ≤ length ds → every legalDefinition ds ≡ true → offsetsLegal end ds ≡ true → lastOffset 0 ds ≤ systemOffset f → systemOffset f ≤ lastOffset 0 ds + longestConfiguration → Configured f end ds × (nextOffset (systemOffset f) ds ≡ end)
 unfolding every offsetsLegal lastOffset nextOffset
 configured-from f end [] fits p l o a b = absurd (omega arith)
 configured-from f end (d ∷ ds) fits p l o a b =
@@ -420,34 +381,27 @@ pub record FrontGiven (f : List ℕ) : Type 0 where
   pub bytes : f ≡ frontBytes (headerCount f) (indexOffset f) (userOffset f) (sectionsIn f) (tableBytes (systemIn f)) ++ drop (walkStart f) f
 
 -- the header passes
-header-given : (f : List ℕ) → areBytes f ≡ true → FrontPasses f
-    → f ≡ headerBytes (headerCount f) (indexOffset f) (systemOffset f) (userOffset f) ++ drop headerLength f
+header-given : (f : List ℕ) → areBytes f ≡ true → FrontPasses f → f ≡ headerBytes (headerCount f) (indexOffset f) (systemOffset f) (userOffset f) ++ drop headerLength f
 unfolding notFstf otherRevision
 header-given f h p =
     let m = or-false (ltb (length f) (headerLength + 1)) (not (same (take 4 f) fileMark)) (p .mark) in
     let l : headerLength + 1 ≤ length f = ltb-false (length f) (headerLength + 1) (m .0) in
-    header-back f h (omega arith) (same-true (take 4 f) fileMark (not-false (same (take 4 f) fileMark) (m .1)))
-    (eqb-true (getD f 4 0) revision (not-false (eqb (getD f 4 0) revision) (p .version)))
+    header-back f h (omega arith) (same-true (take 4 f) fileMark (not-false (same (take 4 f) fileMark) (m .1))) (eqb-true (getD f 4 0) revision (not-false (eqb (getD f 4 0) revision) (p .version)))
 
-sections-given : (f : List ℕ) → badSections f ≡ false → (readDefinitions f ≡ good (definedIn f) (taken (readDefinitions f)))
-    × (offsetsLegal (headerLength + taken (readDefinitions f)) (definedIn f) ≡ true)
+sections-given : (f : List ℕ) → badSections f ≡ false → (readDefinitions f ≡ good (definedIn f) (taken (readDefinitions f))) × (offsetsLegal (headerLength + taken (readDefinitions f)) (definedIn f) ≡ true)
 unfolding badSections definedIn
 sections-given f h =
     let p = or-false (isBad (readDefinitions f)) (not (offsetsLegal (headerLength + taken (readDefinitions f)) (definedIn f))) h in
     (read-good [] (readDefinitions f) (p .0), not-false (offsetsLegal (headerLength + taken (readDefinitions f)) (definedIn f)) (p .1))
 
-system-given : (f : List ℕ) → badSystem f ≡ false → (readSystem f ≡ good (systemIn f) (taken (readSystem f)))
-    × (lastOffset 0 (definedIn f) ≤ systemOffset f) × (systemOffset f ≤ lastOffset 0 (definedIn f) + longestConfiguration)
+system-given : (f : List ℕ) → badSystem f ≡ false → (readSystem f ≡ good (systemIn f) (taken (readSystem f))) × (lastOffset 0 (definedIn f) ≤ systemOffset f) × (systemOffset f ≤ lastOffset 0 (definedIn f) + longestConfiguration)
 unfolding badSystem
 system-given f h =
-    let p = or-false (ltb (systemOffset f) (lastOffset 0 (definedIn f))
-    || ltb (lastOffset 0 (definedIn f) + longestConfiguration) (systemOffset f)) (isBad (readSystem f)) h in
-    let q = or-false (ltb (systemOffset f) (lastOffset 0 (definedIn f)))
-    (ltb (lastOffset 0 (definedIn f) + longestConfiguration) (systemOffset f)) (p .0) in
+    let p = or-false (ltb (systemOffset f) (lastOffset 0 (definedIn f)) || ltb (lastOffset 0 (definedIn f) + longestConfiguration) (systemOffset f)) (isBad (readSystem f)) h in
+    let q = or-false (ltb (systemOffset f) (lastOffset 0 (definedIn f))) (ltb (lastOffset 0 (definedIn f) + longestConfiguration) (systemOffset f)) (p .0) in
     (read-good [] (readSystem f) (p .1), ltb-false _ _ (q .0), ltb-false _ _ (q .1))
 
-definitions-parts : (ds : List Definition) → legalDefinitions ds ≡ true
-    → (1 ≤ length ds) × (length ds ≤ mostSections) × (every legalDefinition ds ≡ true) × (distinct (definedNames ds) ≡ true)
+definitions-parts : (ds : List Definition) → legalDefinitions ds ≡ true → (1 ≤ length ds) × (length ds ≤ mostSections) × (every legalDefinition ds ≡ true) × (distinct (definedNames ds) ≡ true)
 unfolding legalDefinitions
 definitions-parts ds l =
     let p = both-true (within 1 mostSections (length ds) && every legalDefinition ds) (distinct (definedNames ds)) l in
@@ -467,16 +421,14 @@ record DefinedGiven (f : List ℕ) (ds : List Definition) (n : ℕ) : Type 0 whe
   end : definitionsEnd (sectionsFrom f ds) ≡ headerLength + n
   system : systemAt (sectionsFrom f ds) ≡ systemOffset f
 
-defined-given : (f : List ℕ) (ds : List Definition) (n : ℕ) → legalDefinitions ds ≡ true → n ≡ length (length ds ∷ flatMap definitionBytes ds)
-    → Configured f (headerLength + n) ds → nextOffset (systemOffset f) ds ≡ headerLength + n → DefinedGiven f ds n
+defined-given : (f : List ℕ) (ds : List Definition) (n : ℕ) → legalDefinitions ds ≡ true → n ≡ length (length ds ∷ flatMap definitionBytes ds) → Configured f (headerLength + n) ds → nextOffset (systemOffset f) ds ≡ headerLength + n → DefinedGiven f ds n
 unfolding definitionsBytes definitionsEnd
 defined-given f ds n l e c first =
     let ss : List Section = sectionsFrom f ds in
     let p = definitions-parts ds l in
     let a : definedAt (headerLength + n) ss ≡ ds = rw first at (c .again) in
     let k : length ds ≡ length ss = sym (ap length a) ∙ length-defined (headerLength + n) ss in
-    let b : definitionListBytes (headerLength + n) ss ≡ flatMap definitionBytes ds =
-    sym (defined-bytes (headerLength + n) ss) ∙ ap (flatMap definitionBytes) a in
+    let b : definitionListBytes (headerLength + n) ss ≡ flatMap definitionBytes ds = sym (defined-bytes (headerLength + n) ss) ∙ ap (flatMap definitionBytes) a in
     let d : definitionsEnd ss ≡ headerLength + n = omega (arith, e, length-definitions (headerLength + n) 0 ss, ap length b) in
     record {
       legal = record {
@@ -492,17 +444,11 @@ defined-given f ds n l e c first =
     }
 
 -- the bytes of a file, part behind part
-front-bytes : (f : List ℕ) (c i u : ℕ) (ss : List Section) (ts : List Tag) (n m : ℕ)
-    → f ≡ headerBytes c i (systemOffset f) u ++ drop headerLength f → systemAt ss ≡ systemOffset f
-    → drop headerLength f ≡ definitionsBytes ss ++ drop n (drop headerLength f)
-    → configurationsBytes ss ++ drop (systemOffset f) f ≡ drop (headerLength + n) f
-    → drop (systemOffset f) f ≡ tableBytes ts ++ drop m (drop (systemOffset f) f)
-    → f ≡ frontBytes c i u ss (tableBytes ts) ++ drop (systemOffset f + m) f
+front-bytes : (f : List ℕ) (c i u : ℕ) (ss : List Section) (ts : List Tag) (n m : ℕ) → f ≡ headerBytes c i (systemOffset f) u ++ drop headerLength f → systemAt ss ≡ systemOffset f → drop headerLength f ≡ definitionsBytes ss ++ drop n (drop headerLength f) → configurationsBytes ss ++ drop (systemOffset f) f ≡ drop (headerLength + n) f → drop (systemOffset f) f ≡ tableBytes ts ++ drop m (drop (systemOffset f) f) → f ≡ frontBytes c i u ss (tableBytes ts) ++ drop (systemOffset f + m) f
 unfolding frontBytes
 front-bytes f c i u ss ts n m hd sy d cs t =
     let d′ : drop headerLength f ≡ definitionsBytes ss ++ (configurationsBytes ss ++ (tableBytes ts ++ drop (systemOffset f + m) f)) =
-    d ∙ ap (λ (l : List ℕ). definitionsBytes ss ++ l) (drop-drop n headerLength f ∙ sym cs
-    ∙ ap (λ (l : List ℕ). configurationsBytes ss ++ l) (t ∙ ap (λ (l : List ℕ). tableBytes ts ++ l) (drop-drop m (systemOffset f) f))) in
+    d ∙ ap (λ (l : List ℕ). definitionsBytes ss ++ l) (drop-drop n headerLength f ∙ sym cs ∙ ap (λ (l : List ℕ). configurationsBytes ss ++ l) (t ∙ ap (λ (l : List ℕ). tableBytes ts ++ l) (drop-drop m (systemOffset f) f))) in
     hd ∙ rw sy (simp append-assoc (ap (λ (l : List ℕ). headerBytes c i (systemOffset f) u ++ l) d′))
 
 -- A file whose first four lines pass begins with the front of the sections and system tags that it shows.
@@ -515,8 +461,7 @@ front-given f h p =
     let y = system-given f (p .system) in
     let g = definitions-exact .gives (drop headerLength f) ds n (bytes-drop headerLength f h) (s .0) in
     let t = table-exact .gives (drop (systemOffset f) f) (systemIn f) (taken (readSystem f)) (bytes-drop (systemOffset f) f h) (y .0) in
-    let fits : systemOffset f ≤ length f = stands-within (systemOffset f) f (tableBytes (systemIn f)) _ (omega (arith, table-some (systemIn f)))
-    (t .2) in
+    let fits : systemOffset f ≤ length f = stands-within (systemOffset f) f (tableBytes (systemIn f)) _ (omega (arith, table-some (systemIn f))) (t .2) in
     let l = definitions-parts ds (g .0) in
     let c = configured-from f (headerLength + n) ds fits (l .0) (l .2) (s .1) (y .1) (y .2) in
     let v = defined-given f ds n (g .0) (g .1) (c .0) (c .1) in
@@ -525,6 +470,5 @@ front-given f h p =
       table = t .0;
       defined = v .count;
       start = omega (arith, t .1, v .system);
-      bytes = front-bytes f (headerCount f) (indexOffset f) (userOffset f) (sectionsIn f) (systemIn f) n (taken (readSystem f))
-          (header-given f h p) (v .system) (rw (v .bytes) (g .2)) (c .0 .bytes ∙ ap (λ (k : ℕ). drop k f) (c .1)) (t .2);
+      bytes = front-bytes f (headerCount f) (indexOffset f) (userOffset f) (sectionsIn f) (systemIn f) n (taken (readSystem f)) (header-given f h p) (v .system) (rw (v .bytes) (g .2)) (c .0 .bytes ∙ ap (λ (k : ℕ). drop k f) (c .1)) (t .2);
     }

@@ -1,5 +1,5 @@
--- Document 01's places, limits and byte classes as one table under one claim, beside P1 to P12: what stands at each end is accepted and what stands
--- one past it refused, the answers written by hand from the document. Assumes nothing.
+-- Document 01's places, limits and byte classes as one table under one claim, beside P1 to P12: what stands at each end is accepted and what stands one past
+-- it refused, the answers written by hand from the document. Assumes nothing.
 use Prim.Native.Nat.{ℕ, zero, suc, _+_, _^_, _≤_}
 use mathlib.Core.Path.{_≡_}
 use mathlib.Core.Bool.{Bool, true, false, not, _&&_}
@@ -91,8 +91,7 @@ sheetAs seen new = 1 ∷ 1 ∷ 65 ∷ seen ++ new
 
 pub limitRows : List Row
 limitRows =
-    -- "Header, 33 bytes: 46 53 54 46; revision byte 1; frame count UInt32 at 5; index offset UInt64 at 9; system table offset at 17; user table
-    -- offset at 25"
+    -- "Header, 33 bytes: 46 53 54 46; revision byte 1; frame count UInt32 at 5; index offset UInt64 at 9; system table offset at 17; user table offset at 25"
     row (headerBytes 0x04030201 0x0B 0x0C 0x0D)
     (0x46 ∷ 0x53 ∷ 0x54 ∷ 0x46 ∷ 0x01 ∷ 0x01 ∷ 0x02 ∷ 0x03 ∷ 0x04 ∷ 0x0B ∷ replicate 7 0 ++ 0x0C ∷ replicate 7 0 ++ 0x0D ∷ replicate 7 0)
     -- the same read, of a header in which each byte is its own place
@@ -116,12 +115,10 @@ limitRows =
     ∷ row (map (λ n. beginsBy (setUpAs (replicate n 65))) (0 ∷ 1 ∷ 255 ∷ [])) (3 ∷ 0 ∷ 0 ∷ [])
     ∷ row (map (λ n. bit (legalSectionName (replicate n 65))) (0 ∷ 1 ∷ 255 ∷ 256 ∷ [])) (0 ∷ 1 ∷ 1 ∷ 0 ∷ [])
     -- "no two are equal"
-    ∷ row (reads definitions (2 ∷ 1 ∷ 65 ∷ replicate 8 0 ++ 1 ∷ 65 ∷ replicate 8 0) ∷ beginsBy (2 ∷ 1 ∷ 65 ∷ 0 ∷ 0 ∷ 1 ∷ 65 ∷ 0 ∷ 0 ∷ []) ∷ [])
-    (0 ∷ 3 ∷ [])
+    ∷ row (reads definitions (2 ∷ 1 ∷ 65 ∷ replicate 8 0 ++ 1 ∷ 65 ∷ replicate 8 0) ∷ beginsBy (2 ∷ 1 ∷ 65 ∷ 0 ∷ 0 ∷ 1 ∷ 65 ∷ 0 ∷ 0 ∷ []) ∷ []) (0 ∷ 3 ∷ [])
     -- "the first offset is the end of the definitions; offsets never fall; .. 0 to 65,535 bytes each"
     ∷ row (map (λ at. bit (offsetsLegal 54 (record { name = 65 ∷ []; offset = at } ∷ []))) (53 ∷ 54 ∷ 55 ∷ [])) (0 ∷ 1 ∷ 0 ∷ [])
-    ∷ row (map (λ at. bit (offsetsLegal 54 (record { name = 65 ∷ []; offset = 54 } ∷ record { name = 66 ∷ []; offset = at } ∷ [])))
-    (53 ∷ 54 ∷ 65589 ∷ 65590 ∷ []))
+    ∷ row (map (λ at. bit (offsetsLegal 54 (record { name = 65 ∷ []; offset = 54 } ∷ record { name = 66 ∷ []; offset = at } ∷ []))) (53 ∷ 54 ∷ 65589 ∷ 65590 ∷ []))
     (0 ∷ 1 ∷ 1 ∷ 0 ∷ [])
     -- "number of tags, 0 to 1,000"; the upper end stands below
     ∷ row (reads table (replicate 4 0) ∷ []) (1 ∷ [])
@@ -144,8 +141,7 @@ limitRows =
     ∷ row (map (λ t. bit (inOrder (frameAt 1000 ∷ frameAt 1001 ∷ frameAt t ∷ []))) (1000 ∷ 1001 ∷ 4294968295 ∷ 4294968296 ∷ [])) (0 ∷ 1 ∷ 1 ∷ 0 ∷ [])
     -- and for the recorder; also where the time before is -1
     ∷ row (map (λ t. addsBy (stateWith running 1 2 1000 1001 100) t) (1000 ∷ 1001 ∷ 4294968295 ∷ 4294968296 ∷ [])) (13 ∷ 0 ∷ 0 ∷ 13 ∷ [])
-    ∷ row (map (λ t. addsBy (stateWith running 1 1 0xFFFFFFFFFFFFFFFF 0xFFFFFFFFFFFFFFFF 100) t)
-    (0xFFFFFFFFFFFFFFFE ∷ 0xFFFFFFFFFFFFFFFF ∷ 0 ∷ 4294967294 ∷ 4294967295 ∷ []))
+    ∷ row (map (λ t. addsBy (stateWith running 1 1 0xFFFFFFFFFFFFFFFF 0xFFFFFFFFFFFFFFFF 100) t) (0xFFFFFFFFFFFFFFFE ∷ 0xFFFFFFFFFFFFFFFF ∷ 0 ∷ 4294967294 ∷ 4294967295 ∷ []))
     (13 ∷ 0 ∷ 0 ∷ 0 ∷ 13 ∷ [])
     -- 15 "1,000,000 frames already": before that, the notes are too short here
     ∷ row (map (λ n. addsBy (stateWith running 1 n 0 0 100) 0) (999999 ∷ 1000000 ∷ [])) (9 ∷ 15 ∷ [])
@@ -158,8 +154,7 @@ limitRows =
     ∷ row (map (λ t. closesBy (stateWith running 1 0 1000 t 100)) (999 ∷ 1000 ∷ 4294968295 ∷ 4294968296 ∷ [])) (12 ∷ 0 ∷ 0 ∷ 12 ∷ [])
     ∷ row (map (λ e. closesBy (stateWith running 1 0 0 0 e)) (1099511115768 ∷ 1099511115769 ∷ [])) (0 ∷ 12 ∷ [])
     -- "Fresh takes the begin call only, running a frame or a close call, closing a close call, closed none"
-    ∷ row (map (λ s. begin (stateWith s 1 0 0 0 100) (sectionsOfCount 1) (replicate 4 0) (replicate 4 7) 1000 .refused)
-    (fresh ∷ running ∷ closing 0 ∷ closed ∷ [])) (0 ∷ 12 ∷ 12 ∷ 12 ∷ [])
+    ∷ row (map (λ s. begin (stateWith s 1 0 0 0 100) (sectionsOfCount 1) (replicate 4 0) (replicate 4 7) 1000 .refused) (fresh ∷ running ∷ closing 0 ∷ closed ∷ [])) (0 ∷ 12 ∷ 12 ∷ 12 ∷ [])
     ∷ row (map (λ s. addsBy (stateWith s 1 0 0 0 100) 0) (fresh ∷ running ∷ closing 0 ∷ closed ∷ [])) (12 ∷ 0 ∷ 12 ∷ 12 ∷ [])
     ∷ row (map (λ s. closesBy (stateWith s 1 0 0 0 100)) (fresh ∷ running ∷ closing 0 ∷ closed ∷ [])) (12 ∷ 0 ∷ 0 ∷ 12 ∷ [])
     -- "Beginning writes four zeros at the start of the lent notes"
@@ -167,10 +162,8 @@ limitRows =
     -- "n into the first four bytes of lent notes and the new entry at 16·n − 12; their other bytes stay"
     ∷ row (add (stateWith running 1 1 1000 1000 0x64) 1005 40 (replicate 4 0) (replicate 38 7) 20 .notes)
     (2 ∷ 0 ∷ 0 ∷ 0 ∷ replicate 16 7 ++ 5 ∷ 0 ∷ 0 ∷ 0 ∷ 0x64 ∷ replicate 7 0 ++ 20 ∷ 0 ∷ 0 ∷ 0 ∷ 7 ∷ 7 ∷ [])
-    -- "index (the first 4 + 16·n bytes of the notes ..), an empty user table (four zeros), the count at 5, the user offset at 25, the index offset
-    -- at 9"
-    ∷ row (flatMap pieceBytes (session (record { state = stateWith running 1 1 0 0 0x4A; notes = replicate 25 7; pieces = [] })
-    (replicate 6 (closes 20)) .pieces))
+    -- "index (the first 4 + 16·n bytes of the notes ..), an empty user table (four zeros), the count at 5, the user offset at 25, the index offset at 9"
+    ∷ row (flatMap pieceBytes (session (record { state = stateWith running 1 1 0 0 0x4A; notes = replicate 25 7; pieces = [] }) (replicate 6 (closes 20)) .pieces))
     (0x4A ∷ 20 ∷ replicate 20 7 ++ 0x5E ∷ 4 ∷ replicate 4 0 ++ 5 ∷ 4 ∷ 1 ∷ 0 ∷ 0 ∷ 0 ∷ 25 ∷ 8 ∷ 0x5E ∷ replicate 7 0 ++ 9 ∷ 8 ∷ 0x4A ∷ replicate 7 0)
     -- 9: of the output and of the notes, to begin, to add and to close
     ∷ row (map (λ n. begin freshState (sectionsOfCount 1) (replicate 4 0) (replicate 4 7) n .refused) (47 ∷ 48 ∷ [])) (9 ∷ 0 ∷ [])
@@ -184,26 +177,16 @@ limitRows =
     -- "a seen kind (0 absent, 1 a value, which follows, 2 nobody looked); a new kind (0 absent, 1 a value, which follows)"
     ∷ row (map (λ s. reads sheet (sheetAs s (0 ∷ []))) ((0 ∷ []) ∷ (1 ∷ 1 ∷ 66 ∷ []) ∷ (2 ∷ []) ∷ (3 ∷ []) ∷ [])) (1 ∷ 1 ∷ 1 ∷ 0 ∷ [])
     ∷ row (map (λ n. reads sheet (sheetAs (0 ∷ []) n)) ((0 ∷ []) ∷ (1 ∷ 1 ∷ 66 ∷ []) ∷ (2 ∷ []) ∷ [])) (1 ∷ 1 ∷ 0 ∷ [])
-    -- Limits of lists that are too long to compute with, as equations on their constants: a last configuration of 65,535 bytes, 1,000 tags, a
-    -- section of 16,777,216 bytes, 1,000,000 frames in a file, the largest table of 4 + 1,000 · 512 bytes, a user table at 2^40 − 512,004. What they
-    -- do to recordings is said below.
+    -- Limits of lists that are too long to compute with, as equations on their constants: a last configuration of 65,535 bytes, 1,000 tags, a section of
+    -- 16,777,216 bytes, 1,000,000 frames in a file, the largest table of 4 + 1,000 · 512 bytes, a user table at 2^40 − 512,004. What they do to recordings
+    -- is said below.
     ∷ row (longestConfiguration ∷ mostTags ∷ longestSection ∷ mostFrames ∷ largestTable ∷ largestUserOffset ∷ [])
     (65535 ∷ 1000 ∷ 16777216 ∷ 1000000 ∷ 512004 ∷ 1099511115772 ∷ [])
     ∷ []
 
 -- the numbers and classes of document 01 hold of the definitions
 pub limits : T (every holdsAt limitRows)
-unfolding bit reads counting definedAs setUpAs letters sectionsOfCount beginsBy taggedAs stateWith closesBy addsBy frameAt pieceBytes changesFrom
-    sheetOfCount sheetAs limitRows theFile row holdsAt map bytesOf numberOf flatMap fileMark shortString headerBytes definitionListBytes
-    definitionsEnd definitionsBytes configurationsBytes frontBytes tableBytes tagBytes sizedBytes frameHeadBytes frameBytes entryBytes
-    entriesBytes firstTime indexBytes every same among distinct isNameByte isTagByte legalSectionName legalTagName legalTagValue tagNames
-    sectionNames follows follow inOrder onward give _then_ only times exactly valueOr taken number block string definition definedNames
-    definitions tag table sized frame stopped longer walk firstOf field headerCount indexOffset systemOffset userOffset readDefinitions definedIn
-    readSystem readUser walkStart walkOf counted notFstf otherRevision steps offsetsLegal lastOffset badSections badSystem notClosed badIndex
-    badUser frontLines openingLines refusal nextOffset sectionsFrom shown isFresh isRunning takesClose pieceNumber tooLong brokenState answer
-    setUpSection setUpList sectionsOf badSetUp firstPiece beginLines begun begin framePiece badShape badClock addLines firstAfter added noted add
-    closingPieces closingPiece notesShort stageAfter closeLines closedBy close pieceOf passedOn called session tagValue malformed entryOf seenOf
-    change changeNames sheet
+unfolding bit reads counting definedAs setUpAs letters sectionsOfCount beginsBy taggedAs stateWith closesBy addsBy frameAt pieceBytes changesFrom sheetOfCount sheetAs limitRows theFile row holdsAt map bytesOf numberOf flatMap fileMark shortString headerBytes definitionListBytes definitionsEnd definitionsBytes configurationsBytes frontBytes tableBytes tagBytes sizedBytes frameHeadBytes frameBytes entryBytes entriesBytes firstTime indexBytes every same among distinct isNameByte isTagByte legalSectionName legalTagName legalTagValue tagNames sectionNames follows follow inOrder onward give _then_ only times exactly valueOr taken number block string definition definedNames definitions tag table sized frame stopped longer walk firstOf field headerCount indexOffset systemOffset userOffset readDefinitions definedIn readSystem readUser walkStart walkOf counted notFstf otherRevision steps offsetsLegal lastOffset badSections badSystem notClosed badIndex badUser frontLines openingLines refusal nextOffset sectionsFrom shown isFresh isRunning takesClose pieceNumber tooLong brokenState answer setUpSection setUpList sectionsOf badSetUp firstPiece beginLines begun begin framePiece badShape badClock addLines firstAfter added noted add closingPieces closingPiece notesShort stageAfter closeLines closedBy close pieceOf passedOn called session tagValue malformed entryOf seenOf change changeNames sheet
 limits = tt
 
 -- ── The same of long lists ──
@@ -217,25 +200,13 @@ pub legal-numbers : (r : Recording)
     × (distinct (sectionNames (r .sections)) ≡ true)
     × (leb (length (r .system)) 1000 && every legalTag (r .system) && distinct (tagNames (r .system)) ≡ true)
     × (length (r .frames) ≤ 1000000)
-    × (every (λ f. leb (suc (f .time)) (2 ^ 64) && leb (suc (f .exposure)) (2 ^ 32) && eqb (length (f .sections)) (length (r .sections))
-    && every (λ b. leb (length b) 16777216) (f .sections)) (r .frames) ≡ true)
+    × (every (λ f. leb (suc (f .time)) (2 ^ 64) && leb (suc (f .exposure)) (2 ^ 32) && eqb (length (f .sections)) (length (r .sections)) && every (λ b. leb (length b) 16777216) (f .sections)) (r .frames) ≡ true)
     × (inOrder (r .frames) ≡ true)
     × (leb (length (r .user)) 1000 && every legalTag (r .user) && distinct (tagNames (r .user)) ≡ true)
     × (userStart r ≤ 1099511115772))
 unfolding legalSection legalTable legalFrame
 legal-numbers r = (
-  λ l. (
-    l .atLeastOneSection,
-    l .atMostEightSections,
-    l .sectionsLegal,
-    l .sectionsDiffer,
-    l .systemLegal,
-    l .framesFew,
-    l .framesLegal,
-    l .framesOrdered,
-    l .userLegal,
-    l .userOffsetFits,
-  ),
+  λ l. (l .atLeastOneSection, l .atMostEightSections, l .sectionsLegal, l .sectionsDiffer, l .systemLegal, l .framesFew, l .framesLegal, l .framesOrdered, l .userLegal, l .userOffsetFits),
   λ h.
       record {
         atLeastOneSection = h .0;

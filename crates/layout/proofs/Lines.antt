@@ -29,8 +29,7 @@ unfolding firstOf
 lines-first [] bs n e = absurd (omega arith)
 lines-first (l ∷ ls) bs n e = go (l .holds) e (lines-first ls bs n)
   where
-    go : (b : Bool) → firstOf (line (l .number) b ∷ ls) ≡ suc n → (firstOf ls ≡ suc n → firstOf (ls ++ bs) ≡ suc n)
-        → firstOf (line (l .number) b ∷ ls ++ bs) ≡ suc n
+    go : (b : Bool) → firstOf (line (l .number) b ∷ ls) ≡ suc n → (firstOf ls ≡ suc n → firstOf (ls ++ bs) ≡ suc n) → firstOf (line (l .number) b ∷ ls ++ bs) ≡ suc n
     go true q i = q
     go false q i = i q
 
@@ -51,8 +50,7 @@ pub record Passes (f : List ℕ) : Type 0 where
 pub front-pass : (f : List ℕ) (ls : List Line) → FrontPasses f → firstOf (frontLines f ++ ls) ≡ firstOf ls
 unfolding frontLines
 front-pass f ls p =
-    line-pass 1 (notFstf f) _ (p .mark) ∙ line-pass 2 (otherRevision f) _ (p .version) ∙ line-pass 3 (badSections f) _ (p .sections)
-    ∙ line-pass 4 (badSystem f) _ (p .system)
+    line-pass 1 (notFstf f) _ (p .mark) ∙ line-pass 2 (otherRevision f) _ (p .version) ∙ line-pass 3 (badSections f) _ (p .sections) ∙ line-pass 4 (badSystem f) _ (p .system)
 
 pub front-clear : (f : List ℕ) (ls : List Line) → firstOf (frontLines f ++ ls) ≡ 0 → FrontPasses f × (firstOf ls ≡ 0)
 unfolding frontLines
@@ -66,8 +64,7 @@ front-clear f ls e =
 pub opening-pass : (f : List ℕ) (ls : List Line) → Passes f → firstOf (openingLines f ++ ls) ≡ firstOf ls
 unfolding openingLines
 opening-pass f ls p =
-    rw append-assoc (front-pass f _ (p .front) ∙ line-pass 5 (notClosed f) _ (p .closed) ∙ line-pass 6 (badIndex f) _ (p .index)
-    ∙ line-pass 7 (badUser f) _ (p .user))
+    rw append-assoc (front-pass f _ (p .front) ∙ line-pass 5 (notClosed f) _ (p .closed) ∙ line-pass 6 (badIndex f) _ (p .index) ∙ line-pass 7 (badUser f) _ (p .user))
 
 pub opening-clear : (f : List ℕ) (ls : List Line) → firstOf (openingLines f ++ ls) ≡ 0 → Passes f × (firstOf ls ≡ 0)
 unfolding openingLines

@@ -96,8 +96,7 @@ every-append ok (x ∷ xs) ys = go (ok x) (every-append ok xs ys)
     go false e = refl
 
 -- what all pass, all pass a weaker test
-pub every-weaker : {A : Type 0} (ok weaker : A → Bool) → ((x : A) → ok x ≡ true → weaker x ≡ true) → (xs : List A) → every ok xs ≡ true
-    → every weaker xs ≡ true
+pub every-weaker : {A : Type 0} (ok weaker : A → Bool) → ((x : A) → ok x ≡ true → weaker x ≡ true) → (xs : List A) → every ok xs ≡ true → every weaker xs ≡ true
 unfolding every
 every-weaker ok weaker h [] e = refl
 every-weaker ok weaker h (x ∷ xs) e =
@@ -109,8 +108,7 @@ pub every-take : {A : Type 0} (ok : A → Bool) (n : ℕ) (xs : List A) → ever
 unfolding every
 every-take ok zero xs h = refl
 every-take ok (suc n) [] h = refl
-every-take ok (suc n) (x ∷ xs) h = and-true (ok x) (every ok (take n xs)) (both-true (ok x) (every ok xs) h .0)
-    (every-take ok n xs (both-true (ok x) (every ok xs) h .1))
+every-take ok (suc n) (x ∷ xs) h = and-true (ok x) (every ok (take n xs)) (both-true (ok x) (every ok xs) h .0) (every-take ok n xs (both-true (ok x) (every ok xs) h .1))
 
 -- no more than there are
 pub take-min : {A : Type 0} (n : ℕ) (xs : List A) → take (min n (length xs)) xs ≡ take n xs
@@ -122,8 +120,7 @@ take-min (suc n) (x ∷ xs) = rw suc-min-suc (ap (λ (l : List _). x ∷ l) (tak
 
 pub bytes-append : (s t : List ℕ) → areBytes s ≡ true → areBytes t ≡ true → areBytes (s ++ t) ≡ true
 bytes-append [] t p q = q
-bytes-append (x ∷ xs) t p q = and-true (ltb x 256) (areBytes (xs ++ t)) (both-true (ltb x 256) (areBytes xs) p .0)
-    (bytes-append xs t (both-true (ltb x 256) (areBytes xs) p .1) q)
+bytes-append (x ∷ xs) t p q = and-true (ltb x 256) (areBytes (xs ++ t)) (both-true (ltb x 256) (areBytes xs) p .0) (bytes-append xs t (both-true (ltb x 256) (areBytes xs) p .1) q)
 
 pub bytes-split : (s t : List ℕ) → areBytes (s ++ t) ≡ true → (areBytes s ≡ true) × (areBytes t ≡ true)
 bytes-split [] t h = (refl, h)
@@ -140,8 +137,7 @@ bytes-drop (suc n) (x ∷ xs) p = bytes-drop n xs (both-true (ltb x 256) (areByt
 pub bytes-take : (n : ℕ) (s : List ℕ) → areBytes s ≡ true → areBytes (take n s) ≡ true
 bytes-take n [] p = rw take-nil
 bytes-take zero (x ∷ xs) p = refl
-bytes-take (suc n) (x ∷ xs) p = and-true (ltb x 256) (areBytes (take n xs)) (both-true (ltb x 256) (areBytes xs) p .0)
-    (bytes-take n xs (both-true (ltb x 256) (areBytes xs) p .1))
+bytes-take (suc n) (x ∷ xs) p = and-true (ltb x 256) (areBytes (take n xs)) (both-true (ltb x 256) (areBytes xs) p .0) (bytes-take n xs (both-true (ltb x 256) (areBytes xs) p .1))
 
 -- ── Encodings in a row ──
 
@@ -153,6 +149,5 @@ flatMap-append f (x ∷ xs) ys = ap (λ (l : List ℕ). f x ++ l) (flatMap-appen
 -- the first ones take no more than all
 pub flatMap-take : {A : Type 0} (f : A → List ℕ) (n : ℕ) (xs : List A) → length (flatMap f (take n xs)) ≤ length (flatMap f xs)
 flatMap-take f n xs =
-    let e : flatMap f xs ≡ flatMap f (take n xs) ++ flatMap f (drop n xs) =
-    ap (flatMap f) (sym (take-append-drop n xs)) ∙ flatMap-append f (take n xs) (drop n xs) in
+    let e : flatMap f xs ≡ flatMap f (take n xs) ++ flatMap f (drop n xs) = ap (flatMap f) (sym (take-append-drop n xs)) ∙ flatMap-append f (take n xs) (drop n xs) in
     rw (e, length-append) (omega arith)

@@ -31,8 +31,7 @@ unfolding firstOf without
 lines-other [] bs k w e = (refl, e)
 lines-other (l ∷ ls) bs k w e = go (l .holds) e (lines-other ls bs k (both-true (not (eqb (l .number) k)) (without k ls) w .1))
   where
-    go : (b : Bool) → firstOf (line (l .number) b ∷ ls ++ bs) ≡ k → (firstOf (ls ++ bs) ≡ k → (firstOf ls ≡ 0) × (firstOf bs ≡ k))
-        → (firstOf (line (l .number) b ∷ ls) ≡ 0) × (firstOf bs ≡ k)
+    go : (b : Bool) → firstOf (line (l .number) b ∷ ls ++ bs) ≡ k → (firstOf (ls ++ bs) ≡ k → (firstOf ls ≡ 0) × (firstOf bs ≡ k)) → (firstOf (line (l .number) b ∷ ls) ≡ 0) × (firstOf bs ≡ k)
     go true q i = absurd (eqb-false (l .number) k (not-true (eqb (l .number) k) (both-true (not (eqb (l .number) k)) (without k ls) w .0)) q)
     go false q i = i q
 

@@ -50,12 +50,10 @@ pub stands-at : {f : List ℕ} {at : ℕ} {s : List ℕ} (to : ℕ) → at ≡ t
 stands-at {f} {at} {s} to e p = rw e at p
 
 -- one of some encodings in a row stands behind those ahead of it
-pub stands-one : {A : Type 0} {f : List ℕ} {at : ℕ} (bytes : A → List ℕ) (xs : List A) (i : ℕ) (d : A) → i < length xs
-    → Stands f at (flatMap bytes xs) → Stands f (at + length (flatMap bytes (take i xs))) (bytes (getD xs i d))
+pub stands-one : {A : Type 0} {f : List ℕ} {at : ℕ} (bytes : A → List ℕ) (xs : List A) (i : ℕ) (d : A) → i < length xs → Stands f at (flatMap bytes xs) → Stands f (at + length (flatMap bytes (take i xs))) (bytes (getD xs i d))
 unfolding flatMap
 stands-one {A} {f} {at} bytes xs i d h p =
-    let e : flatMap bytes xs ≡ flatMap bytes (take i xs) ++ (bytes (getD xs i d) ++ flatMap bytes (drop (suc i) xs)) =
-    ap (flatMap bytes) (split-at xs i d h) ∙ flatMap-append bytes (take i xs) (getD xs i d ∷ drop (suc i) xs) in
+    let e : flatMap bytes xs ≡ flatMap bytes (take i xs) ++ (bytes (getD xs i d) ++ flatMap bytes (drop (suc i) xs)) = ap (flatMap bytes) (split-at xs i d h) ∙ flatMap-append bytes (take i xs) (getD xs i d ∷ drop (suc i) xs) in
     stands-front (bytes (getD xs i d)) (flatMap bytes (drop (suc i) xs)) (stands-back (flatMap bytes (take i xs)) _ (rw e at p))
 
 -- ── The parts of a recording's file ──
@@ -90,8 +88,7 @@ system-stands r =
 
 before-system : (r : Recording) → Stands (encode r) 0 (header r ++ definitionsBytes (r .sections) ++ configurationsBytes (r .sections))
 unfolding frontOf frontBytes header
-before-system r = stands-front (header r ++ definitionsBytes (r .sections) ++ configurationsBytes (r .sections)) (tableBytes (r .system))
-    (front-stands r)
+before-system r = stands-front (header r ++ definitionsBytes (r .sections) ++ configurationsBytes (r .sections)) (tableBytes (r .system)) (front-stands r)
 
 pub configurations-stand : (r : Recording) → Stands (encode r) (definitionsEnd (r .sections)) (configurationsBytes (r .sections))
 configurations-stand r =
@@ -101,8 +98,7 @@ configurations-stand r =
 pub definitions-stand : (r : Recording) → Stands (encode r) headerLength (definitionsBytes (r .sections))
 definitions-stand r =
     stands-at headerLength (omega (arith, length-headerOf r))
-    (stands-back (header r) (definitionsBytes (r .sections))
-    (stands-front (header r ++ definitionsBytes (r .sections)) (configurationsBytes (r .sections)) (before-system r)))
+    (stands-back (header r) (definitionsBytes (r .sections)) (stands-front (header r ++ definitionsBytes (r .sections)) (configurationsBytes (r .sections)) (before-system r)))
 
 -- ── The items ──
 
@@ -112,16 +108,13 @@ unfolding shortString
 string-stands s p = stands-back (length s ∷ []) s p
 
 -- a section's name, behind the definitions ahead
-name-stands : {f : List ℕ} {place : ℕ} (at : ℕ) (ss : List Section) (i : ℕ) → i < length ss → Stands f place (definitionListBytes at ss)
-    → Stands f (place + length (definitionListBytes 0 (take i ss))) (shortString (getD ss i noSection .name))
+name-stands : {f : List ℕ} {place : ℕ} (at : ℕ) (ss : List Section) (i : ℕ) → i < length ss → Stands f place (definitionListBytes at ss) → Stands f (place + length (definitionListBytes 0 (take i ss))) (shortString (getD ss i noSection .name))
 unfolding definitionListBytes
 name-stands at [] i h p = absurd (omega arith)
 name-stands {f} {place} at (s ∷ ss) zero h p =
-    stands-at (place + 0) (omega arith) (stands-front (shortString (s .name)) (bytesOf 8 at)
-    (stands-front (shortString (s .name) ++ bytesOf 8 at) (definitionListBytes (at + length (s .configuration)) ss) p))
+    stands-at (place + 0) (omega arith) (stands-front (shortString (s .name)) (bytesOf 8 at) (stands-front (shortString (s .name) ++ bytesOf 8 at) (definitionListBytes (at + length (s .configuration)) ss) p))
 name-stands {f} {place} at (s ∷ ss) (suc i) h p =
-    let q = name-stands (at + length (s .configuration)) ss i (omega arith)
-    (stands-back (shortString (s .name) ++ bytesOf 8 at) (definitionListBytes (at + length (s .configuration)) ss) p) in
+    let q = name-stands (at + length (s .configuration)) ss i (omega arith) (stands-back (shortString (s .name) ++ bytesOf 8 at) (definitionListBytes (at + length (s .configuration)) ss) p) in
     stands-at _ (simp (length-append, length-bytesOf) (omega (arith, length-definitions 0 (0 + length (s .configuration)) (take i ss)))) q
 
 -- the tags of a table
@@ -132,14 +125,11 @@ module _ {f : List ℕ} {at : ℕ} (ts : List Tag) (i : ℕ) (h : i < length ts)
 
   pub tag-name-stands : Stands f (nameStart at ts i) (getD ts i noTag .name)
   unfolding nameStart tagBytes
-  tag-name-stands = string-stands (getD ts i noTag .name) (stands-front (shortString (getD ts i noTag .name))
-      (shortString (getD ts i noTag .value)) tag-stands)
+  tag-name-stands = string-stands (getD ts i noTag .name) (stands-front (shortString (getD ts i noTag .name)) (shortString (getD ts i noTag .value)) tag-stands)
 
   pub tag-value-stands : Stands f (valueStart at ts i) (getD ts i noTag .value)
   unfolding valueStart nameStart tagBytes shortString
-  tag-value-stands = stands-at (valueStart at ts i) (omega arith)
-      (string-stands (getD ts i noTag .value) (stands-back (shortString (getD ts i noTag .name))
-      (shortString (getD ts i noTag .value)) tag-stands))
+  tag-value-stands = stands-at (valueStart at ts i) (omega arith) (string-stands (getD ts i noTag .value) (stands-back (shortString (getD ts i noTag .name)) (shortString (getD ts i noTag .value)) tag-stands))
 
 -- a frame, and a section of it
 pub frame-stands : (r : Recording) (i : ℕ) → i < length (r .frames) → Stands (encode r) (frameStart r i) (frameBytes (frameOf r i))
@@ -150,12 +140,10 @@ pub length-head : (t e : ℕ) → length (frameHeadBytes t e) ≡ 16
 unfolding frameHeadBytes
 length-head t e = simp (length-append, length-bytesOf)
 
-section-stands : {f : List ℕ} {at : ℕ} (x : Frame) (j : ℕ) → j < length (x .sections) → Stands f at (frameBytes x)
-    → Stands f (at + 16 + length (flatMap sizedBytes (take j (x .sections))) + 4) (getD (x .sections) j [])
+section-stands : {f : List ℕ} {at : ℕ} (x : Frame) (j : ℕ) → j < length (x .sections) → Stands f at (frameBytes x) → Stands f (at + 16 + length (flatMap sizedBytes (take j (x .sections))) + 4) (getD (x .sections) j [])
 unfolding frameBytes sizedBytes
 section-stands {f} {at} x j h p =
-    let a : Stands f (at + 16) (flatMap sizedBytes (x .sections)) =
-    stands-at (at + 16) (rw length-head) (stands-back (frameHeadBytes (x .time) (x .exposure)) (flatMap sizedBytes (x .sections)) p) in
+    let a : Stands f (at + 16) (flatMap sizedBytes (x .sections)) = stands-at (at + 16) (rw length-head) (stands-back (frameHeadBytes (x .time) (x .exposure)) (flatMap sizedBytes (x .sections)) p) in
     let b = stands-one sizedBytes (x .sections) j [] h a in
     stands-at _ (rw length-bytesOf) (stands-back (bytesOf 4 (length (getD (x .sections) j []))) (getD (x .sections) j []) b)
 
@@ -171,8 +159,7 @@ unfolding legalFrame
 frame-sections k x l =
     let times = leb (suc (x .time)) (2 ^ 64) && leb (suc (x .exposure)) (2 ^ 32) in
     let counted = eqb (length (x .sections)) k in
-    eqb-true (length (x .sections)) k (both-true times counted
-    (both-true (times && counted) (every (λ s. leb (length s) longestSection) (x .sections)) l .0) .1)
+    eqb-true (length (x .sections)) k (both-true times counted (both-true (times && counted) (every (λ s. leb (length s) longestSection) (x .sections)) l .0) .1)
 
 pub below : (i n : ℕ) → not (ltb i n) ≡ false → i < n
 below i n h = ltb-true i n (not-false (ltb i n) h)
@@ -183,13 +170,10 @@ unfolding noSuchItem itemStart itemBytes definitionsBytes configurationsBytes fr
 item-stands r (frameSection i j) l h =
     let b = both-true (ltb i (length (r .frames))) (ltb j (length (r .sections))) (not-false _ h) in
     let a : i < length (r .frames) = ltb-true i (length (r .frames)) (b .0) in
-    let k : length (frameOf r i .sections) ≡ length (r .sections) =
-    frame-sections (length (r .sections)) (frameOf r i) (every-one (legalFrame (length (r .sections))) (r .frames) i noFrame
-    (l .framesLegal) a) in
+    let k : length (frameOf r i .sections) ≡ length (r .sections) = frame-sections (length (r .sections)) (frameOf r i) (every-one (legalFrame (length (r .sections))) (r .frames) i noFrame (l .framesLegal) a) in
     section-stands (frameOf r i) j (omega (arith, ltb-true j (length (r .sections)) (b .1))) (frame-stands r i a)
 item-stands r (sectionName i) l h =
-    let p : Stands (encode r) (headerLength + 1) (definitionListBytes (definitionsEnd (r .sections)) (r .sections)) =
-    stands-back (length (r .sections) ∷ []) (definitionListBytes (definitionsEnd (r .sections)) (r .sections)) (definitions-stand r) in
+    let p : Stands (encode r) (headerLength + 1) (definitionListBytes (definitionsEnd (r .sections)) (r .sections)) = stands-back (length (r .sections) ∷ []) (definitionListBytes (definitionsEnd (r .sections)) (r .sections)) (definitions-stand r) in
     string-stands (getD (r .sections) i noSection .name) (name-stands (definitionsEnd (r .sections)) (r .sections) i (below i _ h) p)
 item-stands r (configuration i) l h = stands-one (λ s. s .configuration) (r .sections) i noSection (below i _ h) (configurations-stand r)
 item-stands r (systemName i) l h = tag-name-stands (r .system) i (below i _ h) (system-stands r)

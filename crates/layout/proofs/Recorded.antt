@@ -17,9 +17,9 @@ use Rattle.layout.proofs.Trace.{Reached, traced}
 use Rattle.layout.proofs.Closing.{closed-file}
 use Rattle.layout.proofs.Calls.{callsOf, calls-fit, calls-record}
 
--- A recording that was begun, added to and closed, whatever else was tried and refused in between, is a legal recording of what its accepted calls
--- were given; its file is that recording's bytes, opens, and shows it. Premise: what the calls were lent are bytes, a time has 64 bits and an
--- exposure 32, which is what their types say.
+-- A recording that was begun, added to and closed, whatever else was tried and refused in between, is a legal recording of what its accepted calls were
+-- given; its file is that recording's bytes, opens, and shows it. Premise: what the calls were lent are bytes, a time has 64 bits and an exposure 32,
+-- which is what their types say.
 pub recorded : (notes : List ℕ) (calls : List Call)
     → every callFits calls ≡ true
     → session (started notes) calls .state .stage ≡ closed
@@ -29,20 +29,16 @@ pub recorded : (notes : List ℕ) (calls : List Call)
     × (shown (fileOf (session (started notes) calls)) ≡ given (started notes) calls nothingGiven)
 recorded notes calls h c = go (traced notes calls h)
   where
-    go : Reached (session (started notes) calls) (given (started notes) calls nothingGiven)
-        → Legal (given (started notes) calls nothingGiven) ×
-        (fileOf (session (started notes) calls) ≡ encode (given (started notes) calls nothingGiven))
-        × (refusal (fileOf (session (started notes) calls)) ≡ 0)
-        × (shown (fileOf (session (started notes) calls)) ≡ given (started notes) calls nothingGiven)
+    go : Reached (session (started notes) calls) (given (started notes) calls nothingGiven) → Legal (given (started notes) calls nothingGiven) × (fileOf (session (started notes) calls) ≡ encode (given (started notes) calls nothingGiven)) × (refusal (fileOf (session (started notes) calls)) ≡ 0) × (shown (fileOf (session (started notes) calls)) ≡ given (started notes) calls nothingGiven)
     go (inl t) = let z : _≡_ {A = ℕ} 0 1 = cc in absurd (omega arith)
     go (inr t) =
         let l = t .1 .legal in
         let f = closed-file (session (started notes) calls) (given (started notes) calls nothingGiven) (t .0) (t .1) c in
         (l, f, rw f (legal-opens (given (started notes) calls nothingGiven) l), rw f (legal-shown (given (started notes) calls nothingGiven) l))
 
--- The other half: every legal recording without user tags, whatever its frames, is what some calls record. One call to begin with its sections and
--- system table, one for each frame and five to close are accepted, whatever the notes held; they were given that recording, and the file is its
--- bytes. Premises: its contents are bytes; the notes hold its index; the room of each call is enough for the whole file.
+-- The other half: every legal recording without user tags, whatever its frames, is what some calls record. One call to begin with its sections and system
+-- table, one for each frame and five to close are accepted, whatever the notes held; they were given that recording, and the file is its bytes.
+-- Premises: its contents are bytes; the notes hold its index; the room of each call is enough for the whole file.
 pub recordable : (r : Recording) (notes : List ℕ) (room : ℕ)
     → Legal r
     → r .user ≡ []

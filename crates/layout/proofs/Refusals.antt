@@ -34,8 +34,7 @@ unfolding answer
 answer-number zero st notes step e = e
 answer-number (suc m) st notes step e = refl
 
-answer-untouched : (m n : ℕ) (st : State) (notes out : List ℕ) (step : Step) → step .refused ≡ 0 → answer m st notes step .refused ≡ suc n
-    → Untouched (answer m st notes step) st notes out
+answer-untouched : (m n : ℕ) (st : State) (notes out : List ℕ) (step : Step) → step .refused ≡ 0 → answer m st notes step .refused ≡ suc n → Untouched (answer m st notes step) st notes out
 unfolding answer
 answer-untouched zero n st notes out step e h = absurd (omega (arith, e, h))
 answer-untouched (suc m) n st notes out step e h = record { sameState = refl; sameNotes = refl; sameOutput = filled-none out; noPiece = refl }
@@ -93,9 +92,7 @@ pub repair-refused : (f out : List ℕ) (n : ℕ)
 unfolding repair repairAnswer
 repair-refused f out n h = go (repairRefusal f (length out)) _ refl h
   where
-    go : (m : ℕ) (r : Repair) → r .refused ≡ 0 → repairAnswer m r .refused ≡ suc n
-        → (repairAnswer m r ≡ record { refused = suc n; kept = 0; count = 0; index = 0; user = 0; tail = [] })
-        × (filled out (repairAnswer m r .tail) ≡ out)
+    go : (m : ℕ) (r : Repair) → r .refused ≡ 0 → repairAnswer m r .refused ≡ suc n → (repairAnswer m r ≡ record { refused = suc n; kept = 0; count = 0; index = 0; user = 0; tail = [] }) × (filled out (repairAnswer m r .tail) ≡ out)
     go zero r e k = absurd (omega (arith, e, k))
     go (suc m) r e k = (ap {B = Repair} (λ (i : ℕ). record { refused = i; kept = 0; count = 0; index = 0; user = 0; tail = [] }) k, filled-none out)
 
@@ -120,13 +117,7 @@ pub save-refused : (f sheet out : List ℕ) (n : ℕ)
 unfolding save saveAnswer
 save-refused f sheet out n h = go (saveRefusal f sheet (length out)) _ _ h
   where
-    go : (m place : ℕ) (ts : List Tag) → saveAnswer m place ts .refused ≡ suc n
-        → (saveAnswer m place ts .table ≡ []) × (filled out (saveAnswer m place ts .table) ≡ out)
-        × (suc n ≡ 11 → saveAnswer m place ts .place ≡ place) × ((suc n ≡ 11 → ⊥) → saveAnswer m place ts .place ≡ 0)
+    go : (m place : ℕ) (ts : List Tag) → saveAnswer m place ts .refused ≡ suc n → (saveAnswer m place ts .table ≡ []) × (filled out (saveAnswer m place ts .table) ≡ out) × (suc n ≡ 11 → saveAnswer m place ts .place ≡ place) × ((suc n ≡ 11 → ⊥) → saveAnswer m place ts .place ≡ 0)
     go zero place ts k = absurd (omega (arith, k))
-    go (suc m) place ts k = (
-      refl,
-      filled-none out,
-      λ e. cond-true (eqb (suc m) 11) place 0 (eq-eqb (suc m) 11 (omega (arith, k, e))),
-      λ d. cond-false (eqb (suc m) 11) place 0 (ne-eqb (suc m) 11 (λ e. d (omega (arith, k, e)))),
-    )
+    go (suc m) place ts k =
+        (refl, filled-none out, λ e. cond-true (eqb (suc m) 11) place 0 (eq-eqb (suc m) 11 (omega (arith, k, e))), λ d. cond-false (eqb (suc m) 11) place 0 (ne-eqb (suc m) 11 (λ e. d (omega (arith, k, e)))))

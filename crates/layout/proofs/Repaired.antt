@@ -64,12 +64,10 @@ repair-lines f room a =
 -- ── The header's fields ──
 
 -- bytes put in the place of as many others
-sets-at : (before old behind vs : List ℕ) (place : ℕ) → length before ≡ place → length old ≡ length vs
-    → sets (before ++ (old ++ behind)) place vs ≡ before ++ (vs ++ behind)
+sets-at : (before old behind vs : List ℕ) (place : ℕ) → length before ≡ place → length old ≡ length vs → sets (before ++ (old ++ behind)) place vs ≡ before ++ (vs ++ behind)
 sets-at before old behind vs place e h =
     let l : place + length vs ≤ length (before ++ (old ++ behind)) = omega (arith, length-append before (old ++ behind), length-append old behind) in
-    let d : drop (place + length vs) (before ++ (old ++ behind)) ≡ behind =
-    rw (← append-assoc before old behind) (drop-at (before ++ old) behind (place + length vs) (omega (arith, length-append before old))) in
+    let d : drop (place + length vs) (before ++ (old ++ behind)) ≡ behind = rw (← append-assoc before old behind) (drop-at (before ++ old) behind (place + length vs) (omega (arith, length-append before old))) in
     sets-eq vs (before ++ (old ++ behind)) place l ∙ rw (take-at before (old ++ behind) place e, d) (append-assoc before vs behind)
 
 numbers-alike : (w n m : ℕ) → length (bytesOf w n) ≡ length (bytesOf w m)
@@ -81,35 +79,29 @@ module _ (c i s u : ℕ) (rest : List ℕ) where
   unfolding headerBytes fileMark
   set-count n =
       ap (λ (l : List ℕ). sets l countPlace (bytesOf 4 n)) (simp append-assoc)
-      ∙ sets-at (fileMark ++ (revision ∷ [])) (bytesOf 4 c) (bytesOf 8 i ++ (bytesOf 8 s ++ (bytesOf 8 u ++ rest))) (bytesOf 4 n) countPlace refl
-      (numbers-alike 4 c n)
+      ∙ sets-at (fileMark ++ (revision ∷ [])) (bytesOf 4 c) (bytesOf 8 i ++ (bytesOf 8 s ++ (bytesOf 8 u ++ rest))) (bytesOf 4 n) countPlace refl (numbers-alike 4 c n)
       ∙ simp append-assoc
 
   set-index : (n : ℕ) → sets (headerBytes c i s u ++ rest) indexPlace (bytesOf 8 n) ≡ headerBytes c n s u ++ rest
   unfolding headerBytes fileMark
   set-index n =
       ap (λ (l : List ℕ). sets l indexPlace (bytesOf 8 n)) (simp append-assoc)
-      ∙ sets-at (fileMark ++ (revision ∷ []) ++ bytesOf 4 c) (bytesOf 8 i) (bytesOf 8 s ++ (bytesOf 8 u ++ rest)) (bytesOf 8 n) indexPlace
-      (simp length-bytesOf) (numbers-alike 8 i n)
+      ∙ sets-at (fileMark ++ (revision ∷ []) ++ bytesOf 4 c) (bytesOf 8 i) (bytesOf 8 s ++ (bytesOf 8 u ++ rest)) (bytesOf 8 n) indexPlace (simp length-bytesOf) (numbers-alike 8 i n)
       ∙ simp append-assoc
 
   set-user : (n : ℕ) → sets (headerBytes c i s u ++ rest) userPlace (bytesOf 8 n) ≡ headerBytes c i s n ++ rest
   unfolding headerBytes fileMark
   set-user n =
       ap (λ (l : List ℕ). sets l userPlace (bytesOf 8 n)) (simp append-assoc)
-      ∙ sets-at (fileMark ++ (revision ∷ []) ++ bytesOf 4 c ++ bytesOf 8 i ++ bytesOf 8 s) (bytesOf 8 u) rest (bytesOf 8 n) userPlace
-      (simp (length-append, length-bytesOf)) (numbers-alike 8 u n)
+      ∙ sets-at (fileMark ++ (revision ∷ []) ++ bytesOf 4 c ++ bytesOf 8 i ++ bytesOf 8 s) (bytesOf 8 u) rest (bytesOf 8 n) userPlace (simp (length-append, length-bytesOf)) (numbers-alike 8 u n)
       ∙ simp append-assoc
 
 -- setting the three fields leaves everything else of a front, and what follows it
-front-split : (c i u : ℕ) (ss : List Section) (system rest : List ℕ)
-    → frontBytes c i u ss system ++ rest ≡ headerBytes c i (systemAt ss) u
-    ++ (definitionsBytes ss ++ (configurationsBytes ss ++ (system ++ rest)))
+front-split : (c i u : ℕ) (ss : List Section) (system rest : List ℕ) → frontBytes c i u ss system ++ rest ≡ headerBytes c i (systemAt ss) u ++ (definitionsBytes ss ++ (configurationsBytes ss ++ (system ++ rest)))
 unfolding frontBytes
 front-split c i u ss system rest = simp append-assoc
 
-fields-set : (c i u n m k : ℕ) (ss : List Section) (system rest : List ℕ)
-    → withFields n m k (frontBytes c i u ss system ++ rest) ≡ frontBytes n m k ss system ++ rest
+fields-set : (c i u n m k : ℕ) (ss : List Section) (system rest : List ℕ) → withFields n m k (frontBytes c i u ss system ++ rest) ≡ frontBytes n m k ss system ++ rest
 unfolding withFields
 fields-set c i u n m k ss system rest =
     let s : ℕ = systemAt ss in
@@ -142,8 +134,7 @@ no-tags : legalTable [] ≡ true
 unfolding legalTable every distinct tagNames
 no-tags = refl
 
-kept-legal : (f : List ℕ) → FrontGiven f → Walked mostFrames (length (definedIn f)) (drop (walkStart f) f) (walked f)
-    → inOrder (walked f .frames) ≡ true → keptLength f + indexLength (keptCount f) + largestTable ≤ 2 ^ 40 → Legal (keptOf f)
+kept-legal : (f : List ℕ) → FrontGiven f → Walked mostFrames (length (definedIn f)) (drop (walkStart f) f) (walked f) → inOrder (walked f .frames) ≡ true → keptLength f + indexLength (keptCount f) + largestTable ≤ 2 ^ 40 → Legal (keptOf f)
 unfolding keptOf
 kept-legal f g w o b =
     record {
@@ -164,16 +155,12 @@ take-parts f a t b c n m e d p q =
     ap (take (n + m)) (e ∙ ap (λ (l : List ℕ). a ++ l) d ∙ sym (append-assoc a b c)) ∙ take-at (a ++ b) c (n + m) (omega (arith, length-append a b))
 
 -- what repair leaves of a file is its front and the walked frames
-kept-bytes : (f : List ℕ) → FrontGiven f → Walked mostFrames (length (definedIn f)) (drop (walkStart f) f) (walked f)
-    → take (keptLength f) f ≡ frontBytes (headerCount f) (indexOffset f) (userOffset f) (sectionsIn f) (tableBytes (systemIn f))
-    ++ flatMap frameBytes (walked f .frames)
+kept-bytes : (f : List ℕ) → FrontGiven f → Walked mostFrames (length (definedIn f)) (drop (walkStart f) f) (walked f) → take (keptLength f) f ≡ frontBytes (headerCount f) (indexOffset f) (userOffset f) (sectionsIn f) (tableBytes (systemIn f)) ++ flatMap frameBytes (walked f .frames)
 unfolding keptLength
 kept-bytes f g w =
     let front : List ℕ = frontBytes (headerCount f) (indexOffset f) (userOffset f) (sectionsIn f) (tableBytes (systemIn f)) in
-    let starts : length front ≡ walkStart f = length-front (headerCount f) (indexOffset f) (userOffset f) (sectionsIn f) (tableBytes (systemIn f))
-    ∙ sym (g .start) in
-    take-parts f front (drop (walkStart f) f) (flatMap frameBytes (walked f .frames)) (drop (walked f .bytes) (drop (walkStart f) f))
-    (walkStart f) (walked f .bytes) (g .bytes) (w .front) starts (sym (w .size))
+    let starts : length front ≡ walkStart f = length-front (headerCount f) (indexOffset f) (userOffset f) (sectionsIn f) (tableBytes (systemIn f)) ∙ sym (g .start) in
+    take-parts f front (drop (walkStart f) f) (flatMap frameBytes (walked f .frames)) (drop (walked f .bytes) (drop (walkStart f) f)) (walkStart f) (walked f .bytes) (g .bytes) (w .front) starts (sym (w .size))
 
 pub repaired-bytes : (f : List ℕ)
     → FrontGiven f
@@ -181,16 +168,8 @@ pub repaired-bytes : (f : List ℕ)
     → repaired f (repairing f) ≡ encode (keptOf f)
 unfolding repaired repairing encode tail keptOf keptCount
 repaired-bytes f g w =
-    rw (
-      kept-bytes f g w,
-      fields-set (headerCount f) (indexOffset f) (userOffset f) (keptCount f) (keptLength f)
-          (keptLength f + indexLength (keptCount f)) (sectionsIn f) (tableBytes (systemIn f)) (flatMap frameBytes (walked f .frames)),
-      kept-starts f g,
-      kept-ends f g (w .size),
-      kept-user f g (w .size),
-    )
-    (sym (append-assoc (frontBytes (keptCount f) (keptLength f) (keptLength f + indexLength (keptCount f)) (sectionsIn f)
-    (tableBytes (systemIn f)) ++ flatMap frameBytes (walked f .frames)) (indexBytes (walkStart f) (walked f .frames)) (tableBytes [])))
+    rw (kept-bytes f g w, fields-set (headerCount f) (indexOffset f) (userOffset f) (keptCount f) (keptLength f) (keptLength f + indexLength (keptCount f)) (sectionsIn f) (tableBytes (systemIn f)) (flatMap frameBytes (walked f .frames)), kept-starts f g, kept-ends f g (w .size), kept-user f g (w .size))
+    (sym (append-assoc (frontBytes (keptCount f) (keptLength f) (keptLength f + indexLength (keptCount f)) (sectionsIn f) (tableBytes (systemIn f)) ++ flatMap frameBytes (walked f .frames)) (indexBytes (walkStart f) (walked f .frames)) (tableBytes [])))
 
 -- Whatever file repair accepts, the repaired file opens, and shows just what was kept.
 pub repair-opens : (f : List ℕ) (room : ℕ)
@@ -213,7 +192,5 @@ repair-room f room out a o =
     let q = line-clear 15 _ _ (p .1) in
     let r = line-clear 12 _ _ (q .1) in
     let s = line-clear 14 _ _ (r .1) in
-    let z : repairRefusal f out ≡ 9 = front-pass f _ (p .0) ∙ line-pass 16 (eqb (refusal f) 0) _ (q .0)
-    ∙ line-pass 13 (not (inOrder (walked f .frames))) _ (r .0) ∙ line-pass 15 (tooLong (keptLength f) (keptCount f)) _ (s .0)
-    ∙ line-holds 9 (ltb out (length (tail f))) _ (lt-ltb out (length (tail f)) o) in
+    let z : repairRefusal f out ≡ 9 = front-pass f _ (p .0) ∙ line-pass 16 (eqb (refusal f) 0) _ (q .0) ∙ line-pass 13 (not (inOrder (walked f .frames))) _ (r .0) ∙ line-pass 15 (tooLong (keptLength f) (keptCount f)) _ (s .0) ∙ line-holds 9 (ltb out (length (tail f))) _ (lt-ltb out (length (tail f)) o) in
     rw z

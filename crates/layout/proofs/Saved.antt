@@ -105,12 +105,10 @@ no-conflict ts [] e i h = absurd (omega arith)
 no-conflict ts (c ∷ cs) e zero h = or-false (conflicts ts c) (someConflict ts cs) e .0
 no-conflict ts (c ∷ cs) e (suc i) h = no-conflict ts cs (or-false (conflicts ts c) (someConflict ts cs) e .1) i (omega arith)
 
-none-conflicts : (ts : List Tag) (cs : List Change) → ((i : ℕ) → i < length cs → conflicts ts (getD cs i noChange) ≡ false)
-    → someConflict ts cs ≡ false
+none-conflicts : (ts : List Tag) (cs : List Change) → ((i : ℕ) → i < length cs → conflicts ts (getD cs i noChange) ≡ false) → someConflict ts cs ≡ false
 unfolding someConflict
 none-conflicts ts [] p = refl
-none-conflicts ts (c ∷ cs) p = not-or (conflicts ts c) (someConflict ts cs) (p zero (omega arith))
-    (none-conflicts ts cs (λ i h. p (suc i) (omega arith)))
+none-conflicts ts (c ∷ cs) p = not-or (conflicts ts c) (someConflict ts cs) (p zero (omega arith)) (none-conflicts ts cs (λ i h. p (suc i) (omega arith)))
 
 -- one that conflicts is enough
 some-conflict : (ts : List Tag) (cs : List Change) (i : ℕ) → i < length cs → conflicts ts (getD cs i noChange) ≡ true → someConflict ts cs ≡ true
@@ -120,9 +118,7 @@ some-conflict ts (c ∷ cs) zero h e = ap (λ (b : Bool). b || someConflict ts c
 some-conflict ts (c ∷ cs) (suc i) h e = or-right (conflicts ts c) (someConflict ts cs) (some-conflict ts cs i (omega arith) e)
 
 -- the lowest place that conflicts
-lowest-conflict : (ts : List Tag) (cs : List Change) → someConflict ts cs ≡ true
-    → (conflictPlace ts cs < length cs) × (conflicts ts (getD cs (conflictPlace ts cs) noChange) ≡ true)
-    × ((i : ℕ) → i < conflictPlace ts cs → conflicts ts (getD cs i noChange) ≡ false)
+lowest-conflict : (ts : List Tag) (cs : List Change) → someConflict ts cs ≡ true → (conflictPlace ts cs < length cs) × (conflicts ts (getD cs (conflictPlace ts cs) noChange) ≡ true) × ((i : ℕ) → i < conflictPlace ts cs → conflicts ts (getD cs i noChange) ≡ false)
 unfolding someConflict conflictPlace
 lowest-conflict ts [] e = let z : _≡_ {A = ℕ} 0 1 = cc in absurd (omega arith)
 lowest-conflict ts (c ∷ cs) e = go (conflicts ts c) refl e (lowest-conflict ts cs)
@@ -130,23 +126,19 @@ lowest-conflict ts (c ∷ cs) e = go (conflicts ts c) refl e (lowest-conflict ts
     Lowest : ℕ → List Change → Type 0
     Lowest p ds = (p < length ds) × (conflicts ts (getD ds p noChange) ≡ true) × ((i : ℕ) → i < p → conflicts ts (getD ds i noChange) ≡ false)
 
-    below : (p : ℕ) → conflicts ts c ≡ false → ((i : ℕ) → i < p → conflicts ts (getD cs i noChange) ≡ false) → (i : ℕ) → i < suc p
-        → conflicts ts (getD (c ∷ cs) i noChange) ≡ false
+    below : (p : ℕ) → conflicts ts c ≡ false → ((i : ℕ) → i < p → conflicts ts (getD cs i noChange) ≡ false) → (i : ℕ) → i < suc p → conflicts ts (getD (c ∷ cs) i noChange) ≡ false
     below p n q zero h = n
     below p n q (suc i) h = q i (omega arith)
 
-    go : (b : Bool) → conflicts ts c ≡ b → b || someConflict ts cs ≡ true → (someConflict ts cs ≡ true → Lowest (conflictPlace ts cs) cs)
-        → Lowest (cond b 0 (suc (conflictPlace ts cs))) (c ∷ cs)
+    go : (b : Bool) → conflicts ts c ≡ b → b || someConflict ts cs ≡ true → (someConflict ts cs ≡ true → Lowest (conflictPlace ts cs) cs) → Lowest (cond b 0 (suc (conflictPlace ts cs))) (c ∷ cs)
     go true p q l = (omega arith, p, λ i h. absurd (omega arith))
     go false p q l = (omega (arith, l q .0), l q .1, below (conflictPlace ts cs) p (l q .2))
 
--- A save is accepted exactly when the file opens, the sheet is well formed, no seen entry disagrees with the table, the new table has at most 1,000
--- tags, and there is room for it.
+-- A save is accepted exactly when the file opens, the sheet is well formed, no seen entry disagrees with the table, the new table has at most 1,000 tags,
+-- and there is room for it.
 pub save-accepted : (f bytes : List ℕ) (room : ℕ)
     → (save f bytes room .refused ≡ 0)
-    ↔ ((refusal f ≡ 0) × (isBad (exactly sheet bytes) ≡ false)
-    × ((i : ℕ) → i < length (changesOf bytes) → conflicts (userTags f) (getD (changesOf bytes) i noChange) ≡ false)
-    × (length (newTable f bytes) ≤ mostTags) × (length (tableBytes (newTable f bytes)) ≤ room))
+    ↔ ((refusal f ≡ 0) × (isBad (exactly sheet bytes) ≡ false) × ((i : ℕ) → i < length (changesOf bytes) → conflicts (userTags f) (getD (changesOf bytes) i noChange) ≡ false) × (length (newTable f bytes) ≤ mostTags) × (length (tableBytes (newTable f bytes)) ≤ room))
 save-accepted f bytes room = (
   λ a.
       let l = save-lines f bytes room a in
@@ -174,11 +166,10 @@ pub saved-others : (f bytes : List ℕ) (room : ℕ)
 unfolding newTable
 saved-others f bytes room a = applied-others (changesOf bytes) (userTags f)
 
--- and the new table's names are the old ones that the sheet does not remove, in their order, and then, in sheet order, those that the sheet gives a
--- value and the old table had not. So a changed tag keeps its place, removed tags vanish, and new ones come last.
+-- and the new table's names are the old ones that the sheet does not remove, in their order, and then, in sheet order, those that the sheet gives a value
+-- and the old table had not. So a changed tag keeps its place, removed tags vanish, and new ones come last.
 pub saved-places : (f bytes : List ℕ)
-    → tagNames (newTable f bytes) ≡ those (λ n. not (removes (changesOf bytes) n)) (tagNames (userTags f))
-    ++ changeNames (those (brings (userTags f)) (changesOf bytes))
+    → tagNames (newTable f bytes) ≡ those (λ n. not (removes (changesOf bytes) n)) (tagNames (userTags f)) ++ changeNames (those (brings (userTags f)) (changesOf bytes))
 unfolding newTable
 saved-places f bytes = applied-names (changesOf bytes) (userTags f)
 
@@ -215,8 +206,7 @@ user-stands : (f : List ℕ) → areBytes f ≡ true → refusal f ≡ 0 → (le
 unfolding userTags shown badUser readUser valueOr
 user-stands f h o = go (exactly table (drop (userOffset f) f)) refl (opens-passes f o .user)
   where
-    go : (p : Parsed (List Tag)) → exactly table (drop (userOffset f) f) ≡ p → isBad p ≡ false
-        → (legalTable (valueOr [] p) ≡ true) × (drop (userOffset f) f ≡ tableBytes (valueOr [] p))
+    go : (p : Parsed (List Tag)) → exactly table (drop (userOffset f) f) ≡ p → isBad p ≡ false → (legalTable (valueOr [] p) ≡ true) × (drop (userOffset f) f ≡ tableBytes (valueOr [] p))
     go bad e b = let z : _≡_ {A = ℕ} 0 1 = cc in absurd (omega arith)
     go (good ts n) e b = exactly-gives legalTable tableBytes table table-exact (drop (userOffset f) f) ts n (bytes-drop (userOffset f) f h) e
 
@@ -244,8 +234,7 @@ upToUser r =
     ++ flatMap frameBytes (r .frames)
     ++ indexBytes (framesStart r) (r .frames)
 
-withUser-bytes : (f front : List ℕ) (r : Recording) (ts : List Tag) → encode r ≡ f → front ++ tableBytes (r .user) ≡ f
-    → encode (withUser r ts) ≡ front ++ tableBytes ts
+withUser-bytes : (f front : List ℕ) (r : Recording) (ts : List Tag) → encode r ≡ f → front ++ tableBytes (r .user) ≡ f → encode (withUser r ts) ≡ front ++ tableBytes ts
 unfolding withUser encode upToUser userStart framesEnd framesStart
 withUser-bytes f front r ts e d = ap (λ (l : List ℕ). l ++ tableBytes ts) (append-cancel-right (upToUser r) front (tableBytes (r .user)) (e ∙ sym d))
 
@@ -267,8 +256,7 @@ saved-opens f bytes room h a = rw (table-is _ _ _ a, ← e) (legal-opens (withUs
     l : Legal (withUser (shown f) ts)
     l =
         let p = sheet-legal bytes (save-lines f bytes room a .1) in
-        withUser-legal (shown f) ts (opens-legal f h o .0) (applied-legal (changesOf bytes) (userTags f) (p .0) (p .1) (user-stands f h o .0)
-        (save-lines f bytes room a .3))
+        withUser-legal (shown f) ts (opens-legal f h o .0) (applied-legal (changesOf bytes) (userTags f) (p .0) (p .1) (user-stands f h o .0) (save-lines f bytes room a .3))
 
     e : encode (withUser (shown f) ts) ≡ take (userOffset f) f ++ tableBytes ts
     e = withUser-bytes f (take (userOffset f) f) (shown f) ts (opens-legal f h o .1) (rw (← user-stands f h o .1) (take-append-drop (userOffset f) f))
@@ -302,13 +290,7 @@ save-nothing f room h o r = (a, table-is _ _ _ a ∙ ap tableBytes t ∙ sym (u 
     t = rw c (applied-none (userTags f))
 
     a : save f (0 ∷ []) room .refused ≡ 0
-    a = save-accepted f (0 ∷ []) room .1 (
-      o,
-      rw sheet-none,
-      rw c (λ i q. absurd (omega arith)),
-      rw t (table-few (userTags f) (u .0)),
-      rw (t, ← u .1) r,
-    )
+    a = save-accepted f (0 ∷ []) room .1 (o, rw sheet-none, rw c (λ i q. absurd (omega arith)), rw t (table-few (userTags f) (u .0)), rw (t, ← u .1) r)
 
 -- "Nobody looked" never conflicts.
 pub nobody-looked : (ts : List Tag) (c : Change) → c .seen ≡ nobodyLooked → conflicts ts c ≡ false

@@ -194,14 +194,12 @@ change-exact =
     exact
     (then-reads (λ c. c .name) (only-reads legalTagName (reads string-exact))
     (λ n. then-reads (λ c. c .seen) (reads seen-exact)
-    (λ s. then-reads (λ c. c .new) (reads new-exact) (λ e. give-reads (record { name = n; seen = s; new = e }))
-    (λ e c o g. sym (ap (λ (c : Change). c .new) g)))
+    (λ s. then-reads (λ c. c .new) (reads new-exact) (λ e. give-reads (record { name = n; seen = s; new = e })) (λ e c o g. sym (ap (λ (c : Change). c .new) g)))
     (λ s c o g. sym (ap (λ (c : Change). c .seen) (g .1))))
     (λ n c o g. sym (ap (λ (c : Change). c .name) (g .1 .1))))
     (λ c. (
       λ h. three-true (legalTagName (c .name)) (legalSeen (c .seen)) (legalEntry (c .new)) (h .0 .1) (h .1 .0) (h .1 .1 .0),
-      λ h. let b = all-three (legalTagName (c .name)) (legalSeen (c .seen)) (legalEntry (c .new)) h in
-          ((name-short (c .name) (b .0), b .0), (b .1, (b .2, refl))),
+      λ h. let b = all-three (legalTagName (c .name)) (legalSeen (c .seen)) (legalEntry (c .new)) h in ((name-short (c .name) (b .0), b .0), (b .1, (b .2, refl))),
     ))
     (λ c h. simp (append-assoc, append-nil))
 
@@ -210,11 +208,9 @@ change-exact =
 pub sheet-exact : Exact legalSheet sheetBytes sheet
 unfolding legalSheet sheetBytes sheet
 sheet-exact =
-    exact (only-reads (λ cs. distinct (changeNames cs)) (then-reads length (only-reads (within 0 mostChanges) (number-reads 1))
-    (λ n. times-reads legalRow n (reads change-exact)) (λ n cs o g. sym (g .0))))
+    exact (only-reads (λ cs. distinct (changeNames cs)) (then-reads length (only-reads (within 0 mostChanges) (number-reads 1)) (λ n. times-reads legalRow n (reads change-exact)) (λ n cs o g. sym (g .0))))
     (λ cs. (
-      λ h. three-true (leb (length cs) mostChanges) (every legalRow cs) (distinct (changeNames cs))
-          (both-true (leb 0 (length cs)) (leb (length cs) mostChanges) (h .0 .0 .1) .1) (h .0 .1 .1) (h .1),
+      λ h. three-true (leb (length cs) mostChanges) (every legalRow cs) (distinct (changeNames cs)) (both-true (leb 0 (length cs)) (leb (length cs) mostChanges) (h .0 .0 .1) .1) (h .0 .1 .1) (h .1),
       λ h. let b = all-three (leb (length cs) mostChanges) (every legalRow cs) (distinct (changeNames cs)) h in
           (((omega (arith, leb-true (length cs) mostChanges (b .0)), within-zero mostChanges (length cs) (b .0)), (refl, b .1)), b .2),
     ))
@@ -225,8 +221,7 @@ pub sheet-read : (cs : List Change) → legalSheet cs ≡ true → (isBad (exact
 unfolding changesOf valueOr
 sheet-read cs h = let e = exactly-takes legalSheet sheetBytes sheet sheet-exact cs h in (rw e, rw e)
 
--- 10, "a change sheet is malformed", holds of all bytes but the sheets of legal changes: what is well formed is the sheet of the changes that are
--- read.
+-- 10, "a change sheet is malformed", holds of all bytes but the sheets of legal changes: what is well formed is the sheet of the changes that are read.
 pub sheet-given : (bytes : List ℕ)
     → areBytes bytes ≡ true
     → isBad (exactly sheet bytes) ≡ false
@@ -235,7 +230,6 @@ pub sheet-given : (bytes : List ℕ)
 unfolding changesOf valueOr
 sheet-given bytes h k = go (exactly sheet bytes) refl k
   where
-    go : (p : Parsed (List Change)) → exactly sheet bytes ≡ p → isBad p ≡ false
-        → (legalSheet (valueOr [] p) ≡ true) × (sheetBytes (valueOr [] p) ≡ bytes)
+    go : (p : Parsed (List Change)) → exactly sheet bytes ≡ p → isBad p ≡ false → (legalSheet (valueOr [] p) ≡ true) × (sheetBytes (valueOr [] p) ≡ bytes)
     go bad e b = let z : _≡_ {A = ℕ} 0 1 = cc in absurd (omega arith)
     go (good cs n) e b = let g = exactly-gives legalSheet sheetBytes sheet sheet-exact bytes cs n h e in (g .0, sym (g .1))

@@ -26,8 +26,7 @@ pub give-gives : {A : Type 0} (ok : A → Bool) (a : A) → ok a ≡ true → Gi
 unfolding give
 give-gives ok a h s x n e = let y : a ≡ x = cc in rw (← y) h
 
-pub only-good : {A : Type 0} (test : A → Bool) (p : Reader A) (s : List ℕ) (x : A) (n : ℕ) → only test p s ≡ good x n
-    → (test x ≡ true) × (p s ≡ good x n)
+pub only-good : {A : Type 0} (test : A → Bool) (p : Reader A) (s : List ℕ) (x : A) (n : ℕ) → only test p s ≡ good x n → (test x ≡ true) × (p s ≡ good x n)
 unfolding only
 only-good {A} test p s x n e = outer (onward-good (p s) (λ a m. cond (test a) (good a m) bad) x n e)
   where
@@ -40,8 +39,7 @@ only-good {A} test p s x n e = outer (onward-good (p s) (λ a m. cond (test a) (
 pub only-gives : {A : Type 0} (test : A → Bool) (p : Reader A) → Gives test (only test p)
 only-gives test p s x n e = only-good test p s x n e .0
 
-pub then-gives : {A B : Type 0} (first : A → Bool) (ok : B → Bool) (p : Reader A) (next : A → Reader B) → Gives first p
-    → ((a : A) → first a ≡ true → Gives ok (next a)) → Gives ok (p then next)
+pub then-gives : {A B : Type 0} (first : A → Bool) (ok : B → Bool) (p : Reader A) (next : A → Reader B) → Gives first p → ((a : A) → first a ≡ true → Gives ok (next a)) → Gives ok (p then next)
 then-gives {A} {B} first ok p next g h s x n e = go (then-good p next s x n e)
   where
     go : ((a : A) × (k : ℕ) × (m : ℕ) × (p s ≡ good a k) × (next a (drop k s) ≡ good x m) × (n ≡ k + m)) → ok x ≡ true
@@ -52,8 +50,7 @@ unfolding times every
 times-gives ok p g zero s ys n e = let y : [] ≡ ys = cc in rw (← y)
 times-gives {A} ok p g (suc k) s ys n e = go (times-suc-good p k s ys n e) (times-gives ok p g k)
   where
-    go : ((x : A) × (xs : List A) × (i : ℕ) × (m : ℕ) × (p s ≡ good x i) × (times k p (drop i s) ≡ good xs m) × (x ∷ xs ≡ ys) × (i + m ≡ n))
-        → Gives (every ok) (times k p) → every ok ys ≡ true
+    go : ((x : A) × (xs : List A) × (i : ℕ) × (m : ℕ) × (p s ≡ good x i) × (times k p (drop i s) ≡ good xs m) × (x ∷ xs ≡ ys) × (i + m ≡ n)) → Gives (every ok) (times k p) → every ok ys ≡ true
     go (x, xs, i, m, q, r, y, f) ih = rw (← y) (and-true (ok x) (every ok xs) (g s x i q) (ih (drop i s) xs m r))
 
 -- ── A sheet ──
@@ -76,13 +73,11 @@ change-gives =
     give-gives legalChange _ (and-true (legalTagName m) (legalEntry e) h i))))
 
 -- the changes of a well-formed sheet are legal and of distinct names
-pub sheet-legal : (bytes : List ℕ) → isBad (exactly sheet bytes) ≡ false
-    → (every legalChange (changesOf bytes) ≡ true) × (distinct (changeNames (changesOf bytes)) ≡ true)
+pub sheet-legal : (bytes : List ℕ) → isBad (exactly sheet bytes) ≡ false → (every legalChange (changesOf bytes) ≡ true) × (distinct (changeNames (changesOf bytes)) ≡ true)
 unfolding changesOf sheet valueOr
 sheet-legal bytes h = go (exactly sheet bytes) refl h
   where
-    go : (p : Parsed (List Change)) → exactly sheet bytes ≡ p → isBad p ≡ false
-        → (every legalChange (valueOr [] p) ≡ true) × (distinct (changeNames (valueOr [] p)) ≡ true)
+    go : (p : Parsed (List Change)) → exactly sheet bytes ≡ p → isBad p ≡ false → (every legalChange (valueOr [] p) ≡ true) × (distinct (changeNames (valueOr [] p)) ≡ true)
     go bad e b = let z : _≡_ {A = ℕ} 0 1 = cc in absurd (omega arith)
     go (good cs n) e b =
         let o = only-good (λ ds. distinct (changeNames ds)) _ bytes cs n (exactly-good sheet bytes cs n e .0) in

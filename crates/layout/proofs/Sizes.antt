@@ -18,16 +18,14 @@ pub length-entry : (first time offset len : ℕ) → length (entryBytes first ti
 unfolding entryBytes
 length-entry first time offset len = simp (length-append, length-bytesOf)
 
-length-definition : (at : ℕ) (s : Section) (ss : List Section)
-    → length (definitionListBytes at (s ∷ ss)) ≡ 9 + length (s .name) + length (definitionListBytes (at + length (s .configuration)) ss)
+length-definition : (at : ℕ) (s : Section) (ss : List Section) → length (definitionListBytes at (s ∷ ss)) ≡ 9 + length (s .name) + length (definitionListBytes (at + length (s .configuration)) ss)
 unfolding definitionListBytes shortString
 length-definition at s ss = simp (length-append, length-bytesOf) (omega arith)
 
 -- ── Limits ──
 
 -- encodings of at most k bytes each
-pub flatMap-most : {A : Type 0} (ok : A → Bool) (bytes : A → List ℕ) (k : ℕ) → ((x : A) → ok x ≡ true → length (bytes x) ≤ k) → (xs : List A)
-    → every ok xs ≡ true → length (flatMap bytes xs) ≤ k * length xs
+pub flatMap-most : {A : Type 0} (ok : A → Bool) (bytes : A → List ℕ) (k : ℕ) → ((x : A) → ok x ≡ true → length (bytes x) ≤ k) → (xs : List A) → every ok xs ≡ true → length (flatMap bytes xs) ≤ k * length xs
 unfolding flatMap every
 flatMap-most ok bytes k h [] e = omega arith
 flatMap-most ok bytes k h (x ∷ xs) e =
@@ -72,8 +70,7 @@ unfolding configurationsBytes
 configurations-most ss h = flatMap-most legalSection (λ s. s .configuration) longestConfiguration section-short ss h
 
 -- the opening piece is shorter than two million bytes
-pub front-most : (count index user : ℕ) (ss : List Section) (ts : List Tag) → length ss ≤ mostSections → every legalSection ss ≡ true
-    → legalTable ts ≡ true → length (frontBytes count index user ss (tableBytes ts)) ≤ 2000000
+pub front-most : (count index user : ℕ) (ss : List Section) (ts : List Tag) → length ss ≤ mostSections → every legalSection ss ≡ true → legalTable ts ≡ true → length (frontBytes count index user ss (tableBytes ts)) ≤ 2000000
 unfolding definitionsEnd
 front-most count index user ss ts k h t =
     omega (arith, length-front count index user ss (tableBytes ts), definitions-most ss h, configurations-most ss h, table-most ts t)

@@ -29,8 +29,7 @@ stored-append f (w ∷ ws) vs = stored-append (write f (w .place) (w .byte)) ws 
 pub writes-append : (ps qs : List Piece) → writes (ps ++ qs) ≡ writes ps ++ writes qs
 unfolding writes
 writes-append [] qs = refl
-writes-append (p ∷ ps) qs = ap (λ (l : List Written). writesAt (p .place) (p .bytes) ++ l) (writes-append ps qs)
-    ∙ sym (append-assoc (writesAt (p .place) (p .bytes)) (writes ps) (writes qs))
+writes-append (p ∷ ps) qs = ap (λ (l : List Written). writesAt (p .place) (p .bytes) ++ l) (writes-append ps qs) ∙ sym (append-assoc (writesAt (p .place) (p .bytes)) (writes ps) (writes qs))
 
 pub length-writesAt : (p : ℕ) (bytes : List ℕ) → length (writesAt p bytes) ≡ length bytes
 unfolding writesAt
@@ -77,8 +76,7 @@ stored-sets f p (b ∷ bs) h =
     ap (λ (g : List ℕ). stored g (writesAt (suc p) bs)) w ∙ (stored-sets (set f p b) (suc p) bs (rw length-set (omega arith)))
 
 -- a piece stored inside the file takes the place of as many bytes
-pub stored-inside : (f : List ℕ) (p : ℕ) (bytes : List ℕ) → p + length bytes ≤ length f
-    → stored f (writesAt p bytes) ≡ take p f ++ bytes ++ drop (p + length bytes) f
+pub stored-inside : (f : List ℕ) (p : ℕ) (bytes : List ℕ) → p + length bytes ≤ length f → stored f (writesAt p bytes) ≡ take p f ++ bytes ++ drop (p + length bytes) f
 stored-inside f p bytes h = stored-sets f p bytes h ∙ sets-eq bytes f p h
 
 -- ── A cut ──
@@ -88,25 +86,21 @@ pub cut-end : (m : ℕ) (f : List ℕ) (p : ℕ) (bytes : List ℕ) → p ≡ le
 cut-end m f p bytes e = rw take-writesAt (stored-end f p (take m bytes) e)
 
 -- all of a piece and others
-pub stored-pieces : (f : List ℕ) (p : Piece) (ps : List Piece)
-    → stored f (writes (p ∷ ps)) ≡ stored (stored f (writesAt (p .place) (p .bytes))) (writes ps)
+pub stored-pieces : (f : List ℕ) (p : Piece) (ps : List Piece) → stored f (writes (p ∷ ps)) ≡ stored (stored f (writesAt (p .place) (p .bytes))) (writes ps)
 unfolding writes
 stored-pieces f p ps = stored-append f (writesAt (p .place) (p .bytes)) (writes ps)
 
 -- ── A part that is replaced ──
 
 -- bytes stored where others stand, no more of them than those, take the place of the first of them
-pub stored-middle : (before old after : List ℕ) (p : ℕ) (new : List ℕ) → length before ≡ p → length new ≤ length old
-    → stored (before ++ old ++ after) (writesAt p new) ≡ before ++ (new ++ drop (length new) old) ++ after
+pub stored-middle : (before old after : List ℕ) (p : ℕ) (new : List ℕ) → length before ≡ p → length new ≤ length old → stored (before ++ old ++ after) (writesAt p new) ≡ before ++ (new ++ drop (length new) old) ++ after
 stored-middle before old after p new e h =
     let f : List ℕ = before ++ old ++ after in
     let g : f ≡ before ++ (old ++ after) = append-assoc before old after in
     let t : take p f ≡ before = rw g (take-at before (old ++ after) p e) in
-    let d : drop (p + length new) f ≡ drop (length new) old ++ after =
-    rw (g, ← e) (drop-append-add before (old ++ after) (length new) ∙ drop-append-le (length new) old after h) in
+    let d : drop (p + length new) f ≡ drop (length new) old ++ after = rw (g, ← e) (drop-append-add before (old ++ after) (length new) ∙ drop-append-le (length new) old after h) in
     stored-inside f p new (rw (length-append, length-append) (omega arith)) ∙ rw (t, d) (simp append-assoc)
 
 -- the same for the first m of them
-pub cut-middle : (m : ℕ) (before old after : List ℕ) (p : ℕ) (new : List ℕ) → length before ≡ p → length new ≤ length old
-    → stored (before ++ old ++ after) (take m (writesAt p new)) ≡ before ++ (take m new ++ drop (length (take m new)) old) ++ after
+pub cut-middle : (m : ℕ) (before old after : List ℕ) (p : ℕ) (new : List ℕ) → length before ≡ p → length new ≤ length old → stored (before ++ old ++ after) (take m (writesAt p new)) ≡ before ++ (take m new ++ drop (length (take m new)) old) ++ after
 cut-middle m before old after p new e h = rw take-writesAt (stored-middle before old after p (take m new) e (rw length-take (omega arith)))

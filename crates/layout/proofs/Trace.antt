@@ -74,18 +74,15 @@ pub framePieces-more : (at : ℕ) (fs : List Frame) (f : Frame)
 unfolding framePieces flatMap
 framePieces-more at [] f = rw add-zero
 framePieces-more at (x ∷ xs) f =
-    let e : at + length (frameBytes x ++ flatMap frameBytes xs) ≡ at + length (frameBytes x) + length (flatMap frameBytes xs) =
-    rw length-append (omega arith) in
+    let e : at + length (frameBytes x ++ flatMap frameBytes xs) ≡ at + length (frameBytes x) + length (flatMap frameBytes xs) = rw length-append (omega arith) in
     rw e (ap (λ (l : List Piece). piece at (frameBytes x) ∷ l) (framePieces-more (at + length (frameBytes x)) xs f))
 
 pub entries-more : (first at : ℕ) (fs : List Frame) (f : Frame)
-    → entriesBytes first at (fs ++ (f ∷ [])) ≡ entriesBytes first at fs
-    ++ entryBytes first (f .time) (at + length (flatMap frameBytes fs)) (length (frameBytes f))
+    → entriesBytes first at (fs ++ (f ∷ [])) ≡ entriesBytes first at fs ++ entryBytes first (f .time) (at + length (flatMap frameBytes fs)) (length (frameBytes f))
 unfolding entriesBytes flatMap
 entries-more first at [] f = rw (add-zero, append-nil)
 entries-more first at (x ∷ xs) f =
-    let e : at + length (frameBytes x ++ flatMap frameBytes xs) ≡ at + length (frameBytes x) + length (flatMap frameBytes xs) =
-    rw length-append (omega arith) in
+    let e : at + length (frameBytes x ++ flatMap frameBytes xs) ≡ at + length (frameBytes x) + length (flatMap frameBytes xs) = rw length-append (omega arith) in
     rw (e, entries-more first (at + length (frameBytes x)) xs f, append-assoc)
 
 pub firstTime-more : (fs : List Frame) (f : Frame) → firstTime (fs ++ (f ∷ [])) ≡ cond (eqb (length fs) 0) (f .time) (firstTime fs)
@@ -104,15 +101,13 @@ entries-first at (x ∷ xs) f = unfold firstTime in refl
 
 -- the index of one frame more, the entries ahead being the same
 pub index-more : (at : ℕ) (fs : List Frame) (f : Frame)
-    → indexBytes at (fs ++ (f ∷ [])) ≡ bytesOf 4 (length fs + 1) ++ entriesBytes (firstTime fs) at fs
-    ++ entryBytes (firstTime (fs ++ (f ∷ []))) (f .time) (at + length (flatMap frameBytes fs)) (length (frameBytes f))
+    → indexBytes at (fs ++ (f ∷ [])) ≡ bytesOf 4 (length fs + 1) ++ entriesBytes (firstTime fs) at fs ++ entryBytes (firstTime (fs ++ (f ∷ []))) (f .time) (at + length (flatMap frameBytes fs)) (length (frameBytes f))
 unfolding indexBytes
 index-more at fs f =
     let n : length (fs ++ (f ∷ [])) ≡ length fs + 1 = length-append fs (f ∷ []) in
     rw (n, entries-more (firstTime (fs ++ (f ∷ []))) at fs f, entries-first at fs f, append-assoc)
 
-follow-more : (first last : ℕ) (fs : List Frame) (f : Frame) → follow first last fs ≡ true → follows first (lastTime last fs) (f .time) ≡ true
-    → follow first last (fs ++ (f ∷ [])) ≡ true
+follow-more : (first last : ℕ) (fs : List Frame) (f : Frame) → follow first last fs ≡ true → follows first (lastTime last fs) (f .time) ≡ true → follow first last (fs ++ (f ∷ [])) ≡ true
 unfolding follow lastTime
 follow-more first last [] f h k = and-true (follows first last (f .time)) true k refl
 follow-more first last (x ∷ xs) f h k =
@@ -120,31 +115,25 @@ follow-more first last (x ∷ xs) f h k =
     and-true (follows first last (x .time)) (follow first (x .time) (xs ++ (f ∷ []))) (b .0) (follow-more first (x .time) xs f (b .1) k)
 
 -- a frame whose time breaks no rule keeps the frames in order
-order-more : (fs : List Frame) (f : Frame) → inOrder fs ≡ true
-    → not (eqb (length fs) 0) && not (follows (firstTime fs) (lastTime 0 fs) (f .time)) ≡ false → inOrder (fs ++ (f ∷ [])) ≡ true
+order-more : (fs : List Frame) (f : Frame) → inOrder fs ≡ true → not (eqb (length fs) 0) && not (follows (firstTime fs) (lastTime 0 fs) (f .time)) ≡ false → inOrder (fs ++ (f ∷ [])) ≡ true
 unfolding inOrder firstTime lastTime
 order-more [] f h k = unfold follow in refl
 order-more (x ∷ xs) f h k =
     follow-more (x .time) (x .time) xs f h (not-false (follows (x .time) (lastTime (x .time) xs) (f .time)) (rw (eqb·suc-zero (length xs)) at k))
 
 -- The notes with one entry more: the number in front is replaced, the entries ahead stay, the new entry stands behind them.
-notes-more : (notes old new entries entry : List ℕ) (q : ℕ) → take (4 + q) notes ≡ old ++ entries → length old ≡ 4 → length new ≡ 4
-    → 4 + q + length entry ≤ length notes → take (4 + q + length entry) (sets (sets notes 0 new) (4 + q) entry) ≡ new ++ entries ++ entry
+notes-more : (notes old new entries entry : List ℕ) (q : ℕ) → take (4 + q) notes ≡ old ++ entries → length old ≡ 4 → length new ≡ 4 → 4 + q + length entry ≤ length notes → take (4 + q + length entry) (sets (sets notes 0 new) (4 + q) entry) ≡ new ++ entries ++ entry
 notes-more notes old new entries entry q e p r h =
     let later : List ℕ = drop 4 notes in
     let l : length (take 4 notes) ≡ 4 = length-take-le 4 notes (omega arith) in
-    let kept : take q later ≡ entries = sym (drop-at (take 4 notes) (take q later) 4 l)
-    ∙ ap (λ (s : List ℕ). drop 4 s) (sym (take-add 4 q notes) ∙ e) ∙ drop-at old entries 4 p in
+    let kept : take q later ≡ entries = sym (drop-at (take 4 notes) (take q later) 4 l) ∙ ap (λ (s : List ℕ). drop 4 s) (sym (take-add 4 q notes) ∙ e) ∙ drop-at old entries 4 p in
     let z : 0 + length new ≡ 4 = omega arith in
     let counted : sets notes 0 new ≡ new ++ later = sets-eq new notes 0 (omega arith) ∙ ap (λ (k : ℕ). new ++ drop k notes) z in
-    let front : take (4 + q) (new ++ later) ≡ new ++ entries =
-    ap (λ (k : ℕ). take (k + q) (new ++ later)) (sym r) ∙ take-append-add new later q ∙ ap (λ (s : List ℕ). new ++ s) kept in
+    let front : take (4 + q) (new ++ later) ≡ new ++ entries = ap (λ (k : ℕ). take (k + q) (new ++ later)) (sym r) ∙ take-append-add new later q ∙ ap (λ (s : List ℕ). new ++ s) kept in
     let room : 4 + q + length entry ≤ length (new ++ later) = rw (length-append, length-drop) (omega arith) in
-    let whole : sets (new ++ later) (4 + q) entry ≡ new ++ entries ++ entry ++ drop (4 + q + length entry) (new ++ later) =
-    sets-eq entry (new ++ later) (4 + q) room ∙ ap (λ (s : List ℕ). s ++ entry ++ drop (4 + q + length entry) (new ++ later)) front in
+    let whole : sets (new ++ later) (4 + q) entry ≡ new ++ entries ++ entry ++ drop (4 + q + length entry) (new ++ later) = sets-eq entry (new ++ later) (4 + q) room ∙ ap (λ (s : List ℕ). s ++ entry ++ drop (4 + q + length entry) (new ++ later)) front in
     let n : length (new ++ entries) ≡ 4 + q = ap length (sym front) ∙ length-take-le (4 + q) (new ++ later) (omega arith) in
-    rw (counted, whole) (take-at (new ++ entries ++ entry) (drop (4 + q + length entry) (new ++ later)) (4 + q + length entry)
-    (length-append (new ++ entries) entry ∙ ap (λ (k : ℕ). k + length entry) n))
+    rw (counted, whole) (take-at (new ++ entries ++ entry) (drop (4 + q + length entry) (new ++ later)) (4 + q + length entry) (length-append (new ++ entries) entry ∙ ap (λ (k : ℕ). k + length entry) n))
 
 -- ── The stages ──
 
@@ -213,35 +202,28 @@ abbrev pub Reached : Session → Recording → Type 0
 Reached ss r = ((ss .state ≡ freshState) × (ss .pieces ≡ [])) ⊎ ((c : ℕ) × Runs ss r c)
 
 -- an answer that is accepted has to be followed, a refused one changes nothing
-reach : (ss : Session) (r more : Recording) (n : ℕ) (step : Step) → step .refused ≡ 0 → Reached ss r → (n ≡ 0 → Reached (goesOn ss step) more)
-    → Reached (passedOn ss (answer n (ss .state) (ss .notes) step)) (cond (accepted (answer n (ss .state) (ss .notes) step)) more r)
+reach : (ss : Session) (r more : Recording) (n : ℕ) (step : Step) → step .refused ≡ 0 → Reached ss r → (n ≡ 0 → Reached (goesOn ss step) more) → Reached (passedOn ss (answer n (ss .state) (ss .notes) step)) (cond (accepted (answer n (ss .state) (ss .notes) step)) more r)
 reach ss r more n step e h k = go (answered ss n step e)
   where
-    go : ((n ≡ 0) × (passedOn ss (answer n (ss .state) (ss .notes) step) ≡ goesOn ss step)
-        × (accepted (answer n (ss .state) (ss .notes) step) ≡ true)) ⊎
-        ((passedOn ss (answer n (ss .state) (ss .notes) step) ≡ ss) × (accepted (answer n (ss .state) (ss .notes) step) ≡ false))
-        → Reached (passedOn ss (answer n (ss .state) (ss .notes) step)) (cond (accepted (answer n (ss .state) (ss .notes) step)) more r)
+    go : ((n ≡ 0) × (passedOn ss (answer n (ss .state) (ss .notes) step) ≡ goesOn ss step) × (accepted (answer n (ss .state) (ss .notes) step) ≡ true)) ⊎ ((passedOn ss (answer n (ss .state) (ss .notes) step) ≡ ss) × (accepted (answer n (ss .state) (ss .notes) step) ≡ false)) → Reached (passedOn ss (answer n (ss .state) (ss .notes) step)) (cond (accepted (answer n (ss .state) (ss .notes) step)) more r)
     go (inl t) = subst₂ Reached (sym (t .1)) (sym (cond-true _ more r (t .2))) (k (t .0))
     go (inr t) = subst₂ Reached (sym (t .0)) (sym (cond-false _ more r (t .1))) h
 
 abbrev pub beginStep : (setUp system notes : List ℕ) → Step
-beginStep setUp system notes =
-    record { refused = 0; state = begun setUp system; piece = piece 0 (firstPiece setUp system); notes = sets notes 0 (replicate 4 0) }
+beginStep setUp system notes = record { refused = 0; state = begun setUp system; piece = piece 0 (firstPiece setUp system); notes = sets notes 0 (replicate 4 0) }
 
 abbrev pub beginning : (setUp system : List ℕ) → Recording
 beginning setUp system = record { sections = sectionsOf setUp; system = valueOr [] (exactly table system); frames = []; user = [] }
 
 -- sections of a set-up list whose names are legal
-sections-legal : (ss : List Section) → every legalSectionName (sectionNames ss) ≡ true → every setUpSectionFits ss ≡ true
-    → every legalSection ss ≡ true
+sections-legal : (ss : List Section) → every legalSectionName (sectionNames ss) ≡ true → every setUpSectionFits ss ≡ true → every legalSection ss ≡ true
 unfolding every sectionNames legalSection setUpSectionFits
 sections-legal [] h k = refl
 sections-legal (s ∷ ss) h k =
     let a = both-true (legalSectionName (s .name)) (every legalSectionName (sectionNames ss)) h in
     let b = both-true (setUpSectionFits s) (every setUpSectionFits ss) k in
     let c = both-true (leb (length (s .name)) 255) (leb (length (s .configuration)) 65535) (b .0) in
-    and-true (legalSection s) (every legalSection ss) (and-true (legalSectionName (s .name)) (leb (length (s .configuration)) 65535) (a .0)
-    (c .1)) (sections-legal ss (a .1) (b .1))
+    and-true (legalSection s) (every legalSection ss) (and-true (legalSectionName (s .name)) (leb (length (s .configuration)) 65535) (a .0) (c .1)) (sections-legal ss (a .1) (b .1))
 
 -- what the calls' arguments say where a beginning is accepted
 pub record Begins (setUp system notes : List ℕ) : Type 0 where
@@ -253,8 +235,7 @@ pub record Begins (setUp system notes : List ℕ) : Type 0 where
   systemBytes : system ≡ tableBytes (valueOr [] (exactly table system))
   notesFour : 4 ≤ length notes
 
-begins-with : (setUp system notes : List ℕ) → areBytes setUp ≡ true → areBytes system ≡ true → isBad (exactly setUpList setUp) ≡ false
-    → badSetUp (sectionsOf setUp) ≡ false → isBad (exactly table system) ≡ false → 4 ≤ length notes → Begins setUp system notes
+begins-with : (setUp system notes : List ℕ) → areBytes setUp ≡ true → areBytes system ≡ true → isBad (exactly setUpList setUp) ≡ false → badSetUp (sectionsOf setUp) ≡ false → isBad (exactly table system) ≡ false → 4 ≤ length notes → Begins setUp system notes
 unfolding badSetUp sectionsOf
 begins-with setUp system notes p q h k l m =
     let ss = valueOr [] (exactly setUpList setUp) in
@@ -290,24 +271,18 @@ begins-are st setUp system notes room p q h =
     let b = line-clear 9 _ _ (a .1) in
     let c = line-clear 2 _ _ (b .1) in
     let d = line-clear 3 _ _ (c .1) in
-    let e = line-clear 8 _ _ (d .1) in (
-      not-false (isFresh (st .stage)) (a .0),
-      begins-with setUp system notes p q (b .0) (c .0) (d .0)
-          (ltb-false (length notes) 4 (or-false (noRoom room (length (firstPiece setUp system))) (noRoom (length notes) 4) (e .0) .1)),
-    )
+    let e = line-clear 8 _ _ (d .1) in
+    (not-false (isFresh (st .stage)) (a .0), begins-with setUp system notes p q (b .0) (c .0) (d .0) (ltb-false (length notes) 4 (or-false (noRoom room (length (firstPiece setUp system))) (noRoom (length notes) 4) (e .0) .1)))
 
 pub begin-runs : (ss : Session) (setUp system : List ℕ)
     → ss .pieces ≡ []
     → Begins setUp system (ss .notes)
     → Runs (goesOn ss (beginStep setUp system (ss .notes))) (beginning setUp system) 0
-unfolding begun firstPiece pieceNumber follows stageOf firstTime lastTime piecesOf framePieces indexBytes entriesBytes bytesOf every inOrder
-    legalTable distinct tagNames
+unfolding begun firstPiece pieceNumber follows stageOf firstTime lastTime piecesOf framePieces indexBytes entriesBytes bytesOf every inOrder legalTable distinct tagNames
 begin-runs ss setUp system e b =
     let r = beginning setUp system in
-    let front : length (firstPiece setUp system) ≡ framesStart r =
-    unfold framesStart in ap (λ (s : List ℕ). length (frontBytes 0 0 0 (sectionsOf setUp) s)) (b .systemBytes) in
-    let most : framesStart r ≤ 2000000 = unfold framesStart in front-most 0 0 0 (sectionsOf setUp) (r .system) (b .eightSections)
-    (b .legalSections) (b .legalSystem) in
+    let front : length (firstPiece setUp system) ≡ framesStart r = unfold framesStart in ap (λ (s : List ℕ). length (frontBytes 0 0 0 (sectionsOf setUp) s)) (b .systemBytes) in
+    let most : framesStart r ≤ 2000000 = unfold framesStart in front-most 0 0 0 (sectionsOf setUp) (r .system) (b .eightSections) (b .legalSections) (b .legalSystem) in
     let end : framesEnd r ≡ framesStart r = unfold framesEnd flatMap in add-zero (framesStart r) in
     let user : userStart r ≡ framesEnd r + 4 = unfold userStart in refl in
     record {
@@ -338,8 +313,7 @@ begin-runs ss setUp system e b =
       stateHolds =
           none-broken (begun setUp system)
           (record {
-            someSections = and-true (leb 1 (length (sectionsOf setUp))) (leb (length (sectionsOf setUp)) mostSections)
-                (le-leb 1 (length (sectionsOf setUp)) (b .oneSection)) (le-leb (length (sectionsOf setUp)) mostSections (b .eightSections));
+            someSections = and-true (leb 1 (length (sectionsOf setUp))) (leb (length (sectionsOf setUp)) mostSections) (le-leb 1 (length (sectionsOf setUp)) (b .oneSection)) (le-leb (length (sectionsOf setUp)) mostSections (b .eightSections));
             fewFrames = omega arith;
             fewPieces = omega arith;
             inTime = refl;
@@ -352,17 +326,10 @@ begin-runs ss setUp system e b =
 -- ── To add ──
 
 abbrev pub addStep : State → (time exposure : ℕ) → (sections notes : List ℕ) → Step
-addStep st time exposure sections notes =
-    record {
-      refused = 0;
-      state = added st time exposure sections;
-      piece = piece (st .end) (framePiece time exposure sections);
-      notes = noted st time exposure sections notes;
-    }
+addStep st time exposure sections notes = record { refused = 0; state = added st time exposure sections; piece = piece (st .end) (framePiece time exposure sections); notes = noted st time exposure sections notes }
 
 abbrev pub frameGiven : State → (time exposure : ℕ) → (sections : List ℕ) → Frame
-frameGiven st time exposure sections =
-    record { time = time; exposure = exposure; sections = valueOr [] (exactly (times (st .sections) sized) sections) }
+frameGiven st time exposure sections = record { time = time; exposure = exposure; sections = valueOr [] (exactly (times (st .sections) sized) sections) }
 
 abbrev pub withFrame : Recording → Frame → Recording
 withFrame r f = record { sections = r .sections; system = r .system; frames = r .frames ++ (f ∷ []); user = r .user }
@@ -378,24 +345,18 @@ pub record Adds (st : State) (time exposure : ℕ) (sections notes : List ℕ) :
   notesEnough : indexLength (st .frames + 1) ≤ length notes
 
 -- a frame whose shape is right is legal but for its time, and its piece is its bytes
-frame-given : (st : State) (time exposure : ℕ) (sections : List ℕ) → time < 2 ^ 64 → exposure < 2 ^ 32 → areBytes sections ≡ true
-    → badShape st sections ≡ false → (legalFrame (st .sections) (frameGiven st time exposure sections) ≡ true)
-    × (framePiece time exposure sections ≡ frameBytes (frameGiven st time exposure sections))
+frame-given : (st : State) (time exposure : ℕ) (sections : List ℕ) → time < 2 ^ 64 → exposure < 2 ^ 32 → areBytes sections ≡ true → badShape st sections ≡ false → (legalFrame (st .sections) (frameGiven st time exposure sections) ≡ true) × (framePiece time exposure sections ≡ frameBytes (frameGiven st time exposure sections))
 unfolding badShape legalFrame framePiece frameBytes
 frame-given st time exposure sections p q h k =
     let small : List ℕ → Bool = λ s. leb (length s) longestSection in
     let ss = valueOr [] (exactly (times (st .sections) sized) sections) in
     let w = read-good [] (exactly (times (st .sections) sized) sections) k in
-    let g = exactly-gives (λ xs. eqb (length xs) (st .sections) && every small xs) (flatMap sizedBytes) (times (st .sections) sized)
-    (times-exact small sizedBytes sized (st .sections) sized-exact) sections ss _ h w in
+    let g = exactly-gives (λ xs. eqb (length xs) (st .sections) && every small xs) (flatMap sizedBytes) (times (st .sections) sized) (times-exact small sizedBytes sized (st .sections) sized-exact) sections ss _ h w in
     let b = both-true (eqb (length ss) (st .sections)) (every small ss) (g .0) in
     let t = leb (suc time) (2 ^ 64) in
     let e = leb (suc exposure) (2 ^ 32) in
-    let n = eqb (length ss) (st .sections) in (
-      and-true (t && e && n) (every small ss) (and-true (t && e) n (and-true t e (le-leb (suc time) (2 ^ 64) p) (le-leb (suc exposure) (2 ^ 32) q))
-          (b .0)) (b .1),
-      ap (λ (l : List ℕ). frameHeadBytes time exposure ++ l) (g .1),
-    )
+    let n = eqb (length ss) (st .sections) in
+    (and-true (t && e && n) (every small ss) (and-true (t && e) n (and-true t e (le-leb (suc time) (2 ^ 64) p) (le-leb (suc exposure) (2 ^ 32) q)) (b .0)) (b .1), ap (λ (l : List ℕ). frameHeadBytes time exposure ++ l) (g .1))
 
 pub adds-are : (st : State) (time exposure : ℕ) (sections notes : List ℕ) (room : ℕ)
     → time < 2 ^ 64
@@ -437,18 +398,15 @@ unfolding piecesOf framesEnd framesStart
 pieces-more r f =
     let opening : Piece = piece 0 (frontBytes 0 0 0 (r .sections) (tableBytes (r .system))) in
     let p : Piece = piece (framesEnd r) (frameBytes f) in
-    ap (λ (l : List Piece). opening ∷ l) (append-nil _ ∙ framePieces-more (framesStart r) (r .frames) f
-    ∙ ap (λ (l : List Piece). l ++ (p ∷ [])) (sym (append-nil (framePieces (framesStart r) (r .frames)))))
+    ap (λ (l : List Piece). opening ∷ l) (append-nil _ ∙ framePieces-more (framesStart r) (r .frames) f ∙ ap (λ (l : List Piece). l ++ (p ∷ [])) (sym (append-nil (framePieces (framesStart r) (r .frames)))))
 
 -- the last time of one frame more keeps the time rule with the first
-time-more : (n first last time : ℕ) → follows first first last ≡ true → not (eqb n 0) && not (follows first last time) ≡ false
-    → follows (cond (eqb n 0) time first) (cond (eqb n 0) time first) time ≡ true
+time-more : (n first last time : ℕ) → follows first first last ≡ true → not (eqb n 0) && not (follows first last time) ≡ false → follows (cond (eqb n 0) time first) (cond (eqb n 0) time first) time ≡ true
 unfolding follows
 time-more n first last time h k = go (eqb n 0) k
   where
     go : (b : Bool) → not b && not (follows first last time) ≡ false → follows (cond b time first) (cond b time first) time ≡ true
-    go true e = and-true (leb (rank time) (rank time)) (leb (rank time - rank time) longestSpan) (le-leb (rank time) (rank time) (omega arith))
-        (le-leb (rank time - rank time) longestSpan (omega arith))
+    go true e = and-true (leb (rank time) (rank time)) (leb (rank time - rank time) longestSpan) (le-leb (rank time) (rank time) (omega arith)) (le-leb (rank time - rank time) longestSpan (omega arith))
     go false e =
         let x = both-true (leb (rank last) (rank time)) (leb (rank time - rank first) longestSpan) (not-false (follows first last time) e) in
         let y = both-true (leb (rank first) (rank last)) (leb (rank last - rank first) longestSpan) h in
@@ -457,19 +415,14 @@ time-more n first last time h k = go (eqb n 0) k
         and-true (leb (rank first) (rank time)) (leb (rank time - rank first) longestSpan) (le-leb (rank first) (rank time) (omega arith)) (x .1)
 
 -- the notes of one frame more hold its index
-index-noted : (notes : List ℕ) (at : ℕ) (fs : List Frame) (f : Frame) → take (indexLength (length fs)) notes ≡ indexBytes at fs
-    → indexLength (length fs + 1) ≤ length notes → take (indexLength (length fs + 1))
-    (sets (sets notes 0 (bytesOf 4 (length fs + 1))) (16 * (length fs + 1) - 12)
-    (entryBytes (firstTime (fs ++ (f ∷ []))) (f .time) (at + length (flatMap frameBytes fs)) (length (frameBytes f)))) ≡ indexBytes at
-    (fs ++ (f ∷ []))
+index-noted : (notes : List ℕ) (at : ℕ) (fs : List Frame) (f : Frame) → take (indexLength (length fs)) notes ≡ indexBytes at fs → indexLength (length fs + 1) ≤ length notes → take (indexLength (length fs + 1)) (sets (sets notes 0 (bytesOf 4 (length fs + 1))) (16 * (length fs + 1) - 12) (entryBytes (firstTime (fs ++ (f ∷ []))) (f .time) (at + length (flatMap frameBytes fs)) (length (frameBytes f)))) ≡ indexBytes at (fs ++ (f ∷ []))
 index-noted notes at fs f e h =
     let n = length fs in
     let entry : List ℕ = entryBytes (firstTime (fs ++ (f ∷ []))) (f .time) (at + length (flatMap frameBytes fs)) (length (frameBytes f)) in
     let l : length entry ≡ 16 = length-entry (firstTime (fs ++ (f ∷ []))) (f .time) (at + length (flatMap frameBytes fs)) (length (frameBytes f)) in
     let place : 16 * (n + 1) - 12 ≡ 4 + 16 * n = omega arith in
     let size : indexLength (n + 1) ≡ 4 + 16 * n + length entry = omega arith in
-    let m = notes-more notes (bytesOf 4 n) (bytesOf 4 (n + 1)) (entriesBytes (firstTime fs) at fs) entry (16 * n) (unfold indexBytes in e)
-    (length-bytesOf 4 n) (length-bytesOf 4 (n + 1)) (omega arith) in
+    let m = notes-more notes (bytesOf 4 n) (bytesOf 4 (n + 1)) (entriesBytes (firstTime fs) at fs) entry (16 * n) (unfold indexBytes in e) (length-bytesOf 4 n) (length-bytesOf 4 (n + 1)) (omega arith) in
     rw (place, size) (m ∙ sym (index-more at fs f))
 
 pub length-noted : (st : State) (time exposure : ℕ) (sections notes : List ℕ) → length (noted st time exposure sections notes) ≡ length notes
@@ -477,11 +430,7 @@ unfolding noted
 length-noted st time exposure sections notes = rw (length-sets, length-sets)
 
 -- the notes after a frame, in the recording's own terms
-noted-is : (st : State) (time exposure : ℕ) (sections notes : List ℕ) (r : Recording) (f : Frame) → st .frames ≡ length (r .frames)
-    → firstAfter st time ≡ firstTime (r .frames ++ (f ∷ [])) → time ≡ f .time → st .end ≡ framesEnd r
-    → framePiece time exposure sections ≡ frameBytes f → noted st time exposure sections notes ≡ sets
-    (sets notes 0 (bytesOf 4 (length (r .frames) + 1))) (16 * (length (r .frames) + 1) - 12)
-    (entryBytes (firstTime (r .frames ++ (f ∷ []))) (f .time) (framesStart r + length (flatMap frameBytes (r .frames))) (length (frameBytes f)))
+noted-is : (st : State) (time exposure : ℕ) (sections notes : List ℕ) (r : Recording) (f : Frame) → st .frames ≡ length (r .frames) → firstAfter st time ≡ firstTime (r .frames ++ (f ∷ [])) → time ≡ f .time → st .end ≡ framesEnd r → framePiece time exposure sections ≡ frameBytes f → noted st time exposure sections notes ≡ sets (sets notes 0 (bytesOf 4 (length (r .frames) + 1))) (16 * (length (r .frames) + 1) - 12) (entryBytes (firstTime (r .frames ++ (f ∷ []))) (f .time) (framesStart r + length (flatMap frameBytes (r .frames))) (length (frameBytes f)))
 unfolding noted framesEnd
 noted-is st time exposure sections notes r f n g t e b = cc
 
@@ -512,8 +461,7 @@ add-runs ss r time exposure sections h a =
             framesLegal =
                 rw every-append
                 (and-true (every (legalFrame (length (r .sections))) fs) (every (legalFrame (length (r .sections))) (f ∷ [])) (h .legal .framesLegal)
-                (and-true (legalFrame (length (r .sections)) f) true
-                (subst (λ (k : ℕ). legalFrame k f ≡ true) (h .sectionsAre) (a .frameLegal)) refl));
+                (and-true (legalFrame (length (r .sections)) f) true (subst (λ (k : ℕ). legalFrame k f ≡ true) (h .sectionsAre) (a .frameLegal)) refl));
             framesOrdered = order-more fs f (h .legal .framesOrdered) (rw (h .framesAre, h .firstIs, h .lastIs) at (a .clockHolds));
             userLegal = h .legal .userLegal;
             userOffsetFits = omega arith;
@@ -537,11 +485,7 @@ add-runs ss r time exposure sections h a =
             short = a .shortMore;
           });
       notesLong = rw (length-noted st time exposure sections (ss .notes)) (omega arith);
-      notesAre = rw (
-        noted-is st time exposure sections (ss .notes) r f (h .framesAre) first refl (h .endIs) (a .bytesAre),
-        length-append fs (f ∷ []),
-        start,
-      ) (index-noted (ss .notes) (framesStart r) fs f (h .notesAre) (omega arith));
+      notesAre = rw (noted-is st time exposure sections (ss .notes) r f (h .framesAre) first refl (h .endIs) (a .bytesAre), length-append fs (f ∷ []), start) (index-noted (ss .notes) (framesStart r) fs f (h .notesAre) (omega arith));
     }
 
 -- ── To close ──
@@ -553,8 +497,7 @@ pub pieces-close : (r : Recording) (c : ℕ) → c ≤ 4 → piecesOf r (suc c) 
 unfolding piecesOf closings
 pieces-close r c l = rw (take-suc (closings r) c (piece 0 []) (omega arith), append-assoc)
 
-closings-are : (st : State) (notes : List ℕ) (r : Recording) → st .end ≡ framesEnd r → st .frames ≡ length (r .frames)
-    → take (indexLength (length (r .frames))) notes ≡ indexBytes (framesStart r) (r .frames) → closingPieces st notes ≡ closings r
+closings-are : (st : State) (notes : List ℕ) (r : Recording) → st .end ≡ framesEnd r → st .frames ≡ length (r .frames) → take (indexLength (length (r .frames))) notes ≡ indexBytes (framesStart r) (r .frames) → closingPieces st notes ≡ closings r
 unfolding closingPieces closings userStart
 closings-are st notes r e n h = rw (e, n, h)
 
@@ -565,8 +508,7 @@ pub closing-is : (ss : Session) (r : Recording) (c : ℕ)
     → closingPiece (ss .state) (ss .notes) ≡ getD (closings r) c (piece 0 [])
 unfolding closingPiece
 closing-is ss r c l h =
-    ap (λ (ps : List Piece). getD ps (pieceNumber (ss .state .stage)) (piece 0 []))
-    (closings-are (ss .state) (ss .notes) r (h .endIs) (h .framesAre) (h .notesAre))
+    ap (λ (ps : List Piece). getD ps (pieceNumber (ss .state .stage)) (piece 0 [])) (closings-are (ss .state) (ss .notes) r (h .endIs) (h .framesAre) (h .notesAre))
     ∙ ap (λ (n : ℕ). getD (closings r) n (piece 0 [])) (ap pieceNumber (h .stageIs) ∙ at-piece c l .0)
 
 pub close-runs : (ss : Session) (r : Recording) (c : ℕ) → c ≤ 4 → Runs ss r c → Runs (goesOn ss (closeStep (ss .state) (ss .notes))) r (suc c)
@@ -574,8 +516,7 @@ unfolding closedBy
 close-runs ss r c l h =
     let st = ss .state in
     let s = broken-none st (h .stateHolds) in
-    let stage : stageAfter (pieceNumber (st .stage)) ≡ stageOf (suc c) =
-    ap (λ (x : Stage). stageAfter (pieceNumber x)) (h .stageIs) ∙ ap stageAfter (at-piece c l .0) ∙ at-piece c l .2 in
+    let stage : stageAfter (pieceNumber (st .stage)) ≡ stageOf (suc c) = ap (λ (x : Stage). stageAfter (pieceNumber x)) (h .stageIs) ∙ ap stageAfter (at-piece c l .0) ∙ at-piece c l .2 in
     let last : closingPiece st (ss .notes) ≡ getD (closings r) c (piece 0 []) = closing-is ss r c l h in
     record {
       legal = h .legal;
@@ -603,66 +544,45 @@ close-runs ss r c l h =
 
 -- ── One call ──
 
-reached-begins : (ss : Session) (r : Recording) (setUp system : List ℕ) (room : ℕ) → callFits (begins setUp system room) ≡ true → Reached ss r
-    → Reached (called ss (begins setUp system room)) (givenBy ss (begins setUp system room) r)
+reached-begins : (ss : Session) (r : Recording) (setUp system : List ℕ) (room : ℕ) → callFits (begins setUp system room) ≡ true → Reached ss r → Reached (called ss (begins setUp system room)) (givenBy ss (begins setUp system room) r)
 unfolding called givenBy begin callFits isFresh
 reached-begins ss r setUp system room f h = reach ss r (beginning setUp system) _ (beginStep setUp system (ss .notes)) refl h (λ z. go z h)
   where
-    after : isFresh (ss .state .stage) ≡ true → Begins setUp system (ss .notes) → Reached ss r
-        → Reached (goesOn ss (beginStep setUp system (ss .notes))) (beginning setUp system)
+    after : isFresh (ss .state .stage) ≡ true → Begins setUp system (ss .notes) → Reached ss r → Reached (goesOn ss (beginStep setUp system (ss .notes))) (beginning setUp system)
     after e b (inl t) = inr (0, begin-runs ss setUp system (t .1) b)
     after e b (inr t) = absurd (true-not-false (sym e ∙ ap isFresh (t .1 .stageIs) ∙ not-fresh (t .0)))
 
-    go : firstOf (beginLines (ss .state) setUp system (ss .notes) room) ≡ 0 → Reached ss r
-        → Reached (goesOn ss (beginStep setUp system (ss .notes))) (beginning setUp system)
+    go : firstOf (beginLines (ss .state) setUp system (ss .notes) room) ≡ 0 → Reached ss r → Reached (goesOn ss (beginStep setUp system (ss .notes))) (beginning setUp system)
     go z k =
         let b = both-true (areBytes setUp) (areBytes system) f in
         let d = begins-are (ss .state) setUp system (ss .notes) room (b .0) (b .1) z in
         after (d .0) (d .1) k
 
-reached-adds : (ss : Session) (r : Recording) (time exposure : ℕ) (sections : List ℕ) (room : ℕ)
-    → callFits (adds time exposure sections room) ≡ true → Reached ss r
-    → Reached (called ss (adds time exposure sections room)) (givenBy ss (adds time exposure sections room) r)
+reached-adds : (ss : Session) (r : Recording) (time exposure : ℕ) (sections : List ℕ) (room : ℕ) → callFits (adds time exposure sections room) ≡ true → Reached ss r → Reached (called ss (adds time exposure sections room)) (givenBy ss (adds time exposure sections room) r)
 unfolding called givenBy add callFits isRunning
-reached-adds ss r time exposure sections room f h = reach ss r (withFrame r (frameGiven (ss .state) time exposure sections)) _
-    (addStep (ss .state) time exposure sections (ss .notes)) refl h (λ z. go z h)
+reached-adds ss r time exposure sections room f h = reach ss r (withFrame r (frameGiven (ss .state) time exposure sections)) _ (addStep (ss .state) time exposure sections (ss .notes)) refl h (λ z. go z h)
   where
-    after : isRunning (ss .state .stage) ≡ true → Adds (ss .state) time exposure sections (ss .notes) → Reached ss r
-        → Reached (goesOn ss (addStep (ss .state) time exposure sections (ss .notes)))
-        (withFrame r (frameGiven (ss .state) time exposure sections))
+    after : isRunning (ss .state .stage) ≡ true → Adds (ss .state) time exposure sections (ss .notes) → Reached ss r → Reached (goesOn ss (addStep (ss .state) time exposure sections (ss .notes))) (withFrame r (frameGiven (ss .state) time exposure sections))
     after e a (inl t) = absurd (true-not-false (sym e ∙ ap (λ (s : State). isRunning (s .stage)) (t .0)))
-    after e a (inr t) = inr (
-      0,
-      add-runs ss r time exposure sections
-          (subst (λ (c : ℕ). Runs ss r c) (running-none (t .0) (sym (ap isRunning (t .1 .stageIs)) ∙ e)) (t .1)) a,
-    )
+    after e a (inr t) = inr (0, add-runs ss r time exposure sections (subst (λ (c : ℕ). Runs ss r c) (running-none (t .0) (sym (ap isRunning (t .1 .stageIs)) ∙ e)) (t .1)) a)
 
-    go : firstOf (addLines (ss .state) time exposure sections (ss .notes) room) ≡ 0 → Reached ss r
-        → Reached (goesOn ss (addStep (ss .state) time exposure sections (ss .notes)))
-        (withFrame r (frameGiven (ss .state) time exposure sections))
+    go : firstOf (addLines (ss .state) time exposure sections (ss .notes) room) ≡ 0 → Reached ss r → Reached (goesOn ss (addStep (ss .state) time exposure sections (ss .notes))) (withFrame r (frameGiven (ss .state) time exposure sections))
     go z k =
         let b = both-true (ltb time (2 ^ 64) && ltb exposure (2 ^ 32)) (areBytes sections) f in
         let c = both-true (ltb time (2 ^ 64)) (ltb exposure (2 ^ 32)) (b .0) in
-        let d = adds-are (ss .state) time exposure sections (ss .notes) room (ltb-true time (2 ^ 64) (c .0)) (ltb-true exposure (2 ^ 32) (c .1))
-        (b .1) z in
+        let d = adds-are (ss .state) time exposure sections (ss .notes) room (ltb-true time (2 ^ 64) (c .0)) (ltb-true exposure (2 ^ 32) (c .1)) (b .1) z in
         after (d .0) (d .1) k
 
 reached-closes : (ss : Session) (r : Recording) (room : ℕ) → Reached ss r → Reached (called ss (closes room)) (givenBy ss (closes room) r)
 unfolding called givenBy close closeLines takesClose
-reached-closes ss r room h = subst (Reached (passedOn ss (close (ss .state) (ss .notes) room)))
-    (cond-same (accepted (close (ss .state) (ss .notes) room)) r) (reach ss r r _ (closeStep (ss .state) (ss .notes)) refl h (λ z. go z h))
+reached-closes ss r room h = subst (Reached (passedOn ss (close (ss .state) (ss .notes) room))) (cond-same (accepted (close (ss .state) (ss .notes) room)) r) (reach ss r r _ (closeStep (ss .state) (ss .notes)) refl h (λ z. go z h))
   where
     after : takesClose (ss .state .stage) ≡ true → Reached ss r → Reached (goesOn ss (closeStep (ss .state) (ss .notes))) r
     after e (inl t) = absurd (true-not-false (sym e ∙ ap (λ (s : State). takesClose (s .stage)) (t .0)))
-    after e (inr t) = inr (
-      suc (t .0),
-      close-runs ss r (t .0) (closes-more (t .0) (t .1 .atMostFive) (sym (ap takesClose (t .1 .stageIs)) ∙ e))
-          (t .1),
-    )
+    after e (inr t) = inr (suc (t .0), close-runs ss r (t .0) (closes-more (t .0) (t .1 .atMostFive) (sym (ap takesClose (t .1 .stageIs)) ∙ e)) (t .1))
 
     go : firstOf (closeLines (ss .state) (ss .notes) room) ≡ 0 → Reached ss r → Reached (goesOn ss (closeStep (ss .state) (ss .notes))) r
-    go z k = after (not-false (takesClose (ss .state .stage))
-        (or-false (not (takesClose (ss .state .stage))) (brokenState (ss .state)) (line-clear 11 _ _ z .0) .0)) k
+    go z k = after (not-false (takesClose (ss .state .stage)) (or-false (not (takesClose (ss .state .stage))) (brokenState (ss .state)) (line-clear 11 _ _ z .0) .0)) k
 
 pub reached-call : (ss : Session) (r : Recording) (c : Call) → callFits c ≡ true → Reached ss r → Reached (called ss c) (givenBy ss c r)
 reached-call ss r (begins setUp system room) f h = reached-begins ss r setUp system room f h

@@ -48,30 +48,24 @@ unfolding after took stopped
 after-stopped fs = rw (append-nil, add-zero)
 
 -- the walk passes over encoded frames, and goes on behind them
-pub walk-over : (fs : List Frame) (more k : ℕ) (rest : List ℕ) → every (legalFrame k) fs ≡ true
-    → walk (length fs + more) k (flatMap frameBytes fs ++ rest) ≡ after fs (walk more k rest)
+pub walk-over : (fs : List Frame) (more k : ℕ) (rest : List ℕ) → every (legalFrame k) fs ≡ true → walk (length fs + more) k (flatMap frameBytes fs ++ rest) ≡ after fs (walk more k rest)
 unfolding every after flatMap longer
 walk-over [] more k rest h = rw (zero-add, zero-add)
 walk-over (f ∷ fs) more k rest h =
     let l = both-true (legalFrame k f) (every (legalFrame k) fs) h in
-    let s : frame k (frameBytes f ++ (flatMap frameBytes fs ++ rest)) ≡ good f (length (frameBytes f)) =
-    frame-exact k .takes f (flatMap frameBytes fs ++ rest) (l .0) in
+    let s : frame k (frameBytes f ++ (flatMap frameBytes fs ++ rest)) ≡ good f (length (frameBytes f)) = frame-exact k .takes f (flatMap frameBytes fs ++ rest) (l .0) in
     let w : walk (length fs + more) k (flatMap frameBytes fs ++ rest) ≡ after fs (walk more k rest) = walk-over fs more k rest (l .1) in
     rw (suc-add, append-assoc, walk-step (length fs + more) k _ f _ s, drop-append-seam, w, length-append) (rw add-assoc)
 
 -- as many as they are: exactly these
-pub walk-exactly : (fs : List Frame) (k : ℕ) (rest : List ℕ) → every (legalFrame k) fs ≡ true
-    → walk (length fs) k (flatMap frameBytes fs ++ rest) ≡ took fs
-walk-exactly fs k rest h = ap (λ (n : ℕ). walk n k (flatMap frameBytes fs ++ rest)) (sym (add-zero (length fs))) ∙ walk-over fs 0 k rest h
-    ∙ ap (after fs) (walk-none k rest) ∙ after-stopped fs
+pub walk-exactly : (fs : List Frame) (k : ℕ) (rest : List ℕ) → every (legalFrame k) fs ≡ true → walk (length fs) k (flatMap frameBytes fs ++ rest) ≡ took fs
+walk-exactly fs k rest h = ap (λ (n : ℕ). walk n k (flatMap frameBytes fs ++ rest)) (sym (add-zero (length fs))) ∙ walk-over fs 0 k rest h ∙ ap (after fs) (walk-none k rest) ∙ after-stopped fs
 
 -- no frame behind them: the walk stops exactly there, however many it may take
-pub walk-stops : (fs : List Frame) (most k : ℕ) (rest : List ℕ) → length fs ≤ most → every (legalFrame k) fs ≡ true → frame k rest ≡ bad
-    → walk most k (flatMap frameBytes fs ++ rest) ≡ took fs
+pub walk-stops : (fs : List Frame) (most k : ℕ) (rest : List ℕ) → length fs ≤ most → every (legalFrame k) fs ≡ true → frame k rest ≡ bad → walk most k (flatMap frameBytes fs ++ rest) ≡ took fs
 walk-stops fs most k rest m h b =
     let e : most ≡ length fs + (most - length fs) = omega arith in
-    ap (λ (n : ℕ). walk n k (flatMap frameBytes fs ++ rest)) e ∙ walk-over fs (most - length fs) k rest h
-    ∙ ap (after fs) (walk-stop (most - length fs) k rest b) ∙ after-stopped fs
+    ap (λ (n : ℕ). walk n k (flatMap frameBytes fs ++ rest)) e ∙ walk-over fs (most - length fs) k rest h ∙ ap (after fs) (walk-stop (most - length fs) k rest b) ∙ after-stopped fs
 
 -- ── What a walk takes ──
 
@@ -86,8 +80,7 @@ stopped-walked : (most k : ℕ) (s : List ℕ) → Walked most k s stopped
 unfolding stopped every flatMap
 stopped-walked most k s = record { legal = refl; few = omega arith; size = refl; front = refl }
 
-longer-walked : (most k : ℕ) (s : List ℕ) (f : Frame) (n : ℕ) (w : Walk) → legalFrame k f ≡ true → n ≡ length (frameBytes f)
-    → s ≡ frameBytes f ++ drop n s → Walked most k (drop n s) w → Walked (suc most) k s (longer f n w)
+longer-walked : (most k : ℕ) (s : List ℕ) (f : Frame) (n : ℕ) (w : Walk) → legalFrame k f ≡ true → n ≡ length (frameBytes f) → s ≡ frameBytes f ++ drop n s → Walked most k (drop n s) w → Walked (suc most) k s (longer f n w)
 unfolding longer every flatMap
 longer-walked most k s f n w l m e r =
     record {
@@ -101,8 +94,7 @@ pub walk-gives : (most k : ℕ) (s : List ℕ) → areBytes s ≡ true → Walke
 walk-gives zero k s h = rw walk-none (stopped-walked zero k s)
 walk-gives (suc most) k s h = go (frame k s) refl (λ t b. walk-gives most k t b)
   where
-    go : (p : Parsed Frame) → frame k s ≡ p → ((t : List ℕ) → areBytes t ≡ true → Walked most k t (walk most k t))
-        → Walked (suc most) k s (walk (suc most) k s)
+    go : (p : Parsed Frame) → frame k s ≡ p → ((t : List ℕ) → areBytes t ≡ true → Walked most k t (walk most k t)) → Walked (suc most) k s (walk (suc most) k s)
     go bad e more = rw (walk-stop (suc most) k s e) (stopped-walked (suc most) k s)
     go (good f n) e more =
         let g = frame-exact k .gives s f n h e in

@@ -15,11 +15,7 @@ pub data Cursor : Type 0 where
 unfoldable pub standsAt : (bytes : List ℕ) → (place count : ℕ) → Cursor
 standsAt bytes place zero = end
 standsAt bytes place (suc left) =
-    elim (tag (drop place bytes)) [
-      | bad ↦ end
-      | good t n ↦ at (record { start = place + 1; len = length (t .name) })
-          (record { start = place + 1 + length (t .name) + 1; len = length (t .value) }) left
-    ]
+    elim (tag (drop place bytes)) [ bad ↦ end | good t n ↦ at (record { start = place + 1; len = length (t .name) }) (record { start = place + 1 + length (t .name) + 1; len = length (t .value) }) left ]
 
 -- "Over bytes that are not exactly a legal table it is refused 7"; else it stands at the first tag, behind the table's number
 unfoldable pub firstTag : (bytes : List ℕ) → Cursor

@@ -1,3 +1,4 @@
+use borrow.Author.Needs.{needs}
 use Prim.Native.Nat.{_+_, _*_, _≤_}
 use mathlib.Core.Path.{_≡_}
 use lib.ListN.{length, drop}
@@ -23,19 +24,19 @@ loop-holds : tie.Need-loop-holds Inv-loop μ-loop
 loop-holds c = search laws
 
 mul-piece-at : tie.Need-mul-piece-at Inv-loop μ-loop
-mul-piece-at c = search laws
+mul-piece-at c = search needs
 
 shared-slice-read-piece-at : tie.Need-shared-slice-read-piece-at Inv-loop μ-loop
-shared-slice-read-piece-at c = search laws
+shared-slice-read-piece-at c = search needs
 
 piece-at-requires : tie.Need-piece-at-requires Inv-loop μ-loop
-piece-at-requires c κs = search laws
+piece-at-requires c κs = search needs
 
 enum-known-piece : tie.Need-enum-known-piece Inv-loop μ-loop
-enum-known-piece c = search laws
+enum-known-piece c = search needs
 
 enum-told : tie.Need-enum-told Inv-loop μ-loop
-enum-told c = search laws
+enum-told c = search needs
 
 returns : tie.Need-returns Inv-loop μ-loop
 returns c = search laws
@@ -44,22 +45,22 @@ add-more : tie.Need-add-more Inv-loop μ-loop
 add-more c = search laws
 
 tags-in-requires : tie.Need-tags-in-requires Inv-loop μ-loop
-tags-in-requires c κs = search laws
+tags-in-requires c κs = search needs
 
 add-tags : tie.Need-add-tags Inv-loop μ-loop
-add-tags c = search laws
+add-tags c = search needs
 
 add-bytes : tie.Need-add-bytes Inv-loop μ-loop
 add-bytes c = search laws
 
 add-passed : tie.Need-add-passed Inv-loop μ-loop
-add-passed c = search laws
+add-passed c = search needs
 
 sub-left : tie.Need-sub-left Inv-loop μ-loop
-sub-left c = search laws
+sub-left c = search needs
 
 loop-less : tie.Need-loop-less Inv-loop μ-loop
-loop-less c = search laws
+loop-less c = search needs
 
 loop-again : tie.Need-loop-again Inv-loop μ-loop
 loop-again c = search laws

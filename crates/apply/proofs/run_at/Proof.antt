@@ -1,3 +1,4 @@
+use borrow.Author.Needs.{needs}
 use Prim.Native.Nat.{_+_}
 use mathlib.Core.Path.{_≡_}
 use lib.ListN.{length}
@@ -16,43 +17,43 @@ abbrev μ-loop : tie.MeasureT-loop
 μ-loop table at sheet named start place₀ next₀ left₀ place next left = left
 
 sub-left : tie.Need-sub-left Inv-loop μ-loop
-sub-left c = search laws
+sub-left c = search needs
 
 loop-holds : tie.Need-loop-holds Inv-loop μ-loop
 loop-holds c = search laws
 
 mul-still-end : tie.Need-mul-still-end Inv-loop μ-loop
-mul-still-end c = search laws
+mul-still-end c = search needs
 
 shared-slice-read-still-end : tie.Need-shared-slice-read-still-end Inv-loop μ-loop
-shared-slice-read-still-end c = search laws
+shared-slice-read-still-end c = search needs
 
 still-end-requires : tie.Need-still-end-requires Inv-loop μ-loop
-still-end-requires c κs = search laws
+still-end-requires c κs = search needs
 
 enum-known-still : tie.Need-enum-known-still Inv-loop μ-loop
-enum-known-still c = search laws
+enum-known-still c = search needs
 
 enum-told : tie.Need-enum-told Inv-loop μ-loop
-enum-told c = search laws
+enum-told c = search needs
 
 returns : tie.Need-returns Inv-loop μ-loop
-returns c = search laws
+returns c = search needs
 
 add-next : tie.Need-add-next Inv-loop μ-loop
-add-next c = search laws
+add-next c = search needs
 
 sub-left-2 : tie.Need-sub-left-2 Inv-loop μ-loop
-sub-left-2 c = search laws
+sub-left-2 c = search needs
 
 loop-less : tie.Need-loop-less Inv-loop μ-loop
-loop-less c = search laws
+loop-less c = search needs
 
 loop-again : tie.Need-loop-again Inv-loop μ-loop
 loop-again c = search laws
 
 returns-2 : tie.Need-returns-2 Inv-loop μ-loop
-returns-2 c = search laws
+returns-2 c = search needs
 
 pub run-at-spec : {M : Type 1} → statement M
 run-at-spec =

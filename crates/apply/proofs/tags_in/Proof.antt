@@ -1,3 +1,4 @@
+use borrow.Author.Needs.{needs}
 use Rattle.apply.proofs.Sizes.{laws}
 use Rattle.apply.proofs.tags_in.Statement.{statement}
 use Rattle.apply.proofs.tags_in.Tie as tie

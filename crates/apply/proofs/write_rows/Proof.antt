@@ -21,19 +21,19 @@ abbrev μ-loop : tie.MeasureT-loop
 μ-loop side from at sheet others out₀ start place₀ passed₀ to₀ out place passed to = length others - passed
 
 loop-holds : tie.Need-loop-holds Inv-loop μ-loop
-loop-holds c = search laws
+loop-holds c = search needs
 
 part-at-requires : tie.Need-part-at-requires Inv-loop μ-loop
-part-at-requires c κs = search laws
+part-at-requires c κs = search needs
 
 enum-known-part : tie.Need-enum-known-part Inv-loop μ-loop
-enum-known-part c = search laws
+enum-known-part c = search needs
 
 enum-told : tie.Need-enum-told Inv-loop μ-loop
-enum-told c = search laws
+enum-told c = search needs
 
 same-length : tie.Need-same-length Inv-loop μ-loop
-same-length c = search laws
+same-length c = search needs
 
 returns : tie.Need-returns Inv-loop μ-loop
 returns c = search laws
@@ -48,7 +48,7 @@ loop-again : tie.Need-loop-again Inv-loop μ-loop
 loop-again c = search laws
 
 same-length-2 : tie.Need-same-length-2 Inv-loop μ-loop
-same-length-2 c = search laws
+same-length-2 c = search needs
 
 returns-2 : tie.Need-returns-2 Inv-loop μ-loop
 returns-2 c = search laws

@@ -1,9 +1,10 @@
+use borrow.Author.Needs.{needs}
 use Rattle.beginning.proofs.Laws.{laws}
 use Rattle.beginning.proofs.first_piece.Statement.{statement}
 use Rattle.beginning.proofs.first_piece.Tie as tie
 
 refusal-of-requires : tie.Need-refusal-of-requires
-refusal-of-requires c κs = search laws
+refusal-of-requires c κs = search needs
 
 returns : tie.Need-returns
 returns c = search laws
@@ -18,10 +19,10 @@ write-front-requires : tie.Need-write-front-requires
 write-front-requires c κs = search laws
 
 count-of-requires : tie.Need-count-of-requires
-count-of-requires c κs = search laws
+count-of-requires c κs = search needs
 
 same-length : tie.Need-same-length
-same-length c = search laws
+same-length c = search needs
 
 returns-2 : tie.Need-returns-2
 returns-2 c = search laws

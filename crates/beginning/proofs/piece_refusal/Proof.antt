@@ -1,12 +1,13 @@
+use borrow.Author.Needs.{needs}
 use Rattle.beginning.proofs.Laws.{laws}
 use Rattle.beginning.proofs.piece_refusal.Statement.{statement}
 use Rattle.beginning.proofs.piece_refusal.Tie as tie
 
 enum-told : tie.Need-enum-told
-enum-told c = search laws
+enum-told c = search needs
 
 enum-known-piece : tie.Need-enum-known-piece
-enum-known-piece c = search laws
+enum-known-piece c = search needs
 
 returns : tie.Need-returns
 returns c = search laws

@@ -1,15 +1,16 @@
+use borrow.Author.Needs.{needs}
 use Rattle.beginning.proofs.Laws.{laws}
 use Rattle.beginning.proofs.refusal_of.Statement.{statement}
 use Rattle.beginning.proofs.refusal_of.Tie as tie
 
 list-refusal-requires : tie.Need-list-refusal-requires
-list-refusal-requires c κs = search laws
+list-refusal-requires c κs = search needs
 
 returns : tie.Need-returns
 returns c = search laws
 
 bad-system-requires : tie.Need-bad-system-requires
-bad-system-requires c κs = search laws
+bad-system-requires c κs = search needs
 
 returns-2 : tie.Need-returns-2
 returns-2 c = search laws
@@ -18,7 +19,7 @@ returns-3 : tie.Need-returns-3
 returns-3 c = search laws
 
 sub-if4 : tie.Need-sub-if4
-sub-if4 c = search laws
+sub-if4 c = search needs
 
 system-place-requires : tie.Need-system-place-requires
 system-place-requires c κs = search laws

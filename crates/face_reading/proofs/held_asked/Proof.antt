@@ -1,3 +1,4 @@
+use borrow.Author.Needs.{needs}
 use Rattle.face_reading.proofs.Laws.{laws}
 use Rattle.face_reading.proofs.held_asked.Statement.{statement}
 use Rattle.face_reading.proofs.held_asked.Tie as tie

@@ -1,3 +1,4 @@
+use borrow.Author.Needs.{needs}
 use Rattle.face_tags.proofs.Laws.{laws}
 use Rattle.face_tags.proofs.cursor_asked.Statement.{statement}
 use Rattle.face_tags.proofs.cursor_asked.Tie as tie

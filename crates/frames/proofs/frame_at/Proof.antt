@@ -1,15 +1,16 @@
+use borrow.Author.Needs.{needs}
 use Rattle.frames.proofs.Laws.{laws}
 use Rattle.frames.proofs.frame_at.Statement.{statement}
 use Rattle.frames.proofs.frame_at.Tie as tie
 
 frame-end-requires : tie.Need-frame-end-requires
-frame-end-requires c κs = search laws
+frame-end-requires c κs = search needs
 
 enum-known-end : tie.Need-enum-known-end
-enum-known-end c = search laws
+enum-known-end c = search needs
 
 enum-told : tie.Need-enum-told
-enum-told c = search laws
+enum-told c = search needs
 
 returns : tie.Need-returns
 returns c = search laws
@@ -18,13 +19,13 @@ add-read : tie.Need-add-read
 add-read c = search laws
 
 read-requires : tie.Need-read-requires
-read-requires c κs = search laws
+read-requires c κs = search needs
 
 add-read-2 : tie.Need-add-read-2
 add-read-2 c = search laws
 
 read-requires-2 : tie.Need-read-requires-2
-read-requires-2 c κs = search laws
+read-requires-2 c κs = search needs
 
 returns-2 : tie.Need-returns-2
 returns-2 c = search laws

@@ -1,3 +1,4 @@
+use borrow.Author.Needs.{needs}
 use mathlib.Core.Path.{_≡_}
 use Rattle.frames.specs.Frames.{sectionsAt}
 use Rattle.frames.proofs.Laws.{laws}
@@ -11,25 +12,25 @@ abbrev μ-loop : tie.MeasureT-loop
 μ-loop file at sections place₀ left₀ place left = left
 
 loop-holds : tie.Need-loop-holds Inv-loop μ-loop
-loop-holds c = search laws
+loop-holds c = search needs
 
 sized-requires : tie.Need-sized-requires Inv-loop μ-loop
-sized-requires c κs = search laws
+sized-requires c κs = search needs
 
 enum-known-section : tie.Need-enum-known-section Inv-loop μ-loop
-enum-known-section c = search laws
+enum-known-section c = search needs
 
 enum-told : tie.Need-enum-told Inv-loop μ-loop
-enum-told c = search laws
+enum-told c = search needs
 
 returns : tie.Need-returns Inv-loop μ-loop
 returns c = search laws
 
 sub-left : tie.Need-sub-left Inv-loop μ-loop
-sub-left c = search laws
+sub-left c = search needs
 
 loop-less : tie.Need-loop-less Inv-loop μ-loop
-loop-less c = search laws
+loop-less c = search needs
 
 loop-again : tie.Need-loop-again Inv-loop μ-loop
 loop-again c = search laws

@@ -1,3 +1,4 @@
+use borrow.Author.Needs.{needs}
 use Rattle.marks.proofs.Laws.{laws}
 use Rattle.marks.proofs.bit.Statement.{statement}
 use Rattle.marks.proofs.bit.Tie as tie
@@ -5,7 +6,7 @@ use Rattle.marks.proofs.bit.Reads as reads
 use Rattle.marks.proofs.bit.Lts as lts
 
 shl-result : tie.Need-shl-result
-shl-result c = search laws
+shl-result c = search needs
 
 returns : tie.Need-returns
 returns c = search laws

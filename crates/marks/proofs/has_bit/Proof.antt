@@ -1,3 +1,4 @@
+use borrow.Author.Needs.{needs}
 use Rattle.marks.proofs.Laws.{laws}
 use Rattle.marks.proofs.has_bit.Statement.{statement}
 use Rattle.marks.proofs.has_bit.Tie as tie
@@ -5,7 +6,7 @@ use Rattle.marks.proofs.has_bit.Reads as reads
 use Rattle.marks.proofs.has_bit.Lts as lts
 
 shr-result : tie.Need-shr-result
-shr-result c = search laws
+shr-result c = search needs
 
 returns : tie.Need-returns
 returns c = search laws

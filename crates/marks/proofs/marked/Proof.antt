@@ -1,3 +1,4 @@
+use borrow.Author.Needs.{needs}
 use Rattle.marks.proofs.Laws.{laws}
 use Rattle.marks.proofs.marked.Statement.{statement}
 use Rattle.marks.proofs.marked.Tie as tie
@@ -12,13 +13,13 @@ returns-2 : tie.Need-returns-2
 returns-2 c = search laws
 
 mul-has-bits : tie.Need-mul-has-bits
-mul-has-bits c = search laws
+mul-has-bits c = search needs
 
 shared-slice-read-has-bits : tie.Need-shared-slice-read-has-bits
-shared-slice-read-has-bits c = search laws
+shared-slice-read-has-bits c = search needs
 
 has-bits-requires : tie.Need-has-bits-requires
-has-bits-requires c κs = search laws
+has-bits-requires c κs = search needs
 
 returns-3 : tie.Need-returns-3
 returns-3 c = search laws

@@ -1,3 +1,4 @@
+use borrow.Author.Needs.{needs}
 use Rattle.marks.proofs.Laws.{laws}
 use Rattle.marks.proofs.mix.Statement.{statement}
 use Rattle.marks.proofs.mix.Tie as tie
@@ -5,10 +6,10 @@ use Rattle.marks.proofs.mix.Reads as reads
 use Rattle.marks.proofs.mix.Lts as lts
 
 mul-result : tie.Need-mul-result
-mul-result c = search laws
+mul-result c = search needs
 
 add-result : tie.Need-add-result
-add-result c = search laws
+add-result c = search needs
 
 returns : tie.Need-returns
 returns c = search laws

@@ -1,3 +1,4 @@
+use borrow.Author.Needs.{needs}
 use mathlib.Core.Path.{_≡_}
 use lib.ListN.{drop}
 use Rattle.layout.specs.Recording.{distinct}
@@ -21,37 +22,37 @@ loop-holds : tie.Need-loop-holds Inv-loop μ-loop
 loop-holds c = search laws
 
 row-at-requires : tie.Need-row-at-requires Inv-loop μ-loop
-row-at-requires c κs = search laws
+row-at-requires c κs = search needs
 
 enum-known-found : tie.Need-enum-known-found Inv-loop μ-loop
-enum-known-found c = search laws
+enum-known-found c = search needs
 
 enum-told : tie.Need-enum-told Inv-loop μ-loop
-enum-told c = search laws
+enum-told c = search needs
 
 returns : tie.Need-returns Inv-loop μ-loop
 returns c = search laws
 
 sub-left : tie.Need-sub-left Inv-loop μ-loop
-sub-left c = search laws
+sub-left c = search needs
 
 add-find-name : tie.Need-add-find-name Inv-loop μ-loop
 add-find-name c = search laws
 
 find-name-requires : tie.Need-find-name-requires Inv-loop μ-loop
-find-name-requires c κs = search laws
+find-name-requires c κs = search needs
 
 enum-told-2 : tie.Need-enum-told-2 Inv-loop μ-loop
-enum-told-2 c = search laws
+enum-told-2 c = search needs
 
 enum-told-3 : tie.Need-enum-told-3 Inv-loop μ-loop
-enum-told-3 c = search laws
+enum-told-3 c = search needs
 
 returns-2 : tie.Need-returns-2 Inv-loop μ-loop
 returns-2 c = search laws
 
 loop-less : tie.Need-loop-less Inv-loop μ-loop
-loop-less c = search laws
+loop-less c = search needs
 
 loop-again : tie.Need-loop-again Inv-loop μ-loop
 loop-again c = search laws

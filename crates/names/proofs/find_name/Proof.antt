@@ -1,3 +1,4 @@
+use borrow.Author.Needs.{needs}
 use Prim.Native.Nat.{_≤_, _+_}
 use mathlib.Core.Path.{_≡_}
 use lib.ListN.{length, take, drop}
@@ -23,7 +24,7 @@ returns : tie.Need-returns Inv-loop μ-loop
 returns c = search laws
 
 sub-if2 : tie.Need-sub-if2 Inv-loop μ-loop
-sub-if2 c = search laws
+sub-if2 c = search needs
 
 returns-2 : tie.Need-returns-2 Inv-loop μ-loop
 returns-2 c = search laws
@@ -32,13 +33,13 @@ loop-holds : tie.Need-loop-holds Inv-loop μ-loop
 loop-holds c = search laws
 
 row-at-requires : tie.Need-row-at-requires Inv-loop μ-loop
-row-at-requires c κs = search laws
+row-at-requires c κs = search needs
 
 enum-known-found : tie.Need-enum-known-found Inv-loop μ-loop
-enum-known-found c = search laws
+enum-known-found c = search needs
 
 enum-told : tie.Need-enum-told Inv-loop μ-loop
-enum-told c = search laws
+enum-told c = search needs
 
 returns-3 : tie.Need-returns-3 Inv-loop μ-loop
 returns-3 c = search laws
@@ -53,13 +54,13 @@ returns-4 : tie.Need-returns-4 Inv-loop μ-loop
 returns-4 c = search laws
 
 add-passed : tie.Need-add-passed Inv-loop μ-loop
-add-passed c = search laws
+add-passed c = search needs
 
 sub-left : tie.Need-sub-left Inv-loop μ-loop
-sub-left c = search laws
+sub-left c = search needs
 
 loop-less : tie.Need-loop-less Inv-loop μ-loop
-loop-less c = search laws
+loop-less c = search needs
 
 loop-again : tie.Need-loop-again Inv-loop μ-loop
 loop-again c = search laws

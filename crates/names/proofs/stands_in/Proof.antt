@@ -1,3 +1,4 @@
+use borrow.Author.Needs.{needs}
 use Rattle.names.proofs.Marked.{laws}
 use Rattle.names.proofs.stands_in.Statement.{statement}
 use Rattle.names.proofs.stands_in.Tie as tie
@@ -7,19 +8,19 @@ use Rattle.marks.proofs.marked.Reads as marked-reads
 use Rattle.names.proofs.find_name.Reads as find-name-reads
 
 marked-requires : tie.Need-marked-requires
-marked-requires c κs = search laws
+marked-requires c κs = search needs
 
 returns : tie.Need-returns
 returns c = search laws
 
 find-name-requires : tie.Need-find-name-requires
-find-name-requires c κs = search laws
+find-name-requires c κs = search needs
 
 enum-told : tie.Need-enum-told
-enum-told c = search laws
+enum-told c = search needs
 
 enum-told-2 : tie.Need-enum-told-2
-enum-told-2 c = search laws
+enum-told-2 c = search needs
 
 returns-2 : tie.Need-returns-2
 returns-2 c = search laws

@@ -1,3 +1,4 @@
+use borrow.Author.Needs.{needs}
 use Prim.Native.Nat.{_≤_, _+_, _-_}
 use mathlib.Core.Path.{_≡_}
 use lib.ListN.{length}
@@ -20,7 +21,7 @@ returns : tie.Need-returns Inv-loop μ-loop
 returns c = search laws
 
 sub-if2 : tie.Need-sub-if2 Inv-loop μ-loop
-sub-if2 c = search laws
+sub-if2 c = search needs
 
 returns-2 : tie.Need-returns-2 Inv-loop μ-loop
 returns-2 c = search laws
@@ -29,25 +30,25 @@ loop-holds : tie.Need-loop-holds Inv-loop μ-loop
 loop-holds c = search laws
 
 cast-out : tie.Need-cast-out Inv-loop μ-loop
-cast-out c = search laws
+cast-out c = search needs
 
 add-out : tie.Need-add-out Inv-loop μ-loop
-add-out c = search laws
+add-out c = search needs
 
 slice-write-out : tie.Need-slice-write-out Inv-loop μ-loop
-slice-write-out c = search laws
+slice-write-out c = search needs
 
 add-i : tie.Need-add-i Inv-loop μ-loop
-add-i c = search laws
+add-i c = search needs
 
 loop-less : tie.Need-loop-less Inv-loop μ-loop
-loop-less c = search laws
+loop-less c = search needs
 
 loop-again : tie.Need-loop-again Inv-loop μ-loop
 loop-again c = search laws
 
 same-length : tie.Need-same-length Inv-loop μ-loop
-same-length c = search laws
+same-length c = search needs
 
 returns-3 : tie.Need-returns-3 Inv-loop μ-loop
 returns-3 c = search laws

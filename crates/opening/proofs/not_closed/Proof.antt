@@ -1,3 +1,4 @@
+use borrow.Author.Needs.{needs}
 use Rattle.opening.proofs.Laws.{laws}
 use Rattle.opening.proofs.not_closed.Statement.{statement}
 use Rattle.opening.proofs.not_closed.Tie as tie

@@ -1,3 +1,4 @@
+use borrow.Author.Needs.{needs}
 use Prim.Native.Nat.{_+_, _*_, _≤_}
 use mathlib.Core.Path.{_≡_}
 use lib.ListN.{length}
@@ -15,19 +16,19 @@ abbrev μ-loop : tie.MeasureT-loop
 μ-loop file sections start count index first place₀ entry₀ last₀ left₀ place entry last left = left
 
 add-entry : tie.Need-add-entry Inv-loop μ-loop
-add-entry c = search frames-laws
+add-entry c = search needs
 
 loop-holds : tie.Need-loop-holds Inv-loop μ-loop
-loop-holds c = search frames-laws
+loop-holds c = search needs
 
 frame-end-requires : tie.Need-frame-end-requires Inv-loop μ-loop
-frame-end-requires c κs = search frames-laws
+frame-end-requires c κs = search needs
 
 enum-known-end : tie.Need-enum-known-end Inv-loop μ-loop
-enum-known-end c = search frames-laws
+enum-known-end c = search needs
 
 enum-told : tie.Need-enum-told Inv-loop μ-loop
-enum-told c = search frames-laws
+enum-told c = search needs
 
 returns : tie.Need-returns Inv-loop μ-loop
 returns c = search frames-laws
@@ -36,16 +37,16 @@ add-read : tie.Need-add-read Inv-loop μ-loop
 add-read c = search frames-laws
 
 read-requires : tie.Need-read-requires Inv-loop μ-loop
-read-requires c κs = search frames-laws
+read-requires c κs = search needs
 
 follows-last-requires : tie.Need-follows-last-requires Inv-loop μ-loop
-follows-last-requires c κs = search frames-laws
+follows-last-requires c κs = search needs
 
 returns-2 : tie.Need-returns-2 Inv-loop μ-loop
 returns-2 c = search frames-laws
 
 since-requires : tie.Need-since-requires Inv-loop μ-loop
-since-requires c κs = search frames-laws
+since-requires c κs = search needs
 
 sub-other-entry : tie.Need-sub-other-entry Inv-loop μ-loop
 sub-other-entry c = search frames-laws
@@ -57,13 +58,13 @@ returns-3 : tie.Need-returns-3 Inv-loop μ-loop
 returns-3 c = search frames-laws
 
 add-entry-2 : tie.Need-add-entry-2 Inv-loop μ-loop
-add-entry-2 c = search frames-laws
+add-entry-2 c = search needs
 
 sub-left : tie.Need-sub-left Inv-loop μ-loop
-sub-left c = search frames-laws
+sub-left c = search needs
 
 loop-less : tie.Need-loop-less Inv-loop μ-loop
-loop-less c = search frames-laws
+loop-less c = search needs
 
 loop-again : tie.Need-loop-again Inv-loop μ-loop
 loop-again c = search frames-laws

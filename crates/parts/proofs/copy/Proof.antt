@@ -1,3 +1,4 @@
+use borrow.Author.Needs.{needs}
 use Prim.Native.Nat.{_≤_, _+_, _-_}
 use mathlib.Core.Path.{_≡_}
 use lib.ListN.{length, take, drop}
@@ -19,7 +20,7 @@ returns : tie.Need-returns Inv-loop μ-loop
 returns c = search laws
 
 sub-if2 : tie.Need-sub-if2 Inv-loop μ-loop
-sub-if2 c = search laws
+sub-if2 c = search needs
 
 returns-2 : tie.Need-returns-2 Inv-loop μ-loop
 returns-2 c = search laws
@@ -28,7 +29,7 @@ returns-3 : tie.Need-returns-3 Inv-loop μ-loop
 returns-3 c = search laws
 
 sub-if4 : tie.Need-sub-if4 Inv-loop μ-loop
-sub-if4 c = search laws
+sub-if4 c = search needs
 
 returns-4 : tie.Need-returns-4 Inv-loop μ-loop
 returns-4 c = search laws
@@ -37,28 +38,28 @@ loop-holds : tie.Need-loop-holds Inv-loop μ-loop
 loop-holds c = search laws
 
 add-to : tie.Need-add-to Inv-loop μ-loop
-add-to c = search laws
+add-to c = search needs
 
 shared-slice-read-to : tie.Need-shared-slice-read-to Inv-loop μ-loop
-shared-slice-read-to c = search laws
+shared-slice-read-to c = search needs
 
 add-to-2 : tie.Need-add-to-2 Inv-loop μ-loop
-add-to-2 c = search laws
+add-to-2 c = search needs
 
 slice-write-to : tie.Need-slice-write-to Inv-loop μ-loop
-slice-write-to c = search laws
+slice-write-to c = search needs
 
 add-i : tie.Need-add-i Inv-loop μ-loop
-add-i c = search laws
+add-i c = search needs
 
 loop-less : tie.Need-loop-less Inv-loop μ-loop
-loop-less c = search laws
+loop-less c = search needs
 
 loop-again : tie.Need-loop-again Inv-loop μ-loop
 loop-again c = (search laws, search laws, search laws, search laws, search laws)
 
 same-length : tie.Need-same-length Inv-loop μ-loop
-same-length c = search laws
+same-length c = search needs
 
 returns-5 : tie.Need-returns-5 Inv-loop μ-loop
 returns-5 c = search laws

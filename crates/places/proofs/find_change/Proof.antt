@@ -1,3 +1,4 @@
+use borrow.Author.Needs.{needs}
 use Rattle.places.proofs.Searches.{laws}
 use Rattle.places.proofs.find_change.Statement.{statement}
 use Rattle.places.proofs.find_change.Tie as tie
@@ -8,19 +9,19 @@ use Rattle.marks.proofs.marked.Reads as marked-reads
 use Rattle.places.proofs.search_changes.Reads as search-changes-reads
 
 mark-of-requires : tie.Need-mark-of-requires
-mark-of-requires c κs = search laws
+mark-of-requires c κs = search needs
 
 marked-requires : tie.Need-marked-requires
-marked-requires c κs = search laws
+marked-requires c κs = search needs
 
 returns : tie.Need-returns
 returns c = search laws
 
 search-changes-requires : tie.Need-search-changes-requires
-search-changes-requires c κs = search laws
+search-changes-requires c κs = search needs
 
 returns-2 : tie.Need-returns-2
-returns-2 c = search laws
+returns-2 c = search needs
 
 pub find-change-spec : {M : Type 1} → statement M
 find-change-spec =

@@ -1,3 +1,4 @@
+use borrow.Author.Needs.{needs}
 use Rattle.places.proofs.Searches.{laws}
 use Rattle.places.proofs.is_named.Statement.{statement}
 use Rattle.places.proofs.is_named.Tie as tie
@@ -9,13 +10,13 @@ returns : tie.Need-returns
 returns c = search laws
 
 find-name-requires : tie.Need-find-name-requires
-find-name-requires c κs = search laws
+find-name-requires c κs = search needs
 
 enum-told : tie.Need-enum-told
-enum-told c = search laws
+enum-told c = search needs
 
 enum-told-2 : tie.Need-enum-told-2
-enum-told-2 c = search laws
+enum-told-2 c = search needs
 
 returns-2 : tie.Need-returns-2
 returns-2 c = search laws

@@ -1,3 +1,4 @@
+use borrow.Author.Needs.{needs}
 use Rattle.repair.proofs.Laws.{laws}
 use Rattle.repair.proofs.common_length.Statement.{statement}
 use Rattle.repair.proofs.common_length.Tie as tie

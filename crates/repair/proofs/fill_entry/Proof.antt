@@ -1,3 +1,4 @@
+use borrow.Author.Needs.{needs}
 use Rattle.repair.proofs.Laws.{laws}
 use Rattle.repair.proofs.fill_entry.Statement.{statement}
 use Rattle.repair.proofs.fill_entry.Tie as tie
@@ -7,19 +8,19 @@ use Rattle.number.proofs.write.Reads as write-reads
 use Rattle.times.proofs.since.Reads as since-reads
 
 since-requires : tie.Need-since-requires
-since-requires c κs = search laws
+since-requires c κs = search needs
 
 write-requires : tie.Need-write-requires
-write-requires c κs = search laws
+write-requires c κs = search needs
 
 write-requires-2 : tie.Need-write-requires-2
-write-requires-2 c κs = search laws
+write-requires-2 c κs = search needs
 
 write-requires-3 : tie.Need-write-requires-3
-write-requires-3 c κs = search laws
+write-requires-3 c κs = search needs
 
 same-length : tie.Need-same-length
-same-length c = search laws
+same-length c = search needs
 
 returns : tie.Need-returns
 returns c = search laws

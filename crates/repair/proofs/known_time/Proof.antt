@@ -1,21 +1,22 @@
+use borrow.Author.Needs.{needs}
 use Rattle.repair.proofs.Laws.{laws}
 use Rattle.repair.proofs.known_time.Statement.{statement}
 use Rattle.repair.proofs.known_time.Tie as tie
 
 add-end : tie.Need-add-end
-add-end c = search laws
+add-end c = search needs
 
 sub-read : tie.Need-sub-read
-sub-read c = search laws
+sub-read c = search needs
 
 part-read-start : tie.Need-part-read-start
-part-read-start c = search laws
+part-read-start c = search needs
 
 part-read-end : tie.Need-part-read-end
-part-read-end c = search laws
+part-read-end c = search needs
 
 read-requires : tie.Need-read-requires
-read-requires c κs = search laws
+read-requires c κs = search needs
 
 returns : tie.Need-returns
 returns c = search laws

@@ -1,15 +1,16 @@
+use borrow.Author.Needs.{needs}
 use Rattle.repair.proofs.Laws.{laws}
 use Rattle.repair.proofs.next_place.Statement.{statement}
 use Rattle.repair.proofs.next_place.Tie as tie
 
 frame-end-requires : tie.Need-frame-end-requires
-frame-end-requires c κs = search laws
+frame-end-requires c κs = search needs
 
 enum-known-end : tie.Need-enum-known-end
-enum-known-end c = search laws
+enum-known-end c = search needs
 
 enum-told : tie.Need-enum-told
-enum-told c = search laws
+enum-told c = search needs
 
 returns : tie.Need-returns
 returns c = search laws

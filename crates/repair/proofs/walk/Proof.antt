@@ -1,3 +1,4 @@
+use borrow.Author.Needs.{needs}
 use Prim.Native.Nat.{_+_, _≤_}
 use mathlib.Core.Path.{_≡_}
 use Rattle.repair.specs.Repaired.{walkedFrom, walkedIn}
@@ -13,22 +14,22 @@ abbrev μ-loop : tie.MeasureT-loop
 μ-loop file sections start first count₀ place₀ last₀ common₀ left₀ count place last common left = left
 
 add-read : tie.Need-add-read Inv-loop μ-loop
-add-read c = search laws
+add-read c = search needs
 
 read-requires : tie.Need-read-requires Inv-loop μ-loop
-read-requires c κs = search laws
+read-requires c κs = search needs
 
 loop-holds : tie.Need-loop-holds Inv-loop μ-loop
 loop-holds c = search laws
 
 frame-end-requires : tie.Need-frame-end-requires Inv-loop μ-loop
-frame-end-requires c κs = search laws
+frame-end-requires c κs = search needs
 
 enum-known-end : tie.Need-enum-known-end Inv-loop μ-loop
-enum-known-end c = search laws
+enum-known-end c = search needs
 
 enum-told : tie.Need-enum-told Inv-loop μ-loop
-enum-told c = search laws
+enum-told c = search needs
 
 returns : tie.Need-returns Inv-loop μ-loop
 returns c = search laws
@@ -37,10 +38,10 @@ add-read-2 : tie.Need-add-read-2 Inv-loop μ-loop
 add-read-2 c = search laws
 
 read-requires-2 : tie.Need-read-requires-2 Inv-loop μ-loop
-read-requires-2 c κs = search laws
+read-requires-2 c κs = search needs
 
 follows-last-requires : tie.Need-follows-last-requires Inv-loop μ-loop
-follows-last-requires c κs = search laws
+follows-last-requires c κs = search needs
 
 returns-2 : tie.Need-returns-2 Inv-loop μ-loop
 returns-2 c = search laws
@@ -49,16 +50,16 @@ sub-common-length : tie.Need-sub-common-length Inv-loop μ-loop
 sub-common-length c = search laws
 
 common-length-requires : tie.Need-common-length-requires Inv-loop μ-loop
-common-length-requires c κs = search laws
+common-length-requires c κs = search needs
 
 add-count : tie.Need-add-count Inv-loop μ-loop
-add-count c = search laws
+add-count c = search needs
 
 sub-left : tie.Need-sub-left Inv-loop μ-loop
-sub-left c = search laws
+sub-left c = search needs
 
 loop-less : tie.Need-loop-less Inv-loop μ-loop
-loop-less c = search laws
+loop-less c = search needs
 
 loop-again : tie.Need-loop-again Inv-loop μ-loop
 loop-again c = search laws

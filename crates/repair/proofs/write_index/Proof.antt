@@ -18,7 +18,7 @@ write-requires : tie.Need-write-requires
 write-requires c κs = search needs
 
 write-entries-requires : tie.Need-write-entries-requires
-write-entries-requires c κs = search laws
+write-entries-requires c κs = search needs
 
 same-length : tie.Need-same-length
 same-length c = search needs

@@ -8,7 +8,7 @@ use Rattle.repair.proofs.write_empty_table.Reads as write-empty-table-r
 use Rattle.repair.proofs.write_index.Reads as write-index-reads
 
 write-index-requires : tie.Need-write-index-requires
-write-index-requires c κs = search laws
+write-index-requires c κs = search needs
 
 mul-write-empty-table : tie.Need-mul-write-empty-table
 mul-write-empty-table c = search needs

@@ -13,7 +13,7 @@ enum-known-looked : tie.Need-enum-known-looked
 enum-known-looked c = search needs
 
 at-requires : tie.Need-at-requires
-at-requires c κs = search laws
+at-requires c κs = search needs
 
 same-length : tie.Need-same-length
 same-length c = search needs

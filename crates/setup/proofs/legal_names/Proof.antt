@@ -1,3 +1,4 @@
+use borrow.Author.Needs.{needs}
 use mathlib.Core.Path.{_≡_}
 use lib.ListN.{drop}
 use Rattle.layout.specs.Recording.{every, legalSectionName, sectionNames}
@@ -14,37 +15,37 @@ abbrev μ-loop : tie.MeasureT-loop
 μ-loop setup n place₀ left₀ place left = left
 
 loop-holds : tie.Need-loop-holds Inv-loop μ-loop
-loop-holds c = search setups
+loop-holds c = search needs
 
 row-at-requires : tie.Need-row-at-requires Inv-loop μ-loop
-row-at-requires c κs = search setups
+row-at-requires c κs = search needs
 
 enum-known-row : tie.Need-enum-known-row Inv-loop μ-loop
-enum-known-row c = search setups
+enum-known-row c = search needs
 
 enum-told : tie.Need-enum-told Inv-loop μ-loop
-enum-told c = search setups
+enum-told c = search needs
 
 returns : tie.Need-returns Inv-loop μ-loop
 returns c = search setups
 
 section-name-requires : tie.Need-section-name-requires Inv-loop μ-loop
-section-name-requires c κs = search setups
+section-name-requires c κs = search needs
 
 enum-told-2 : tie.Need-enum-told-2 Inv-loop μ-loop
-enum-told-2 c = search setups
+enum-told-2 c = search needs
 
 enum-told-3 : tie.Need-enum-told-3 Inv-loop μ-loop
-enum-told-3 c = search setups
+enum-told-3 c = search needs
 
 returns-2 : tie.Need-returns-2 Inv-loop μ-loop
 returns-2 c = search setups
 
 sub-left : tie.Need-sub-left Inv-loop μ-loop
-sub-left c = search setups
+sub-left c = search needs
 
 loop-less : tie.Need-loop-less Inv-loop μ-loop
-loop-less c = search setups
+loop-less c = search needs
 
 loop-again : tie.Need-loop-again Inv-loop μ-loop
 loop-again c = search setups

@@ -1,9 +1,10 @@
+use borrow.Author.Needs.{needs}
 use Rattle.setup.proofs.SetUp.{setups}
 use Rattle.setup.proofs.list_refusal.Statement.{statement}
 use Rattle.setup.proofs.list_refusal.Tie as tie
 
 incomplete-requires : tie.Need-incomplete-requires
-incomplete-requires c κs = search setups
+incomplete-requires c κs = search needs
 
 returns : tie.Need-returns
 returns c = search setups

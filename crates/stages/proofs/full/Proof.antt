@@ -1,3 +1,4 @@
+use borrow.Author.Needs.{needs}
 use Rattle.stages.proofs.Limits.{laws}
 use Rattle.stages.proofs.full.Statement.{statement}
 use Rattle.stages.proofs.full.Tie as tie
@@ -12,13 +13,13 @@ returns-3 : tie.Need-returns-3
 returns-3 c = search laws
 
 add-too-long : tie.Need-add-too-long
-add-too-long c = search laws
+add-too-long c = search needs
 
 add-too-long-2 : tie.Need-add-too-long-2
-add-too-long-2 c = search laws
+add-too-long-2 c = search needs
 
 too-long-requires : tie.Need-too-long-requires
-too-long-requires c κs = search laws
+too-long-requires c κs = search needs
 
 returns-4 : tie.Need-returns-4
 returns-4 c = search laws

@@ -1,3 +1,4 @@
+use borrow.Author.Needs.{needs}
 use Rattle.writing.proofs.Laws.{laws}
 use Rattle.writing.proofs.note_frame.Statement.{statement}
 use Rattle.writing.proofs.note_frame.Tie as tie
@@ -9,19 +10,19 @@ returns-2 : tie.Need-returns-2
 returns-2 c = search laws
 
 mul-if3 : tie.Need-mul-if3
-mul-if3 c = search laws
+mul-if3 c = search needs
 
 add-if3 : tie.Need-add-if3
-add-if3 c = search laws
+add-if3 c = search needs
 
 returns-3 : tie.Need-returns-3
 returns-3 c = search laws
 
 write-note-requires : tie.Need-write-note-requires
-write-note-requires c κs = search laws
+write-note-requires c κs = search needs
 
 same-length : tie.Need-same-length
-same-length c = search laws
+same-length c = search needs
 
 returns-4 : tie.Need-returns-4
 returns-4 c = search laws

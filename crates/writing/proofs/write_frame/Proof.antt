@@ -1,3 +1,4 @@
+use borrow.Author.Needs.{needs}
 use Rattle.writing.proofs.Laws.{laws}
 use Rattle.writing.proofs.write_frame.Statement.{statement}
 use Rattle.writing.proofs.write_frame.Tie as tie
@@ -6,25 +7,25 @@ returns : tie.Need-returns
 returns c = search laws
 
 sub-if2 : tie.Need-sub-if2
-sub-if2 c = search laws
+sub-if2 c = search needs
 
 returns-2 : tie.Need-returns-2
 returns-2 c = search laws
 
 write-requires : tie.Need-write-requires
-write-requires c κs = search laws
+write-requires c κs = search needs
 
 write-requires-2 : tie.Need-write-requires-2
-write-requires-2 c κs = search laws
+write-requires-2 c κs = search needs
 
 write-requires-3 : tie.Need-write-requires-3
-write-requires-3 c κs = search laws
+write-requires-3 c κs = search needs
 
 copy-requires : tie.Need-copy-requires
-copy-requires c κs = search laws
+copy-requires c κs = search needs
 
 same-length : tie.Need-same-length
-same-length c = search laws
+same-length c = search needs
 
 returns-3 : tie.Need-returns-3
 returns-3 c = search laws

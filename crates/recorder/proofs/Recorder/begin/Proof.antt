@@ -1,39 +1,40 @@
+use borrow.Author.Needs.{needs}
 use Rattle.recorder.proofs.Laws.{begin-laws}
 use Rattle.recorder.proofs.Recorder.begin.Statement.{statement}
 use Rattle.recorder.proofs.Recorder.begin.Tie as tie
 
 is-fresh-requires : tie.Need-is-fresh-requires
-is-fresh-requires c κs = search begin-laws
+is-fresh-requires c κs = search needs
 
 returns : tie.Need-returns
 returns c = search begin-laws
 
 first-piece-requires : tie.Need-first-piece-requires
-first-piece-requires c κs = search begin-laws
+first-piece-requires c κs = search needs
 
 enum-known-first : tie.Need-enum-known-first
-enum-known-first c = search begin-laws
+enum-known-first c = search needs
 
 enum-told : tie.Need-enum-told
-enum-told c = search begin-laws
+enum-told c = search needs
 
 piece-refusal-requires : tie.Need-piece-refusal-requires
-piece-refusal-requires c κs = search begin-laws
+piece-refusal-requires c κs = search needs
 
 same-length : tie.Need-same-length
-same-length c = search begin-laws
+same-length c = search needs
 
 returns-2 : tie.Need-returns-2
 returns-2 c = search begin-laws
 
 write-requires : tie.Need-write-requires
-write-requires c κs = search begin-laws
+write-requires c κs = search needs
 
 same-length-2 : tie.Need-same-length-2
-same-length-2 c = search begin-laws
+same-length-2 c = search needs
 
 same-length-3 : tie.Need-same-length-3
-same-length-3 c = search begin-laws
+same-length-3 c = search needs
 
 returns-3 : tie.Need-returns-3
 returns-3 c = search begin-laws

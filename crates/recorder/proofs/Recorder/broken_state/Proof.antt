@@ -10,7 +10,7 @@ pattern-of-requires-2 : tie.Need-pattern-of-requires-2
 pattern-of-requires-2 c κs = search needs
 
 broken-requires : tie.Need-broken-requires
-broken-requires c κs = search close-laws
+broken-requires c κs = search needs
 
 returns : tie.Need-returns
 returns c = search close-laws

@@ -1,3 +1,4 @@
+use borrow.Author.Needs.{needs}
 use Rattle.recorder.proofs.Laws.{begin-laws}
 use Rattle.recorder.proofs.Recorder.new.Statement.{statement}
 use Rattle.recorder.proofs.Recorder.new.Tie as tie
