@@ -5,5 +5,4 @@ pub mod Adding
 pub mod Beginning
 pub mod Laws
 pub mod Bridge
-pub mod Chained
 pub mod Outcomes

@@ -22,10 +22,10 @@ use Rattle.layout.proofs.CutRepairs.{Recovers}
 use Rattle.layout.proofs.Condition3.{closedThere}
 use Rattle.stages.specs.Stages.{stageOf}
 use Rattle.stages.specs.declared.Stage.the-variants.{Fresh, Closed}
 use Rattle.recorder.specs.Recorded.{stateOf, answered, takenOf, madeOf, beginOf, addOf, closeOf}
-use Rattle.recorder.specs.Chains.{LentCall, begins, adds, closes, Chain, piecesIn, after, chained, chain, recording, fileMade, fileCut, callOf, Typed, AllTyped}
+use Rattle.chained.specs.Chains.{LentCall, begins, adds, closes, Chain, piecesIn, after, chained, chain, recording, fileMade, fileCut, callOf, Typed, AllTyped}
 use Rattle.recorder.specs.declared.Recorder.{Recorder}
 use Rattle.recorder.proofs.Bridge.{Held, begin-state, add-state, close-state, begin-held, add-held, close-held, piece-there}
 
 -- ── One call ──
 
