@@ -22,7 +22,8 @@ use Rattle.layout.proofs.CutRepairs.{Recovers}
 use Rattle.layout.proofs.Condition3.{closedThere}
 use Rattle.stages.specs.Stages.{stageOf}
 use Rattle.stages.specs.declared.Stage.the-variants.{Fresh, Closed}
-use Rattle.recorder.specs.Recorded.{stateOf, answered, takenOf, madeOf, beginOf, addOf, closeOf}
+use Rattle.limits.specs.Limits.{stateIn}
+use Rattle.recorder.specs.Recorded.{numbersOf, stateOf, answered, takenOf, madeOf, beginOf, addOf, closeOf}
 use Rattle.chained.specs.Chains.{LentCall, begins, adds, closes, Chain, piecesIn, after, chained, chain, recording, fileMade, fileCut, callOf, Typed, AllTyped}
 use Rattle.recorder.specs.declared.Recorder.{Recorder}
 use Rattle.recorder.proofs.Bridge.{Held, begin-state, add-state, close-state, begin-held, add-held, close-held, piece-there}
@@ -116,11 +117,11 @@ module _ (r : Recorder) (notes : List ℕ) (calls : List LentCall) (held : Held 
       (s .sameState, s .sameNotes, s .samePieces)
 
   begun : stateOf r .stage ≡ layout.fresh
-  unfolding stateOf stageOf
+  unfolding stateOf stateIn numbersOf stageOf
   begun = ap stageOf fresh
 
   closed-so : recording r notes calls .recorder .stage ≡ Closed → ours .state .stage ≡ layout.closed
-  unfolding stateOf stageOf
+  unfolding stateOf stateIn numbersOf stageOf
   closed-so c = sym (ap (λ (st : State). st .stage) (chain-session .0)) ∙ ap stageOf c
 
   made-is : fileMade (recording r notes calls) ≡ fileOf ours

@@ -7,13 +7,10 @@ use lib.ListN.{length}
 use Rattle.layout.specs.Recorder.{State, Step, answer, filled}
 use Rattle.refusal.specs.Refusal.{plain}
 use Rattle.refusal.specs.declared.Refusal.{Refusal}
+use Rattle.limits.proofs.Sound.{number-is}
 use Rattle.recorder.specs.Recorded.{recorderOf, made, answered, takenOf, madeOf}
 use Rattle.recorder.specs.declared.Recorder.{Recorder}
 use Rattle.recorder.specs.declared.Piece.the-variants.{Given, Refused}
-
--- a refusal is its number
-pub number-is : (n : Refusal) (m : ℕ) → n ≡ plain m → n .number ≡ m
-number-is n m e = ap (λ (x : Refusal). x .number) e
 
 -- the number, the recorder as it was, and no lent byte changed
 pub refused-made : (r : Recorder) (st : State) (notes out : List ℕ) (n : Refusal) (m : ℕ) (step : Step) → n ≡ plain m → (n .number ≡ 0 → ⊥)

@@ -22,7 +22,8 @@ use Rattle.beginning.specs.declared.FirstPiece.{FirstPiece}
 use Rattle.beginning.specs.declared.FirstPiece.the-variants as first
 use Rattle.beginning.proofs.Pieces.{writable}
 use Rattle.stages.specs.Stages.{stageOf, toStage}
-use Rattle.recorder.specs.Recorded.{stateOf, recorderOf, made, beginOf}
+use Rattle.limits.specs.Limits.{stateIn}
+use Rattle.recorder.specs.Recorded.{numbersOf, stateOf, recorderOf, made, beginOf}
 use Rattle.recorder.specs.declared.Recorder.{Recorder}
 use Rattle.stages.specs.declared.Stage.the-variants.{Running}
 use Rattle.recorder.specs.declared.Piece.the-variants.{Given, Refused}
@@ -36,7 +37,7 @@ zeros = refl
 -- 12 "the recorder's stage does not take this call"
 pub begin-stage : (r : Recorder) (s system notes out : List ℕ) (t : Bool) → t ≡ isFresh (stageOf (r .stage)) → t ≡ false
     → made (record { state = r; piece = Refused (plain 12) }) notes out ≡ beginOf r s system notes out
-unfolding beginOf layout.begin beginLines stateOf
+unfolding beginOf layout.begin beginLines stateOf stateIn numbersOf
 begin-stage r s system notes out t e h =
     let k : firstOf (beginLines (stateOf r) s system notes (length out)) ≡ 12 = line-holds 12 _ _ (rw (sym e ∙ h)) in
     refused-made r (stateOf r) notes out (plain 12) _ _ (ap plain (sym k)) (λ z. omega arith)
@@ -44,7 +45,7 @@ begin-stage r s system notes out t e h =
 -- the stage takes the call: the lines behind 12 are those of the first piece
 module _ (r : Recorder) (s system notes out : List ℕ) (t : Bool) (te : t ≡ isFresh (stageOf (r .stage))) (th : t ≡ true) where
   behind : firstOf (beginLines (stateOf r) s system notes (length out)) ≡ pieceRefusal s system (length notes) (length out)
-  unfolding beginLines pieceRefusal stateOf
+  unfolding beginLines pieceRefusal stateOf stateIn numbersOf
   behind = line-pass 12 _ _ (rw (sym te ∙ th))
 
   -- what the first piece answers, by its number

@@ -16,7 +16,8 @@ use Rattle.layout.specs.Recorder as layout
 use Rattle.layout.specs.Recorder.{State, Step, answer, filled, firstAfter, added, closedBy, begun, addLines, closeLines, beginLines}
 use Rattle.layout.specs.Storage.{freshState}
 use Rattle.stages.specs.Stages.{stageOf, toStage}
-use Rattle.recorder.specs.Recorded.{stateOf, recorderOf, freshRecorder, answered, takenOf, madeOf, beginOf, addOf, closeOf}
+use Rattle.limits.specs.Limits.{stateIn}
+use Rattle.recorder.specs.Recorded.{numbersOf, stateOf, recorderOf, freshRecorder, answered, takenOf, madeOf, beginOf, addOf, closeOf}
 use Rattle.stages.specs.declared.Stage.{Stage}
 use Rattle.stages.specs.declared.Stage.the-variants.{Fresh, Running, Closing, Closed}
 use Rattle.recorder.specs.declared.Recorder.{Recorder}
@@ -43,15 +44,15 @@ pub record Held (r : Recorder) : Type 0 where
   pub lastFits : SFits w64 (r .last)
 
 pub recorder-there : (r : Recorder) → Held r → recorderOf (stateOf r) ≡ r
-unfolding recorderOf stateOf
+unfolding recorderOf stateOf stateIn numbersOf
 recorder-there r h = rw (stage-there, toZ-ofZ (h .firstFits), toZ-ofZ (h .lastFits))
 
 pub state-back : (st : State) → Fits w64 (st .first) → Fits w64 (st .last) → stateOf (recorderOf st) ≡ st
-unfolding recorderOf stateOf
+unfolding recorderOf stateOf stateIn numbersOf
 state-back st f l = rw (stage-back, ofZ-toZ f, ofZ-toZ l)
 
 pub fresh-state : stateOf freshRecorder ≡ freshState
-unfolding stateOf stageOf freshRecorder
+unfolding stateOf stateIn numbersOf stageOf freshRecorder
 fresh-state = refl
 
 -- ── One call ──
@@ -70,7 +71,7 @@ begin-state r setUp system notes out = taken-state (firstOf (beginLines (stateOf
     (state-back (begun setUp system) (fits-lit tt) (fits-lit tt))
 
 first-fits : (r : Recorder) (time : ℤ) → Held r → SFits w64 time → Fits w64 (firstAfter (stateOf r) (ofZ w64 time))
-unfolding firstAfter stateOf
+unfolding firstAfter stateOf stateIn numbersOf
 first-fits r time h t = go (eqb (r .frames) 0)
   where
     go : (b : Bool) → Fits w64 (cond b (ofZ w64 time) (ofZ w64 (r .first)))
@@ -87,7 +88,7 @@ add-state r time exposure sections notes out h t =
 
 pub close-state : (r : Recorder) (notes out : List ℕ) → Held r
     → stateOf (closeOf r notes out .taken .state) ≡ layout.close (stateOf r) notes (length out) .state
-unfolding closeOf layout.close closedBy stateOf
+unfolding closeOf layout.close closedBy stateOf stateIn numbersOf
 close-state r notes out h =
     taken-state (firstOf (closeLines (stateOf r) notes (length out))) r notes out _ refl
     (state-back (closedBy (stateOf r)) (fits-ofZ (h .firstFits)) (fits-ofZ (h .lastFits)))
@@ -117,7 +118,7 @@ add-held r time exposure sections notes out h t =
     (fits-ofZ t)
 
 pub close-held : (r : Recorder) (notes out : List ℕ) → Held r → Held (closeOf r notes out .taken .state)
-unfolding closeOf layout.close closedBy stateOf
+unfolding closeOf layout.close closedBy stateOf stateIn numbersOf
 close-held r notes out h = taken-held (firstOf (closeLines (stateOf r) notes (length out))) r notes out _ refl h (fits-ofZ (h .firstFits))
     (fits-ofZ (h .lastFits))
 

@@ -1,27 +1,37 @@
 -- The recorder's state and its answers as the code holds them, by the layout's definitions of the three calls.
-use Prim.Native.Nat.{ℕ, zero, suc, _+_}
-use mathlib.Core.Bool.{not, _||_}
-use mathlib.Core.List.{List, [], _∷_}
+use Prim.Native.Nat.{ℕ, zero, suc}
+use mathlib.Core.List.{List}
 use lib.ListN.{length}
 use lib.IntN.{ℤ, pos}
 use mir.Syntax.{w64}
 use mir.Val.{ofZ, toZ}
 use Rattle.layout.specs.Recorder as layout
-use Rattle.layout.specs.Opening.{line, firstOf}
-use Rattle.layout.specs.Recorder.{State, Step, filled, brokenState, badShape, badClock, noRoom}
-use Rattle.layout.specs.Recording.{indexLength}
+use Rattle.layout.specs.Recorder.{State, Step, filled}
 use Rattle.refusal.specs.Refusal.{plain}
 use Rattle.stages.specs.declared.Stage.the-variants.{Fresh}
 use Rattle.recorder.specs.declared.Recorder.{Recorder}
 use Rattle.recorder.specs.declared.Piece.the-variants.{Given, Refused}
 use Rattle.recorder.specs.declared.Taken.{Taken}
-use Rattle.stages.specs.Stages.{toStage, stateWith, fullWith}
+use Rattle.stages.specs.Stages.{toStage}
+use Rattle.limits.specs.Limits.{stateIn}
+use Rattle.limits.specs.declared.Numbers.{Numbers}
 
 -- ── The state ──
 
 -- the state of a recorder: its times by their 64-bit patterns
+unfoldable pub numbersOf : Recorder → Numbers
+numbersOf r =
+    record {
+      stage = r .stage;
+      sections = r .sections;
+      frames = r .frames;
+      first = ofZ w64 (r .first);
+      last = ofZ w64 (r .last);
+      end = r .end;
+    }
+
 unfoldable pub stateOf : Recorder → State
-stateOf r = stateWith (r .stage) (r .sections) (r .frames) (ofZ w64 (r .first)) (ofZ w64 (r .last)) (r .end)
+stateOf r = stateIn (numbersOf r)
 
 -- a recording starts from this one
 unfoldable pub freshRecorder : Recorder
@@ -38,19 +48,6 @@ recorderOf st =
       last = toZ w64 (st .last);
       end = st .end;
     }
-
--- ── A frame call ──
-
--- the layout's order, a frame being 16 bytes and its sections; `notes` and `room` are the lengths of what is lent
-unfoldable pub addRefusal : State → (time : ℕ) → (sections : List ℕ) → (notes room : ℕ) → ℕ
-addRefusal st time sections notes room =
-    firstOf
-    (line 12 (not (layout.isRunning (st .stage)) || brokenState st)
-    ∷ line 14 (badShape st sections)
-    ∷ line 15 (fullWith (st .end) (st .frames) (16 + length sections))
-    ∷ line 13 (badClock st time)
-    ∷ line 9 (noRoom room (16 + length sections) || noRoom notes (indexLength (st .frames + 1)))
-    ∷ [])
 
 -- ── What a call answers, and what it leaves in the lent notes and output ──
 

@@ -1,19 +1,15 @@
 // Recording: the recorder's state is passed in by value and handed back by each call, with its stage inside.
 use beginning::FirstPiece;
 use header::Header;
-use parts::Place;
+use limits::Numbers;
 use refusal::Refusal;
 use stages::Stage;
 ghost use mathlib.Core.Path.{_≡_};
-ghost use mathlib.Core.Bool.{false};
-ghost use Prim.Native.Nat.{_+_, _*_, _≤_};
-ghost use lib.ListN.{length};
-ghost use lib.Seq.{sets};
-ghost use Rattle.layout.specs.Recording.{indexLength};
-ghost use Rattle.refusal.specs.Refusal.{plain};
 ghost use Rattle.layout.specs.Opening.{firstOf};
-ghost use Rattle.layout.specs.Recorder.{brokenState, closeLines, badShape, badClock, framePiece, firstAfter};
-ghost use Rattle.recorder.specs.Recorded.{stateOf, freshRecorder, made, closeOf, addRefusal, addOf, beginOf};
+ghost use Rattle.layout.specs.Recorder.{closeLines, firstAfter};
+ghost use Rattle.refusal.specs.Refusal.{plain};
+ghost use Rattle.limits.specs.Limits.{addRefusal};
+ghost use Rattle.recorder.specs.Recorded.{numbersOf, stateOf, freshRecorder, made, closeOf, addOf, beginOf};
 
 // The state: numbers and the stage only. `end` is where the next frame goes.
 pub struct Recorder {
@@ -83,89 +79,33 @@ impl Recorder {
         }
     }
 
-    // 12: "past fresh, the state's numbers break a limit".
-    fn broken_state(self) -> bool
-        ensures { λ r. ⌜ r ≡ brokenState (stateOf self) ⌝ }
+    // The state's numbers, its times as patterns.
+    fn numbers(self) -> Numbers
+        ensures { λ r. ⌜ r ≡ numbersOf self ⌝ }
     {
         let stage = self.stage;
-        stages::broken(
+        Numbers {
             stage,
-            self.sections,
-            self.frames,
-            number::pattern_of(self.first),
-            number::pattern_of(self.last),
-            self.end,
-        )
-    }
-
-    // The numbers of a state that is not broken leave room for every sum.
-    fn index_length(self) -> usize
-        requires { ⌜ brokenState (stateOf self) ≡ false ⌝ }
-        ensures { λ r. ⌜ r ≡ indexLength (self .frames) ⌝ }
-    {
-        4 + Header::INDEX_ENTRY * (self.frames as usize)
-    }
-
-    // 14: "the sections given are not exactly the recorder's number of sizes and bytes, or a size is over its limit".
-    fn bad_shape(self, sections: &[u8]) -> bool
-        ensures { λ r. ⌜ r ≡ badShape (stateOf self) (now (sections .entry)) ⌝ }
-    {
-        let count = self.sections as usize;
-        let place = frames::sized_sections(sections, 0, count);
-        let Place::End(end) = place else {
-            return true;
-        };
-        if end == sections.len() {
-            return false;
+            sections: self.sections,
+            frames: self.frames,
+            first: number::pattern_of(self.first),
+            last: number::pattern_of(self.last),
+            end: self.end,
         }
-        true
     }
 
-    // 13: "a frame's time breaks its rule"; the first frame takes any.
-    fn bad_clock(self, time: u64) -> bool
-        ensures { λ r. ⌜ r ≡ badClock (stateOf self) time ⌝ }
-    {
-        if self.frames == 0 {
-            return false;
-        }
-        if times::follows_last(
-            number::pattern_of(self.first),
-            number::pattern_of(self.last),
-            time,
-        ) {
-            return false;
-        }
-        true
-    }
-
-    // To add a frame: 12, 14, 15, 13, 9.
     fn add_refusal(self, time: u64, sections: &[u8], notes: usize, room: usize) -> Refusal
         ensures { λ r. ⌜ r ≡ plain (addRefusal (stateOf self) time (now (sections .entry)) notes room) ⌝ }
     {
-        let stage = self.stage;
-        if !stages::is_running(stage) {
-            return Refusal::STAGE;
-        }
-        if self.broken_state() {
-            return Refusal::STAGE;
-        }
-        if self.bad_shape(sections) {
-            return Refusal::FRAME_SHAPE;
-        }
-        let length = Header::FRAME_HEAD + sections.len();
-        if stages::full(self.end, self.frames, length as u64) {
-            return Refusal::FULL;
-        }
-        if self.bad_clock(time) {
-            return Refusal::CLOCK;
-        }
-        if room < length {
-            return Refusal::NO_ROOM;
-        }
-        if notes < 4 + Header::INDEX_ENTRY * (self.frames as usize + 1) {
-            return Refusal::NO_ROOM;
-        }
-        Refusal::NONE
+        let numbers = self.numbers();
+        numbers.add_refusal(time, sections, notes, room)
+    }
+
+    fn close_refusal(self, notes: &[u8], room: usize) -> Refusal
+        ensures { λ r. ⌜ r ≡ plain (firstOf (closeLines (stateOf self) (now (notes .entry)) room)) ⌝ }
+    {
+        let numbers = self.numbers();
+        numbers.close_refusal(notes, room)
     }
 
     // The first frame's time: that of the frame added, where it is the first.
@@ -178,7 +118,7 @@ impl Recorder {
         number::pattern_of(self.first)
     }
 
-    // The sections are copied once, and 20 bytes of the notes are touched.
+    // To add a frame: 12, 14, 15, 13, 9. The sections are copied once, and 20 bytes of the notes are touched.
     pub fn add(
         self,
         time: i64,
@@ -227,29 +167,6 @@ impl Recorder {
     }
 
     // To close: 12, 9.
-    fn close_refusal(self, notes: &[u8], room: usize) -> Refusal
-        ensures { λ r. ⌜ r ≡ plain (firstOf (closeLines (stateOf self) (now (notes .entry)) room)) ⌝ }
-    {
-        let stage = self.stage;
-        if !stages::takes_close(stage) {
-            return Refusal::STAGE;
-        }
-        if self.broken_state() {
-            return Refusal::STAGE;
-        }
-        let piece = stages::piece_of(stage);
-        let index = self.index_length();
-        if room < stages::closing_length(piece, index) {
-            return Refusal::NO_ROOM;
-        }
-        if piece == 0 {
-            if notes.len() < index {
-                return Refusal::NO_ROOM;
-            }
-        }
-        Refusal::NONE
-    }
-
     pub fn close(self, notes: &[u8], out: &mut [u8]) -> Taken
         ensures { λ r. ⌜ made r (now (notes .entry)) (now (out .exit)) ≡ closeOf self (now (notes .entry)) (now (out .entry)) ⌝ }
     {
@@ -263,7 +180,7 @@ impl Recorder {
         let stage = self.stage;
         let piece = stages::piece_of(stage);
         let next = stages::stage_after(piece);
-        let index = self.index_length();
+        let index = limits::index_length(self.frames);
         if piece == 0 {
             parts::copy(notes, 0, out, 0, index);
             return Taken {

@@ -1,16 +1,10 @@
-use Rattle.recorder.proofs.Laws.{add-laws}
+use Rattle.limits.proofs.Laws.{add-laws}
 use borrow.Author.Needs.{needs}
-use Rattle.recorder.proofs.Recorder.bad_clock.Statement.{statement}
-use Rattle.recorder.proofs.Recorder.bad_clock.Tie as tie
+use Rattle.limits.proofs.Numbers.bad_clock.Statement.{statement}
+use Rattle.limits.proofs.Numbers.bad_clock.Tie as tie
 
 returns : tie.Need-returns
 returns c = search add-laws
-
-pattern-of-requires : tie.Need-pattern-of-requires
-pattern-of-requires c κs = search needs
-
-pattern-of-requires-2 : tie.Need-pattern-of-requires-2
-pattern-of-requires-2 c κs = search needs
 
 follows-last-requires : tie.Need-follows-last-requires
 follows-last-requires c κs = search needs
@@ -26,8 +20,6 @@ bad-clock-spec =
     tie.close
     (tie.spec
     returns
-    pattern-of-requires
-    pattern-of-requires-2
     follows-last-requires
     returns-2
     returns-3)

@@ -1,7 +1,7 @@
-use Rattle.recorder.proofs.Laws.{add-laws}
+use Rattle.limits.proofs.Laws.{add-laws}
 use borrow.Author.Needs.{needs}
-use Rattle.recorder.proofs.Recorder.bad_shape.Statement.{statement}
-use Rattle.recorder.proofs.Recorder.bad_shape.Tie as tie
+use Rattle.limits.proofs.Numbers.bad_shape.Statement.{statement}
+use Rattle.limits.proofs.Numbers.bad_shape.Tie as tie
 
 sized-sections-requires : tie.Need-sized-sections-requires
 sized-sections-requires c κs = search needs

@@ -1,0 +1,5 @@
+pub mod Sound
+pub mod Adding
+pub mod Closing
+pub mod Laws
+pub mod Outcomes
