@@ -11,8 +11,8 @@ said of that function's own proof; where nothing is, the change is tried alone. 
   - pass.
 The last two are printed, and a line for each crate counts. docs/ACCEPTANCE.md says what was found.
 
-The edits of must-fail/operators have the form of the gate's, and docs/CALLS.md names them beside those: each changes one operator, number or named
-refusal. The gate would prove a whole crate again for each; here a round serves many. With --edits the status is 1 where one does not fail at a fact.
+The edits of must-fail/operators have the form of the gate's, and docs/CALLS.md names them beside those: each changes one operator, operand, number or
+named refusal. The gate would prove a whole crate again for each; here a round serves many. With --edits the status is 1 where one does not fail at a fact.
 """
 
 import collections
