@@ -68,7 +68,8 @@ host_library() {
     if [ -e "$host_archive" ] && [ -z "$(find crates crates.txt $host_from -newer "$host_archive" | head -1)" ]; then
         return
     fi
-    host_needs rt
+    # not host_needs: what runs programs is not needed to build
+    command -v rt >/dev/null 2>&1 || host_missing rt
     $host_build
 }
 
