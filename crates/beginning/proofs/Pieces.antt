@@ -23,6 +23,7 @@ use Rattle.layout.proofs.Fronts.{length-front}
 use Rattle.layout.proofs.Outputs.{filled-is}
 use Rattle.refusal.specs.Refusal.{plain}
 use Rattle.refusal.specs.declared.Refusal.{Refusal}
+use Rattle.refusal.proofs.Numbers.{number-is}
 use Rattle.setup.specs.SetUp.{listRefusal}
 use Rattle.beginning.specs.Front.{tableStart}
 use Rattle.beginning.specs.Pieces.{pieceRefusal, made, pieceBy, firstPieceOf, refusalOf}
@@ -33,10 +34,6 @@ use Rattle.setup.proofs.SetUp.{legal-list, sections-count}
 first-length : (s system : List ℕ) → length (firstPiece s system) ≡ tableStart (sectionsOf s) + length system
 unfolding firstPiece tableStart
 first-length s system = length-front 0 0 0 (sectionsOf s) system
-
--- a refusal is its number
-number-is : (n : Refusal) (m : ℕ) → n ≡ plain m → n .number ≡ m
-number-is n m e = ap (λ (x : Refusal). x .number) e
 
 -- ── The order 10, 3, 4, 9 ──
 

@@ -24,10 +24,11 @@ use Rattle.parts.proofs.Exactly.{ends-broken, ends-exact, ends-other}
 use Rattle.frames.specs.Frames.{sectionsAt}
 use Rattle.refusal.specs.Refusal.{plain}
 use Rattle.refusal.specs.declared.Refusal.{Refusal}
+use Rattle.refusal.proofs.Numbers.{number-is}
 use Rattle.stages.specs.Stages.{stageOf, fullWith}
 use Rattle.limits.specs.Limits.{stateIn, addRefusal}
 use Rattle.limits.specs.declared.Numbers.{Numbers}
-use Rattle.limits.proofs.Sound.{numbers-sound, number-is}
+use Rattle.limits.proofs.Sound.{numbers-sound}
 
 -- ── 14 ──
 

@@ -20,10 +20,11 @@ use Rattle.layout.proofs.Lines.{line-pass, line-holds, line-clear}
 use Rattle.layout.proofs.Orders.{no-lines}
 use Rattle.refusal.specs.Refusal.{plain}
 use Rattle.refusal.specs.declared.Refusal.{Refusal}
+use Rattle.refusal.proofs.Numbers.{number-is}
 use Rattle.stages.specs.Stages.{stageOf, closingLength}
 use Rattle.limits.specs.Limits.{stateIn, indexWithin}
 use Rattle.limits.specs.declared.Numbers.{Numbers}
-use Rattle.limits.proofs.Sound.{numbers-sound, number-is, index-sound}
+use Rattle.limits.proofs.Sound.{numbers-sound, index-sound}
 
 -- ── Lines 12 and 9 ──
 

@@ -2,22 +2,16 @@
 -- Assumes nothing.
 use Prim.Native.Nat.{ℕ, _+_, _*_, _<_, _≤_}
 use native.Mathlib.Omega.{arith}
-use mathlib.Core.Path.{_≡_, ap, sym, _∙_}
+use mathlib.Core.Path.{_≡_, sym, _∙_}
 use mathlib.Core.Bool.{Bool, false}
 use borrow.Author.Tests.{le-leb, lt-leb}
 use Rattle.number.proofs.Bools.{tested}
 use Rattle.layout.specs.Recording.{indexLength}
 use Rattle.layout.specs.Recorder.{brokenState}
-use Rattle.refusal.specs.Refusal.{plain}
-use Rattle.refusal.specs.declared.Refusal.{Refusal}
 use Rattle.stages.specs.Stages.{stateWith}
 use Rattle.stages.proofs.Limits.{Sound, sound}
 use Rattle.limits.specs.Limits.{stateIn, indexWithin}
 use Rattle.limits.specs.declared.Numbers.{Numbers}
-
--- a refusal is its number
-pub number-is : (n : Refusal) (m : ℕ) → n ≡ plain m → n .number ≡ m
-number-is n m e = ap (λ (x : Refusal). x .number) e
 
 pub broken-is : (r : Numbers) (b : Bool) → b ≡ brokenState (stateWith (r .stage) (r .sections) (r .frames) (r .first) (r .last) (r .end))
     → b ≡ brokenState (stateIn r)

@@ -7,7 +7,7 @@ use lib.ListN.{length}
 use Rattle.layout.specs.Recorder.{State, Step, answer, filled}
 use Rattle.refusal.specs.Refusal.{plain}
 use Rattle.refusal.specs.declared.Refusal.{Refusal}
-use Rattle.limits.proofs.Sound.{number-is}
+use Rattle.refusal.proofs.Numbers.{number-is}
 use Rattle.recorder.specs.Recorded.{recorderOf, made, answered, takenOf, madeOf}
 use Rattle.recorder.specs.declared.Recorder.{Recorder}
 use Rattle.recorder.specs.declared.Piece.the-variants.{Given, Refused}
