@@ -27,6 +27,7 @@ use Rattle.limits.proofs.Adding.{Addable, addable}
 use Rattle.recorder.specs.Recorded.{numbersOf, stateOf, recorderOf, made, madeOf, addOf}
 use Rattle.recorder.specs.declared.Recorder.{Recorder}
 use Rattle.recorder.specs.declared.Piece.the-variants.{Given, Refused}
+use Rattle.recorder.proofs.Limits.{asked}
 use Rattle.recorder.proofs.Answers.{refused-made, accepted-made}
 
 add-order : (st : State) (t e : ℕ) (s notes : List ℕ) (room : ℕ) → addRefusal st t s (length notes) room ≡ firstOf (addLines st t e s notes room)
@@ -43,11 +44,9 @@ pub after-later : (r : Recorder) (t f : ℕ) (x : ℤ) → (r .frames ≡ 0 → 
 unfolding firstAfter stateOf stateIn numbersOf
 after-later r t f x h e i = rw (ne-eqb (r .frames) 0 h) (e ∙ ap (ofZ w64) i)
 
--- the refusal, asked of the recorder's numbers
 pub add-asked : (r : Recorder) (m : Numbers) (t : ℕ) (s : List ℕ) (notes room : ℕ) (n : Refusal) → m ≡ numbersOf r
     → n ≡ plain (addRefusal (stateIn m) t s notes room) → n ≡ plain (addRefusal (stateOf r) t s notes room)
-unfolding stateOf
-add-asked r m t s notes room n a e = e ∙ ap (λ (x : Numbers). plain (addRefusal (stateIn x) t s notes room)) a
+add-asked r m t s notes room = asked (λ st. addRefusal st t s notes room) r m
 
 pub refused-add : (r : Recorder) (time x : ℤ) (s notes out : List ℕ) (e t : ℕ) (n : Refusal) → t ≡ ofZ w64 x → x ≡ time
     → n ≡ plain (addRefusal (stateOf r) t s (length notes) (length out)) → (n .number ≡ 0 → ⊥)

@@ -29,13 +29,12 @@ use Rattle.limits.proofs.Closing.{Closable, closable, empty-table}
 use Rattle.recorder.specs.Recorded.{numbersOf, stateOf, recorderOf, made, closeOf}
 use Rattle.recorder.specs.declared.Recorder.{Recorder}
 use Rattle.recorder.specs.declared.Piece.the-variants.{Given, Refused}
+use Rattle.recorder.proofs.Limits.{asked}
 use Rattle.recorder.proofs.Answers.{refused-made, accepted-made}
 
--- the refusal, asked of the recorder's numbers
-pub close-asked : (r : Recorder) (d : Numbers) (notes : List ℕ) (room : ℕ) (n : Refusal) → d ≡ numbersOf r
-    → n ≡ plain (firstOf (closeLines (stateIn d) notes room)) → n ≡ plain (firstOf (closeLines (stateOf r) notes room))
-unfolding stateOf
-close-asked r d notes room n a e = e ∙ ap (λ (x : Numbers). plain (firstOf (closeLines (stateIn x) notes room))) a
+pub close-asked : (r : Recorder) (m : Numbers) (notes : List ℕ) (room : ℕ) (n : Refusal) → m ≡ numbersOf r
+    → n ≡ plain (firstOf (closeLines (stateIn m) notes room)) → n ≡ plain (firstOf (closeLines (stateOf r) notes room))
+close-asked r m notes room = asked (λ st. firstOf (closeLines st notes room)) r m
 
 pub refused-close : (r : Recorder) (notes out : List ℕ) (n : Refusal) → n ≡ plain (firstOf (closeLines (stateOf r) notes (length out)))
     → (n .number ≡ 0 → ⊥) → made (record { state = r; piece = Refused n }) notes out ≡ closeOf r notes out

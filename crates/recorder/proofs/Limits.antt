@@ -6,9 +6,13 @@ use lib.IntN.{ℤ, pos}
 use mir.Syntax.{w64}
 use mir.Val.{ofZ}
 use Rattle.number.proofs.Bools.{tested}
+use Rattle.layout.specs.Recorder.{State}
+use Rattle.refusal.specs.Refusal.{plain}
+use Rattle.refusal.specs.declared.Refusal.{Refusal}
 use Rattle.stages.specs.declared.Stage.the-variants.{Fresh}
+use Rattle.limits.specs.Limits.{stateIn}
 use Rattle.limits.specs.declared.Numbers.{Numbers}
-use Rattle.recorder.specs.Recorded.{freshRecorder, numbersOf}
+use Rattle.recorder.specs.Recorded.{freshRecorder, numbersOf, stateOf}
 use Rattle.recorder.specs.declared.Recorder.{Recorder}
 
 pub fresh-is : record { stage = Fresh; sections = 0; frames = 0; first = pos 0; last = pos 0; end = 0 } ≡ freshRecorder
@@ -22,5 +26,10 @@ numbers-are r f l x y p q u v =
     let m : f ≡ ofZ w64 (r .first) = p ∙ ap (ofZ w64) u in
     let n : l ≡ ofZ w64 (r .last) = q ∙ ap (ofZ w64) v in
     rw (m, n)
+
+-- a refusal by a state, asked of the recorder's numbers
+pub asked : (by : State → ℕ) (r : Recorder) (m : Numbers) (n : Refusal) → m ≡ numbersOf r → n ≡ plain (by (stateIn m)) → n ≡ plain (by (stateOf r))
+unfolding stateOf
+asked by r m n a e = e ∙ ap (λ (x : Numbers). plain (by (stateIn x))) a
 
 pub ruleset limits = (fresh-is, numbers-are, tested)
