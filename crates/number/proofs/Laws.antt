@@ -1,13 +1,13 @@
 -- What the functions of this crate leave to be shown, as laws about the definitions.
 -- Assumes nothing.
-use Prim.Native.Nat.{ℕ, suc, _+_, _*_, _-_, _/_, _%_, _^_, _<_, _≤_}
+use Prim.Native.Nat.{ℕ, zero, suc, _+_, _*_, _-_, _/_, _%_, _^_, _<_, _≤_}
 use native.Mathlib.Omega.{arith}
-use native.Mathlib.Nat.{pow-suc, pow-le-pow-right, sub-self}
+use native.Mathlib.Nat.{mul-assoc, mul-comm, pow-suc}
 use mathlib.Core.Path.{_≡_, refl, ap, sym, _∙_}
 use mathlib.Core.Bool.{Bool, true, false, _&&_, cond}
 use mathlib.Core.List.{List, [], _∷_}
 use lib.ListN.{length, take, drop, getD, set}
-use lib.Seq.{drop-cons, drop-drop, sets}
+use lib.Seq.{getD-take, getD-drop, take-all, sets}
 use lib.Dec.{leb, ltb, leb·zero}
 use lib.IntN.{pos, negsuc, natAbs}
 use lib.Signed.{nonNeg, leZ}
@@ -18,86 +18,66 @@ use mir.Syntax.{w64}
 use mir.Val.{Fits, toZ, sel}
 use mir.Facts.{toZ-pos}
 use Rattle.number.specs.Number.{bytesOf, numberOf, has, readAt, writeAt}
+use Rattle.number.proofs.Bytes.{part-long}
 
 -- ── Reading ──
 
--- the bytes from `left` on have been read
-pub read-start : (s : List ℕ) (at w : ℕ) → 0 ≡ numberOf (take (w - w) (drop (at + w) s))
+-- a byte of a number, and what stands behind its last one
+pub byte-there : (s : List ℕ) (at w i b : ℕ) → i < w → b ≡ getD s (at + i) 0 → b ≡ getD (take w (drop at s)) i 0
+byte-there s at w i b h e = e ∙ sym (getD-take w (drop at s) i 0 h ∙ getD-drop at s i 0)
+
+behind : (t : List ℕ) (w i : ℕ) → w ≤ i → 0 ≡ getD (take w t) i 0
+behind t zero i h = refl
+behind [] (suc w) i h = refl
+behind (b ∷ t) (suc w) zero h = absurd (omega arith)
+behind (b ∷ t) (suc w) (suc i) h = behind t w i (omega arith)
+
+pub byte-behind : (s : List ℕ) (at w i : ℕ) → w ≤ i → 0 ≡ getD (take w (drop at s)) i 0
+byte-behind s at w i h = behind (drop at s) w i h
+
+-- over the width: one byte more adds that byte with its place value
+one-more : (t : List ℕ) (w : ℕ) → numberOf (take (suc w) t) ≡ numberOf (take w t) + getD t w 0 * 256 ^ w
 unfolding numberOf
-read-start s at w = simp sub-self
-
-pub one-fits : (w : ℕ) → 0 < 256 ^ (w - w)
-one-fits w = simp sub-self (omega arith)
-
-pub read-more : (s : List ℕ) (at w left n b : ℕ) → 0 < left → left ≤ w → at + w ≤ length s → n ≡ numberOf (take (w - left) (drop (at + left) s))
-    → b ≡ getD s (at + (left - 1)) 0 → n * 256 + b ≡ numberOf (take (w - (left - 1)) (drop (at + (left - 1)) s))
-unfolding numberOf
-read-more s at w (suc left) n b h l f e g =
-    let d : drop (at + left) s ≡ getD s (at + left) 0 ∷ drop (suc (at + left)) s = drop-cons s (at + left) 0 (omega arith) in
-    let p : suc left - 1 ≡ left = omega arith in
-    let q : w - left ≡ suc (w - suc left) = omega arith in
-    let r : suc (at + left) ≡ at + suc left = omega arith in
-    go (w - suc left) (getD s (at + left) 0) (drop (suc (at + left)) s) (rw (← r) at e) (rw p at g) (rw p (rw (q, d)))
-  where
-    go : (k x : ℕ) (t : List ℕ) → n ≡ numberOf (take k t) → b ≡ x → {y : ℕ} → y ≡ numberOf (take (suc k) (x ∷ t)) → n * 256 + b ≡ y
-    go k x t e g {y} h = omega arith
-
-pub more-fits : (w left n b : ℕ) → 0 < left → left ≤ w → n < 256 ^ (w - left) → b < 256 → n * 256 + b < 256 ^ (w - (left - 1))
-more-fits w left n b h l f g =
-    let q : w - (left - 1) ≡ suc (w - left) = omega arith in
-    rw q (omega (arith, pow-suc 256 (w - left)))
-
-below-top : (w left n : ℕ) → 0 < left → left ≤ w → w ≤ 8 → n < 256 ^ (w - left) → n < 2 ^ 56
-below-top w left n h l e f =
-    let q : 256 ^ (w - left) ≤ 256 ^ 7 = pow-le-pow-right {n = 256} (omega arith) {i = w - left} {j = 7} (omega arith) in
+one-more [] zero = omega arith
+one-more [] (suc w) = omega arith
+one-more (b ∷ t) zero = omega arith
+one-more (b ∷ t) (suc w) =
+    let i : numberOf (take (suc w) t) ≡ numberOf (take w t) + getD t w 0 * 256 ^ w = one-more t w in
+    let p : getD t w 0 * 256 ^ suc w ≡ 256 * (getD t w 0 * 256 ^ w) = rw (pow-suc 256 w) (simp (mul-assoc, mul-comm)) in
     omega arith
-
-pub times-fits : (w left n : ℕ) → 0 < left → left ≤ w → w ≤ 8 → n < 256 ^ (w - left) → Fits w64 (n * 256)
-times-fits w left n h l e f = let b = below-top w left n h l e f in record { fits = omega arith }
-
-pub sum-fits : (w left n b : ℕ) → 0 < left → left ≤ w → w ≤ 8 → n < 256 ^ (w - left) → b < 256 → Fits w64 (n * 256 + b)
-sum-fits w left n b h l e f g = let t = below-top w left n h l e f in record { fits = omega arith }
-
-pub read-end : (s : List ℕ) (at w left n : ℕ) → left ≤ 0 → n ≡ numberOf (take (w - left) (drop (at + left) s)) → n ≡ numberOf (take w (drop at s))
-read-end s at w left n z g =
-    let q : w - left ≡ w = omega arith in
-    let r : at + left ≡ at = omega arith in
-    g ∙ rw (q, r)
-
-pub end-fits : (w left n : ℕ) → left ≤ 0 → n < 256 ^ (w - left) → n < 256 ^ w
-end-fits w left n z h = let q : w - left ≡ w = omega arith in rw q at h
 
 -- where the bytes are all there, the number is theirs
 pub read-is : (s : List ℕ) (at w : ℕ) → w ≤ 8 → at + w ≤ length s → readAt s at w ≡ numberOf (take w (drop at s))
 unfolding readAt
 read-is s at w e h = rw (le-leb w 8 e, le-leb (at + w) (length s) h)
 
-pub read-whole : (s : List ℕ) (at w n : ℕ) → w ≤ 8 → w ≤ length s → at ≤ length s - w → n ≡ numberOf (take w (drop at s)) → n ≡ readAt s at w
-read-whole s at w n e l h g = g ∙ sym (read-is s at w e (omega arith))
-
--- eight bytes are two halves of four
-halves : (t : List ℕ) → numberOf (take 4 t) + 4294967296 * numberOf (take 4 (drop 4 t)) ≡ numberOf (take 8 t)
+no-bytes : (t : List ℕ) → numberOf (take 0 t) ≡ 0
 unfolding numberOf
-halves [] = refl
-halves (a ∷ []) = omega arith
-halves (a ∷ b ∷ []) = omega arith
-halves (a ∷ b ∷ c ∷ []) = omega arith
-halves (a ∷ b ∷ c ∷ d ∷ t) = omega arith
+no-bytes t = refl
 
-pub read-halves : (s : List ℕ) (at w low high : ℕ) → w ≡ 8 → w ≤ length s → at ≤ length s - w → low ≡ numberOf (take 4 (drop at s))
-    → high ≡ numberOf (take 4 (drop (at + 4) s)) → low + high * 4294967296 ≡ readAt s at w
-read-halves s at w low high e l h f g =
-    let q : at + 8 ≤ length s = omega arith in
-    let i = halves (drop at s) in
-    let j : high ≡ numberOf (take 4 (drop 4 (drop at s))) = g ∙ rw (drop-drop 4 at s) in
-    let k : low + high * 4294967296 ≡ numberOf (take 8 (drop at s)) = omega arith in
-    rw e (k ∙ sym (read-is s at 8 (omega arith) q))
-
-pub high-fits : (high : ℕ) → high < 256 ^ 4 → Fits w64 (high * 4294967296)
-high-fits high h = record { fits = omega arith }
-
-pub halves-fit : (low high : ℕ) → low < 256 ^ 4 → high < 256 ^ 4 → Fits w64 (low + high * 4294967296)
-halves-fit low high h k = record { fits = omega arith }
+-- up to eight bytes are a number, each with its place value
+pub read-whole : (s : List ℕ) (at w a b c d e f g h : ℕ) → w ≤ 8 → w ≤ length s → at ≤ length s - w → a ≡ getD (take w (drop at s)) 0 0
+    → b ≡ getD (take w (drop at s)) 1 0 → c ≡ getD (take w (drop at s)) 2 0 → d ≡ getD (take w (drop at s)) 3 0
+    → e ≡ getD (take w (drop at s)) 4 0 → f ≡ getD (take w (drop at s)) 5 0 → g ≡ getD (take w (drop at s)) 6 0
+    → h ≡ getD (take w (drop at s)) 7 0
+    → a + b * 256 + c * 65536 + d * 16777216 + e * 4294967296 + f * 1099511627776 + g * 281474976710656 + h * 72057594037927936 ≡ readAt s at w
+read-whole s at w a b c d e f g h l m n p0 p1 p2 p3 p4 p5 p6 p7 =
+    let t = take w (drop at s) in
+    let all : numberOf (take 8 t) ≡ numberOf t = ap numberOf (take-all 8 t (omega (arith, part-long s at w (omega arith)))) in
+    omega (
+      arith,
+      all,
+      read-is s at w l (omega arith),
+      no-bytes t,
+      one-more t 0,
+      one-more t 1,
+      one-more t 2,
+      one-more t 3,
+      one-more t 4,
+      one-more t 5,
+      one-more t 6,
+      one-more t 7,
+    )
 
 pub read-wide : (s : List ℕ) (at w : ℕ) → 8 < w → 0 ≡ readAt s at w
 unfolding readAt
@@ -195,18 +175,9 @@ pattern-again n h = let e : 18446744073709551615 - (18446744073709551615 - n) �
 
 pub ruleset laws = (
   needs,
-  read-start,
-  one-fits,
-  read-more,
-  more-fits,
-  times-fits,
-  sum-fits,
-  read-end,
-  end-fits,
+  byte-there,
+  byte-behind,
   read-whole,
-  read-halves,
-  high-fits,
-  halves-fit,
   read-wide,
   read-short,
   read-far,

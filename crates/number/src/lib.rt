@@ -1,10 +1,10 @@
 // Little-endian numbers of any width up to eight bytes, and Int64 by its 64-bit pattern.
 ghost use mathlib.Core.Path.{_≡_};
-ghost use Prim.Native.Nat.{_+_, _^_, _<_, _≤_};
-ghost use lib.ListN.{length, take, drop};
+ghost use Prim.Native.Nat.{_+_, _<_, _≤_};
+ghost use lib.ListN.{length, take, drop, getD};
 ghost use mir.Syntax.{w64};
 ghost use mir.Val.{ofZ, toZ};
-ghost use Rattle.number.specs.Number.{numberOf, readAt, writeAt, rank};
+ghost use Rattle.number.specs.Number.{readAt, writeAt, rank};
 
 // A byte as a number: so that only one place asks that it fits.
 fn wide(byte: u8) -> u64
@@ -13,21 +13,18 @@ fn wide(byte: u8) -> u64
     byte as u64
 }
 
-// The number of `w` bytes that are there.
-fn read_there(s: &[u8], at: usize, w: usize) -> u64
-    requires { ⌜ (w ≤ 8) × (at + w ≤ length (now s)) ⌝ }
-    ensures { λ r. ⌜ (r ≡ numberOf (take w (drop at (now (s .entry))))) × (r < 256 ^ w) ⌝ }
+// The byte `i` of a number of `w` bytes that are there; 0 behind its last one.
+fn byte(s: &[u8], at: usize, w: usize, i: usize) -> u64
+    requires { ⌜ at + w ≤ length (now s) ⌝ }
+    ensures { λ r. ⌜ (r ≡ getD (take w (drop at (now (s .entry)))) i 0) × (r < 256) ⌝ }
 {
-    let mut n: u64 = 0;
-    let mut left = w;
-    while 0 < left {
-        left -= 1;
-        n = n * 256 + wide(s[at + left]);
+    if w <= i {
+        return 0;
     }
-    n
+    wide(s[at + i])
 }
 
-// The number of `w` bytes at a place; 0 where they are not all there, or more than eight.
+// The number of `w` bytes at a place, the low byte first; 0 where they are not all there, or more than eight.
 pub fn read(s: &[u8], at: usize, w: usize) -> u64
     ensures { λ r. ⌜ r ≡ readAt (now (s .entry)) at w ⌝ }
 {
@@ -40,13 +37,14 @@ pub fn read(s: &[u8], at: usize, w: usize) -> u64
     if s.len() - w < at {
         return 0;
     }
-    if w == 8 {
-        // in two halves, each of which a machine reads at once
-        let low = read_there(s, at, 4);
-        let high = read_there(s, at + 4, 4);
-        return low + high * 0x1_0000_0000;
-    }
-    read_there(s, at, w)
+    byte(s, at, w, 0)
+        + byte(s, at, w, 1) * 0x100
+        + byte(s, at, w, 2) * 0x1_0000
+        + byte(s, at, w, 3) * 0x100_0000
+        + byte(s, at, w, 4) * 0x1_0000_0000
+        + byte(s, at, w, 5) * 0x100_0000_0000
+        + byte(s, at, w, 6) * 0x1_0000_0000_0000
+        + byte(s, at, w, 7) * 0x100_0000_0000_0000
 }
 
 // Stores the low `w` bytes of `n` at a place, where there is room for them.
