@@ -3,14 +3,14 @@
 use Prim.Native.Nat.{ℕ, zero, suc, _+_, _*_, _-_, _^_, _<_, _≤_}
 use native.Mathlib.Omega.{arith}
 use mathlib.Core.Path.{_≡_, refl, ap, sym, _∙_}
-use mathlib.Core.Bool.{Bool, true, false, not, _&&_, _||_}
+use mathlib.Core.Bool.{Bool, true, false, not, _&&_, _||_, cond}
 use mathlib.Core.List.{List, _∷_, _++_}
 use lib.ListN.{length, take, drop, getD, length-append, length-drop}
 use lib.Seq.{drop-drop, take-add, take-all, length-take-le}
 use lib.Dec.{ltb, eqb, leb·suc-suc}
 use lib.Pow.{areBytes}
 use borrow.Author.Needs.{needs}
-use borrow.Author.Tests.{ltb-false, lt-ltb, le-ltb, eq-eqb, ne-eqb, eqb-true}
+use borrow.Author.Tests.{ltb-false, lt-ltb, le-ltb, eq-eqb, ne-eqb, eqb-true, not-true, not-false}
 use mir.Syntax.{w8, w64}
 use mir.Val.{Fits}
 use Rattle.number.specs.Number.{bytesOf, readAt}
@@ -20,13 +20,15 @@ use Rattle.layout.specs.Recording.{Frame, frameBytes, entryBytes, entriesBytes,
 use Rattle.layout.specs.Reading.{good, frame, Walk, stopped, longer, walk}
 use Rattle.layout.proofs.Lists.{bytes-drop, bytes-take, same-true}
 use Rattle.opening.proofs.Same.{same-append, same-number}
-use Rattle.frames.proofs.Laws.{ended, not-ended, end-behind, time-fits, end-near}
+use Rattle.frames.proofs.Laws.{frame-parts, ended, not-ended, end-behind, time-fits, end-near}
 use Rattle.frames.specs.Frames.{frameEnd}
 use Rattle.times.specs.Times.{sinceFirst}
-use Rattle.opening.specs.Opened.{otherEntry, otherWalk, otherFrames, badIndexIn, badIndexBy}
+use Rattle.opening.specs.Opened.{otherEntry, notedLength, notedBy, notedFrame, otherWalk, otherFrames, badIndexIn, badIndexBy}
 use Rattle.header.specs.declared.Header.{Header}
 use Rattle.parts.specs.declared.Place.{Place}
 use Rattle.parts.specs.declared.Place.the-variants.{End, Broken}
+use Rattle.opening.specs.declared.Noted.{Noted}
+use Rattle.opening.specs.declared.Noted.the-variants.{At, Other}
 use Rattle.layout.proofs.Walks.{walk-none, walk-stop, walk-gives}
 use Rattle.layout.proofs.Exact.{frame-exact}
 use Rattle.layout.proofs.Sizes.{length-entry}
@@ -177,10 +179,10 @@ pub frames-elsewhere : (f : List ℕ) (k index first left at entry last : ℕ) (
 frames-elsewhere f k index first left at entry last all z e q =
     ap not (sym (ne-eqb at index e)) ∙ sym (frames-none f k index first left at entry last z) ∙ q
 
-pub frames-fewer : (f : List ℕ) (k index first left at entry last : ℕ) (r : Place) (all : Bool) → 0 < left → r ≡ frameEnd f at k → r ≡ Broken
-    → otherFrames f k index first left at entry last ≡ all → true ≡ all
+frames-fewer : (f : List ℕ) (k index first left at entry last : ℕ) → 0 < left → frameEnd f at k ≡ Broken
+    → otherFrames f k index first left at entry last ≡ true
 unfolding otherFrames otherWalk stopped
-frames-fewer f k index first left at entry last r all h p u q = rw (walk-stop left k (drop at f) (not-ended f at k (sym p ∙ u)), lt-ltb 0 left h) at q
+frames-fewer f k index first left at entry last h p = rw (walk-stop left k (drop at f) (not-ended f at k p), lt-ltb 0 left h)
 
 -- what is asked of a frame from `at` to `next`, and of the walk behind it
 abbrev asked : Walk → List ℕ → (index first left at entry last next time size : ℕ) → Bool
@@ -249,29 +251,153 @@ frames-cons f k index first left at entry last next t b h l q v = go (ended f at
         rw (m, ← a, v, ← c, walk-cons f k left at x n h g) (walk-longer
         (walk (left - 1) k (drop (at + n) f)) f index first left at entry last x n h (omega arith) z)
 
-pub frames-late : (f : List ℕ) (k index first left at entry last next t : ℕ) (r : Place) (s all : Bool) → ((i : ℕ) → Fits w8 (getD f i 0))
-    → 0 < left → entry + 16 * left ≤ length f → r ≡ frameEnd f at k → r ≡ End next → t ≡ readAt f (at + 4) 8 → s ≡ follows first last t
-    → s ≡ false → otherFrames f k index first left at entry last ≡ all → true ≡ all
-frames-late f k index first left at entry last next t r s all b h l p q a u v i =
-    let c = frames-cons f k index first left at entry last next t (slice-bytes f b) h l (sym p ∙ q) a in
-    sym (asked-late (walk (left - 1) k (drop next f)) f index first (left - 1) at entry last next t (next - at) (sym u ∙ v)) ∙ sym c ∙ i
+-- the last number of an entry that is the frame's is the frame's length
+entry-length : (f : List ℕ) (entry since offset size : ℕ) → ((i : ℕ) → Fits w8 (getD f i 0)) → entry + 16 ≤ length f → since < 2 ^ 32
+    → Fits w64 offset → size < 2 ^ 32 → otherEntry f entry since offset size ≡ false → notedLength f entry ≡ size
+unfolding notedLength
+entry-length f entry since offset size b h p q r o =
+    let e : entry + 16 - entry ≡ 16 = omega arith in
+    eqb-true (readAt (take 16 (drop entry f)) 12 4) size (third (eqb (readAt (take 16 (drop entry f)) 0 4) since)
+    (eqb (readAt (take 16 (drop entry f)) 4 8) offset) (eqb (readAt (take 16 (drop entry f)) 12 4) size)
+    (sym (rw e at (entry-asked f entry since offset size b h p q r)) ∙ o))
+  where
+    third : (x y z : Bool) → not (x && y && z) ≡ false → z ≡ true
+    third true true true g = refl
+    third true true false g = sym g
+    third true false z g = let c : _≡_ {A = ℕ} 0 1 = cc in absurd (omega arith)
+    third false y z g = let c : _≡_ {A = ℕ} 0 1 = cc in absurd (omega arith)
 
-pub frames-other : (f : List ℕ) (k index first left at entry last next t d : ℕ) (r : Place) (o all : Bool) → ((i : ℕ) → Fits w8 (getD f i 0))
-    → 0 < left → entry + 16 * left ≤ length f → r ≡ frameEnd f at k → r ≡ End next → t ≡ readAt f (at + 4) 8 → d ≡ sinceFirst first t
-    → o ≡ otherEntry f entry d at (next - at) → o ≡ true → otherFrames f k index first left at entry last ≡ all → true ≡ all
-frames-other f k index first left at entry last next t d r o all b h l p q a w u v i =
-    let c = frames-cons f k index first left at entry last next t (slice-bytes f b) h l (sym p ∙ q) a in
-    sym (asked-other (walk (left - 1) k (drop next f)) f index first (left - 1) at entry last next t (next - at) (sym (rw w at u) ∙ v)) ∙ sym c ∙ i
+pub length-noted : (f : List ℕ) (entry m : ℕ) → m ≡ readAt (entryPart f entry) 12 4 → m ≡ notedLength f entry
+unfolding notedLength
+length-noted f entry m e =
+    let q : entry + 16 - entry ≡ 16 = omega arith in
+    rw q at e
 
-pub frames-step : (f : List ℕ) (k index first left at entry last next t d : ℕ) (r : Place) (s o all : Bool) → ((i : ℕ) → Fits w8 (getD f i 0))
-    → 0 < left → entry + 16 * left ≤ length f → r ≡ frameEnd f at k → r ≡ End next → t ≡ readAt f (at + 4) 8 → s ≡ follows first last t → s ≡ true
-    → d ≡ sinceFirst first t → o ≡ otherEntry f entry d at (next - at) → o ≡ false → otherFrames f k index first left at entry last ≡ all
-    → otherFrames f k index first (left - 1) next (entry + 16) t ≡ all
-unfolding otherFrames
-frames-step f k index first left at entry last next t d r s o all b h l p q a u v w x y i =
-    let c = frames-cons f k index first left at entry last next t (slice-bytes f b) h l (sym p ∙ q) a in
-    sym (asked-right (walk (left - 1) k (drop next f)) f index first (left - 1) at entry last next t (next - at) (sym u ∙ v)
-    (sym (rw w at x) ∙ y)) ∙ sym c ∙ i
+-- a frame ends within the file
+end-in : (f : List ℕ) (at k next : ℕ) → areBytes f ≡ true → frameEnd f at k ≡ End next → next ≤ length f
+end-in f at k next b q =
+    let (x, n, g, a, c, d) = ended f at k next q in
+    let z = frame-exact k .gives (drop at f) x n (bytes-drop at f b) g in
+    omega (
+      arith,
+      length-drop at f,
+      frame-parts k (drop at f) x n g .long,
+      z .1,
+      ap length (z .2),
+      length-append (frameBytes x) (drop n (drop at f)),
+    )
+
+module _ (f : List ℕ) (k first at entry last : ℕ) where
+  pub noted-none : (r : Place) → r ≡ frameEnd f at k → r ≡ Broken → Other ≡ notedFrame f k first at entry last
+  unfolding notedFrame notedBy
+  noted-none r p q = rw (sym p ∙ q)
+
+  pub noted-late : (next t : ℕ) (r : Place) (s : Bool) → r ≡ frameEnd f at k → r ≡ End next → t ≡ readAt f (at + 4) 8 → s ≡ follows first last t
+      → s ≡ false → Other ≡ notedFrame f k first at entry last
+  unfolding notedFrame notedBy
+  noted-late next t r s p q a u v = rw (sym p ∙ q, ← a, sym u ∙ v)
+
+  pub noted-other : (next t d : ℕ) (r : Place) (s o : Bool) → r ≡ frameEnd f at k → r ≡ End next → t ≡ readAt f (at + 4) 8
+      → s ≡ follows first last t → s ≡ true → d ≡ sinceFirst first t → o ≡ otherEntry f entry d at (next - at) → o ≡ true
+      → Other ≡ notedFrame f k first at entry last
+  unfolding notedFrame notedBy
+  noted-other next t d r s o p q a u v w x y = rw (sym p ∙ q, ← a, sym u ∙ v, ← w, sym x ∙ y)
+
+  pub noted-this : (next t d : ℕ) (r : Place) (s o : Bool) → r ≡ frameEnd f at k → r ≡ End next → t ≡ readAt f (at + 4) 8
+      → s ≡ follows first last t → s ≡ true → d ≡ sinceFirst first t → o ≡ otherEntry f entry d at (next - at) → o ≡ false
+      → At t ≡ notedFrame f k first at entry last
+  unfolding notedFrame notedBy
+  noted-this next t d r s o p q a u v w x y = rw (sym p ∙ q, ← a, sym u ∙ v, ← w, sym x ∙ y)
+
+  -- a frame that is the one of its entry
+  pub record Noting (t : ℕ) : Type 0 where
+    pub next : ℕ
+    pub ends : frameEnd f at k ≡ End next
+    pub time : readAt f (at + 4) 8 ≡ t
+    pub inTime : follows first last (readAt f (at + 4) 8) ≡ true
+    pub entered : otherEntry f entry (sinceFirst first (readAt f (at + 4) 8)) at (next - at) ≡ false
+
+  noting : (t : ℕ) (r : Noted) → r ≡ notedFrame f k first at entry last → r ≡ At t → Noting t
+  unfolding notedFrame notedBy
+  noting t r p q = go (frameEnd f at k) refl (sym p ∙ q)
+    where
+      told : (next : ℕ) (x y : Bool) → frameEnd f at k ≡ End next → follows first last (readAt f (at + 4) 8) ≡ x
+          → otherEntry f entry (sinceFirst first (readAt f (at + 4) 8)) at (next - at) ≡ y
+          → cond (not x || y) Other (At (readAt f (at + 4) 8)) ≡ At t → Noting t
+      told next false y g u v c = let z : _≡_ {A = ℕ} 0 1 = cc in absurd (omega arith)
+      told next true true g u v c = let z : _≡_ {A = ℕ} 0 1 = cc in absurd (omega arith)
+      told next true false g u v c =
+          record { next = next; ends = g; time = cc; inTime = u; entered = v }
+
+      go : (e : Place) → frameEnd f at k ≡ e → notedBy e f first at entry last ≡ At t → Noting t
+      go (End next) g c = told next (follows first last (readAt f (at + 4) 8))
+          (otherEntry f entry (sinceFirst first (readAt f (at + 4) 8)) at (next - at)) g refl refl c
+      go Broken g c = let z : _≡_ {A = ℕ} 0 1 = cc in absurd (omega arith)
+
+  -- the length in its entry leads on to the next, which is in the file
+  leads-on : (t : ℕ) (n : Noting t) → ((i : ℕ) → Fits w8 (getD f i 0)) → length f < 2 ^ 64 → k ≤ 8 → entry + 16 ≤ length f
+      → (at + notedLength f entry ≡ n .next) × (n .next ≤ length f)
+  leads-on t n b s z l =
+      let i = end-in f at k (n .next) (slice-bytes f b) (n .ends) in
+      let j = end-behind f at k (n .next) (End (n .next)) (sym (n .ends)) refl in
+      let e = entry-length f entry (sinceFirst first (readAt f (at + 4) 8)) at (n .next - at) b l
+      (since-fits first last (readAt f (at + 4) 8) (sinceFirst first (readAt f (at + 4) 8)) true (sym (n .inTime)) refl refl)
+      (record { fits = omega arith }) (end-near f at k (n .next) (End (n .next)) z (sym (n .ends)) refl) (n .entered) in
+      (omega arith, i)
+
+module _ (f : List ℕ) (k index first left at entry last : ℕ) where
+  -- a frame that is there: its time is late, its entry another, or it is the entry's
+  frame-late : (next : ℕ) → areBytes f ≡ true → 0 < left → entry + 16 * left ≤ length f → frameEnd f at k ≡ End next
+      → follows first last (readAt f (at + 4) 8) ≡ false → otherFrames f k index first left at entry last ≡ true
+  frame-late next b h l q u =
+      frames-cons f k index first left at entry last next (readAt f (at + 4) 8) b h l q refl
+      ∙ asked-late (walk (left - 1) k (drop next f)) f index first (left - 1) at entry last next (readAt f (at + 4) 8) (next - at) u
+
+  frame-other : (next : ℕ) → areBytes f ≡ true → 0 < left → entry + 16 * left ≤ length f → frameEnd f at k ≡ End next
+      → otherEntry f entry (sinceFirst first (readAt f (at + 4) 8)) at (next - at) ≡ true → otherFrames f k index first left at entry last ≡ true
+  frame-other next b h l q u =
+      frames-cons f k index first left at entry last next (readAt f (at + 4) 8) b h l q refl
+      ∙ asked-other (walk (left - 1) k (drop next f)) f index first (left - 1) at entry last next (readAt f (at + 4) 8) (next - at) u
+
+  frame-this : (next : ℕ) → areBytes f ≡ true → 0 < left → entry + 16 * left ≤ length f → frameEnd f at k ≡ End next
+      → follows first last (readAt f (at + 4) 8) ≡ true → otherEntry f entry (sinceFirst first (readAt f (at + 4) 8)) at (next - at) ≡ false
+      → otherFrames f k index first left at entry last ≡ otherFrames f k index first (left - 1) next (entry + 16) (readAt f (at + 4) 8)
+  unfolding otherFrames
+  frame-this next b h l q u v =
+      frames-cons f k index first left at entry last next (readAt f (at + 4) 8) b h l q refl
+      ∙ asked-right (walk (left - 1) k (drop next f)) f index first (left - 1) at entry last next (readAt f (at + 4) 8) (next - at) u v
+
+  pub frames-other : (r : Noted) (all : Bool) → ((i : ℕ) → Fits w8 (getD f i 0)) → 0 < left → entry + 16 * left ≤ length f
+      → r ≡ notedFrame f k first at entry last → r ≡ Other → otherFrames f k index first left at entry last ≡ all → true ≡ all
+  unfolding notedFrame notedBy
+  frames-other r all b h l p q i = sym (go (frameEnd f at k) refl (sym p ∙ q)) ∙ i
+    where
+      told : (next : ℕ) (x y : Bool) → frameEnd f at k ≡ End next → follows first last (readAt f (at + 4) 8) ≡ x
+          → otherEntry f entry (sinceFirst first (readAt f (at + 4) 8)) at (next - at) ≡ y
+          → cond (not x || y) Other (At (readAt f (at + 4) 8)) ≡ Other → otherFrames f k index first left at entry last ≡ true
+      told next false y g u v c = frame-late next (slice-bytes f b) h l g u
+      told next true true g u v c = frame-other next (slice-bytes f b) h l g v
+      told next true false g u v c = let z : _≡_ {A = ℕ} 0 1 = cc in absurd (omega arith)
+
+      go : (e : Place) → frameEnd f at k ≡ e → notedBy e f first at entry last ≡ Other → otherFrames f k index first left at entry last ≡ true
+      go (End next) g c = told next (follows first last (readAt f (at + 4) 8))
+          (otherEntry f entry (sinceFirst first (readAt f (at + 4) 8)) at (next - at)) g refl refl c
+      go Broken g c = frames-fewer f k index first left at entry last h g
+
+  pub frames-step : (t m : ℕ) (r : Noted) (all : Bool) → ((i : ℕ) → Fits w8 (getD f i 0)) → length f < 2 ^ 64 → k ≤ 8 → 0 < left
+      → entry + 16 * left ≤ length f → m ≡ notedLength f entry → r ≡ notedFrame f k first at entry last → r ≡ At t
+      → otherFrames f k index first left at entry last ≡ all → otherFrames f k index first (left - 1) (at + m) (entry + 16) t ≡ all
+  frames-step t m r all b s z h l e p q i =
+      let n = noting f k first at entry last t r p q in
+      let g : at + m ≡ n .next = omega (arith, leads-on f k first at entry last t n b s z (omega arith) .0) in
+      rw g (ap (λ (x : ℕ). otherFrames f k index first (left - 1) (n .next) (entry + 16) x) (sym (n .time))
+      ∙ sym (frame-this (n .next) (slice-bytes f b) h l (n .ends) (n .inTime) (n .entered)) ∙ i)
+
+  pub next-fits : (t m : ℕ) (r : Noted) → ((i : ℕ) → Fits w8 (getD f i 0)) → length f < 2 ^ 64 → k ≤ 8 → 0 < left
+      → entry + 16 * left ≤ length f → m ≡ notedLength f entry → r ≡ notedFrame f k first at entry last → r ≡ At t → Fits w64 (at + m)
+  next-fits t m r b s z h l e p q =
+      let (g, i) = leads-on f k first at entry last t (noting f k first at entry last t r p q) b s z (omega arith) in
+      record { fits = omega arith }
 
 -- ── The index as a whole ──
 
@@ -399,9 +525,11 @@ index-frames f h k start n first r b l m e p q g i =
     ∙ walk-index (walk (h .count) k (drop start f)) f h start first (walk-few f k start (h .count) (slice-bytes f b))
     (λ x xs v. walk-first f k start (h .count) x xs v ∙ sym g) (slice-bytes f b) l m e (sym p ∙ q)
 
-pub ruleset entry-laws = (needs, other-since, other-offset, other-size, this-entry)
+pub ruleset entry-laws = (needs, length-noted, other-since, other-offset, other-size, this-entry)
 
-pub ruleset frames-laws =
-    (needs, end-behind, time-fits, end-near, frames-done, frames-elsewhere, frames-fewer, frames-late, frames-other, frames-step, since-fits)
+pub ruleset noted-laws =
+    (needs, not-true, not-false, end-behind, time-fits, end-near, since-fits, noted-none, noted-late, noted-other, noted-this)
+
+pub ruleset frames-laws = (needs, frames-done, frames-elsewhere, frames-other, next-fits, frames-step)
 
 pub ruleset index-laws = (needs, index-many, index-behind, index-long, index-count, index-frames)

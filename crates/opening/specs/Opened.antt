@@ -1,17 +1,23 @@
 -- What this crate's functions answer, by the layout's readers and its lines of refusal.
 use Prim.Native.Nat.{ℕ, zero, suc, _+_, _*_, _-_}
-use mathlib.Core.Bool.{Bool, not, _||_}
+use mathlib.Core.Bool.{Bool, not, _||_, cond}
 use mathlib.Core.List.{List, _++_}
 use lib.ListN.{length, take, drop}
 use lib.Dec.{ltb, eqb}
-use Rattle.number.specs.Number.{bytesOf}
-use Rattle.layout.specs.Recording.{mostFrames, largestUserOffset, same, follow, inOrder, entriesBytes, indexBytes}
+use Rattle.number.specs.Number.{bytesOf, readAt}
+use Rattle.layout.specs.Recording.{mostFrames, largestUserOffset, same, follows, follow, inOrder, entriesBytes, indexBytes}
 use Rattle.layout.specs.Opening.{indexOffset, systemOffset, userOffset, walkStart, refusal, shown}
 use Rattle.layout.specs.Reading.{Walk, walk}
 use Rattle.header.specs.declared.Header.{Header}
+use Rattle.parts.specs.declared.Place.{Place}
+use Rattle.parts.specs.declared.Place.the-variants as place
+use Rattle.times.specs.Times.{sinceFirst}
+use Rattle.frames.specs.Frames.{frameEnd}
 use Rattle.refusal.specs.Refusal.{plain}
 use Rattle.refusal.specs.declared.Refusal.{Refusal}
 use Rattle.opening.specs.declared.Held.{Held}
+use Rattle.opening.specs.declared.Noted.{Noted}
+use Rattle.opening.specs.declared.Noted.the-variants as noted
 use Rattle.opening.specs.declared.Opening.{Opening}
 use Rattle.opening.specs.declared.Opening.the-variants as openingAs
 
@@ -25,6 +31,20 @@ notClosedBy f h =
 -- the sixteen bytes of an entry are not these
 unfoldable pub otherEntry : List ℕ → (entry since offset size : ℕ) → Bool
 otherEntry f entry since offset size = not (same (take 16 (drop entry f)) (bytesOf 4 since ++ bytesOf 8 offset ++ bytesOf 4 size))
+
+-- the length that an entry says
+unfoldable pub notedLength : List ℕ → (entry : ℕ) → ℕ
+notedLength f entry = readAt (take 16 (drop entry f)) 12 4
+
+-- the time of a frame that ends there, where that follows and its entry is this one
+unfoldable pub notedBy : Place → List ℕ → (first at entry last : ℕ) → Noted
+notedBy (place.End next) f first at entry last =
+    cond (not (follows first last (readAt f (at + 4) 8)) || otherEntry f entry (sinceFirst first (readAt f (at + 4) 8)) at (next - at)) noted.Other
+    (noted.At (readAt f (at + 4) 8))
+notedBy place.Broken f first at entry last = noted.Other
+
+unfoldable pub notedFrame : List ℕ → (sections first at entry last : ℕ) → Noted
+notedFrame f sections first at entry last = notedBy (frameEnd f at sections) f first at entry last
 
 -- the frames of a walk from `at` on are fewer than those left, or do not end at the index, or break the time rule, or are not those of the entries
 unfoldable pub otherWalk : Walk → List ℕ → (index first left at entry last : ℕ) → Bool

@@ -8,7 +8,7 @@ use tables::TablePlace;
 ghost use mathlib.Core.Path.{_≡_};
 ghost use Prim.Native.Nat.{_+_, _*_, _^_, _<_, _≤_};
 ghost use lib.ListN.{length};
-ghost use Rattle.opening.specs.Opened.{notClosedBy, otherEntry, otherFrames, badIndexBy, openOf, openRefusal};
+ghost use Rattle.opening.specs.Opened.{notClosedBy, otherEntry, notedLength, notedFrame, otherFrames, badIndexBy, openOf, openRefusal};
 
 // ── The index ──
 
@@ -32,8 +32,49 @@ fn other_entry(file: &[u8], entry: usize, since: u64, offset: usize, size: usize
     true
 }
 
+// The length that an entry says.
+fn noted_length(file: &[u8], entry: usize) -> usize
+    requires { ⌜ entry + 16 ≤ length (now file) ⌝ }
+    ensures { λ r. ⌜ r ≡ notedLength (now (file .entry)) entry ⌝ }
+{
+    let behind = entry + Header::INDEX_ENTRY;
+    number::read(&file[entry..behind], 12, 4) as usize
+}
+
+// A frame held against its entry: its time; or that no whole frame stands there, that it is late, or not the one of the entry.
+enum Noted {
+    At(u64),
+    Other,
+}
+
+fn noted_frame(
+    file: &[u8],
+    sections: usize,
+    first: u64,
+    place: usize,
+    entry: usize,
+    last: u64,
+) -> Noted
+    requires { ⌜ (sections ≤ 8) × (entry + 16 ≤ length (now file)) ⌝ }
+    ensures { λ r. ⌜ r ≡ notedFrame (now (file .entry)) sections first place entry last ⌝ }
+{
+    let end = frames::frame_end(file, place, sections);
+    let Place::End(next) = end else {
+        return Noted::Other;
+    };
+    let time = number::read(file, place + 4, 8);
+    if !times::follows_last(first, last, time) {
+        return Noted::Other;
+    }
+    if other_entry(file, entry, times::since(first, time), place, next - place) {
+        return Noted::Other;
+    }
+    Noted::At(time)
+}
+
 // Whether the frames from a place on are fewer than the entries, end elsewhere than at the index, break the time rule, or are not those of the
-// entries. One pass: each frame is held against its entry as it is found.
+// entries. One pass: each frame is held against its entry as it is found. The lengths of the entries lead from frame to frame, and not the sizes in the
+// frames, to which they are held: so no place waits for the bytes of the frame ahead of it.
 fn other_frames(
     file: &[u8],
     sections: usize,
@@ -50,18 +91,12 @@ fn other_frames(
     let mut last = first;
     let mut left = count;
     while 0 < left {
-        let end = frames::frame_end(file, place, sections);
-        let Place::End(next) = end else {
+        let length = noted_length(file, entry);
+        let noted = noted_frame(file, sections, first, place, entry, last);
+        let Noted::At(time) = noted else {
             return true;
         };
-        let time = number::read(file, place + 4, 8);
-        if times::follows_last(first, last, time) {} else {
-            return true;
-        }
-        if other_entry(file, entry, times::since(first, time), place, next - place) {
-            return true;
-        }
-        place = next;
+        place += length;
         entry += Header::INDEX_ENTRY;
         last = time;
         left -= 1;

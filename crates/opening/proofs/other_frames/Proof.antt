@@ -1,11 +1,14 @@
-use borrow.Author.Needs.{needs}
+use Rattle.opening.proofs.other_frames.Statement.{statement}
 use Prim.Native.Nat.{_+_, _*_, _≤_}
 use mathlib.Core.Path.{_≡_}
 use lib.ListN.{length}
 use Rattle.opening.specs.Opened.{otherFrames}
 use Rattle.opening.proofs.Index.{frames-laws}
-use Rattle.opening.proofs.other_frames.Statement.{statement}
 use Rattle.opening.proofs.other_frames.Tie as tie
+use Rattle.opening.proofs.other_frames.Reads as reads
+use Rattle.opening.proofs.other_frames.Lts as lts
+use Rattle.opening.proofs.noted_frame.Reads as noted-frame-reads
+use Rattle.opening.proofs.noted_length.Reads as noted-length-reads
 
 abbrev Inv-loop : tie.InvT-loop
 Inv-loop file sections start count index first place₀ entry₀ last₀ left₀ place entry last left =
@@ -16,64 +19,46 @@ abbrev μ-loop : tie.MeasureT-loop
 μ-loop file sections start count index first place₀ entry₀ last₀ left₀ place entry last left = left
 
 add-entry : tie.Need-add-entry Inv-loop μ-loop
-add-entry c = search needs
+add-entry c = search frames-laws
 
 loop-holds : tie.Need-loop-holds Inv-loop μ-loop
-loop-holds c = search needs
+loop-holds c = search frames-laws
 
-frame-end-requires : tie.Need-frame-end-requires Inv-loop μ-loop
-frame-end-requires c κs = search needs
+noted-length-requires : tie.Need-noted-length-requires Inv-loop μ-loop
+noted-length-requires c κs = search frames-laws
 
-enum-known-end : tie.Need-enum-known-end Inv-loop μ-loop
-enum-known-end c = search needs
+noted-frame-requires : tie.Need-noted-frame-requires Inv-loop μ-loop
+noted-frame-requires c κs = search frames-laws
+
+enum-known-noted : tie.Need-enum-known-noted Inv-loop μ-loop
+enum-known-noted c = search frames-laws
 
 enum-told : tie.Need-enum-told Inv-loop μ-loop
-enum-told c = search needs
+enum-told c = search frames-laws
 
 returns : tie.Need-returns Inv-loop μ-loop
 returns c = search frames-laws
 
-add-read : tie.Need-add-read Inv-loop μ-loop
-add-read c = search frames-laws
-
-read-requires : tie.Need-read-requires Inv-loop μ-loop
-read-requires c κs = search needs
-
-follows-last-requires : tie.Need-follows-last-requires Inv-loop μ-loop
-follows-last-requires c κs = search needs
-
-returns-2 : tie.Need-returns-2 Inv-loop μ-loop
-returns-2 c = search frames-laws
-
-since-requires : tie.Need-since-requires Inv-loop μ-loop
-since-requires c κs = search needs
-
-sub-other-entry : tie.Need-sub-other-entry Inv-loop μ-loop
-sub-other-entry c = search frames-laws
-
-other-entry-requires : tie.Need-other-entry-requires Inv-loop μ-loop
-other-entry-requires c κs = search frames-laws
-
-returns-3 : tie.Need-returns-3 Inv-loop μ-loop
-returns-3 c = search frames-laws
+add-place : tie.Need-add-place Inv-loop μ-loop
+add-place c = search frames-laws
 
 add-entry-2 : tie.Need-add-entry-2 Inv-loop μ-loop
-add-entry-2 c = search needs
+add-entry-2 c = search frames-laws
 
 sub-left : tie.Need-sub-left Inv-loop μ-loop
-sub-left c = search needs
+sub-left c = search frames-laws
 
 loop-less : tie.Need-loop-less Inv-loop μ-loop
-loop-less c = search needs
+loop-less c = search frames-laws
 
 loop-again : tie.Need-loop-again Inv-loop μ-loop
 loop-again c = search frames-laws
 
-returns-4 : tie.Need-returns-4 Inv-loop μ-loop
-returns-4 c = search frames-laws
+returns-2 : tie.Need-returns-2 Inv-loop μ-loop
+returns-2 c = search frames-laws
 
-returns-5 : tie.Need-returns-5 Inv-loop μ-loop
-returns-5 c = search frames-laws
+returns-3 : tie.Need-returns-3 Inv-loop μ-loop
+returns-3 c = search frames-laws
 
 pub other-frames-spec : {M : Type 1} → statement M
 other-frames-spec =
@@ -83,21 +68,15 @@ other-frames-spec =
     μ-loop
     add-entry
     loop-holds
-    frame-end-requires
-    enum-known-end
+    noted-length-requires
+    noted-frame-requires
+    enum-known-noted
     enum-told
     returns
-    add-read
-    read-requires
-    follows-last-requires
-    returns-2
-    since-requires
-    sub-other-entry
-    other-entry-requires
-    returns-3
+    add-place
     add-entry-2
     sub-left
     loop-less
     loop-again
-    returns-4
-    returns-5)
+    returns-2
+    returns-3)
