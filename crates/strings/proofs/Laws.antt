@@ -221,7 +221,7 @@ value-rule s at r e = e
 
 -- ── All of a class ──
 
-every-cons : (ok : ℕ → Bool) (s : List ℕ) (at n : ℕ) → 0 < n → at < length s
+pub every-cons : (ok : ℕ → Bool) (s : List ℕ) (at n : ℕ) → 0 < n → at < length s
     → every ok (take n (drop at s)) ≡ (ok (getD s at 0) && every ok (take (n - 1) (drop (at + 1) s)))
 unfolding every
 every-cons ok s at (suc n) z h =
@@ -245,8 +245,6 @@ pub every-step : (ok : ℕ → Bool) (s : List ℕ) (at n : ℕ) (all r : Bool) 
 every-step ok s at n all r z h e f g =
     let q : ok (getD s at 0) ≡ true = cc in
     sym (rw q at (every-cons ok s at n z (omega arith))) ∙ g
-
--- ── Copying ──
 
 pub ruleset laws = (
   needs,

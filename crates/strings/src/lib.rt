@@ -1,6 +1,6 @@
 // Short strings over lent bytes, and the classes of bytes that names and values have.
 ghost use mathlib.Core.Path.{_≡_};
-ghost use Prim.Native.Nat.{_+_, _<_, _≤_};
+ghost use Prim.Native.Nat.{_+_, _*_, _<_, _≤_};
 ghost use lib.ListN.{length, take, drop};
 ghost use Rattle.layout.specs.Recording.{isNameByte, isTagByte, every, legalSectionName, legalTagName, legalTagValue};
 ghost use Rattle.layout.specs.Reading.{only, string};
@@ -70,8 +70,8 @@ pub fn string(s: &[u8], at: usize) -> Text
     Text::Whole(n)
 }
 
-// Whether n bytes, which are there, are all of a class.
-fn all_in_class(s: &[u8], at: usize, n: usize, class: Class) -> bool
+// Whether n bytes, which are there, are all of a class: one after another.
+fn bytes_in_class(s: &[u8], at: usize, n: usize, class: Class) -> bool
     requires { ⌜ at + n ≤ length (now s) ⌝ }
     ensures { λ r. ⌜ r ≡ every (inClass class) (take n (drop at (now (s .entry)))) ⌝ }
 {
@@ -85,6 +85,66 @@ fn all_in_class(s: &[u8], at: usize, n: usize, class: Class) -> bool
         left -= 1;
     }
     true
+}
+
+// Blocks of bytes are tested with no early exit: so a machine tests the bytes of one at once.
+fn four_in_class(s: &[u8], at: usize, class: Class) -> bool
+    requires { ⌜ at + 4 ≤ length (now s) ⌝ }
+    ensures { λ r. ⌜ r ≡ every (inClass class) (take 4 (drop at (now (s .entry)))) ⌝ }
+{
+    in_class(s[at], class)
+        & in_class(s[at + 1], class)
+        & in_class(s[at + 2], class)
+        & in_class(s[at + 3], class)
+}
+
+fn eight_in_class(s: &[u8], at: usize, class: Class) -> bool
+    requires { ⌜ at + 8 ≤ length (now s) ⌝ }
+    ensures { λ r. ⌜ r ≡ every (inClass class) (take 8 (drop at (now (s .entry)))) ⌝ }
+{
+    four_in_class(s, at, class) & four_in_class(s, at + 4, class)
+}
+
+fn sixteen_in_class(s: &[u8], at: usize, class: Class) -> bool
+    requires { ⌜ at + 16 ≤ length (now s) ⌝ }
+    ensures { λ r. ⌜ r ≡ every (inClass class) (take 16 (drop at (now (s .entry)))) ⌝ }
+{
+    eight_in_class(s, at, class) & eight_in_class(s, at + 8, class)
+}
+
+// So many blocks of sixteen bytes, which are there.
+fn blocks_in_class(s: &[u8], at: usize, blocks: usize, class: Class) -> bool
+    requires { ⌜ at + 16 * blocks ≤ length (now s) ⌝ }
+    ensures { λ r. ⌜ r ≡ every (inClass class) (take (16 * blocks) (drop at (now (s .entry)))) ⌝ }
+{
+    let mut i = at;
+    let mut left = blocks;
+    while 0 < left {
+        if !sixteen_in_class(s, i, class) {
+            return false;
+        }
+        i += 16;
+        left -= 1;
+    }
+    true
+}
+
+// Whether n bytes, which are there, are all of a class. The last block ends with them, over the one ahead of it: so no byte is tested alone but of the
+// shortest strings.
+fn all_in_class(s: &[u8], at: usize, n: usize, class: Class) -> bool
+    requires { ⌜ at + n ≤ length (now s) ⌝ }
+    ensures { λ r. ⌜ r ≡ every (inClass class) (take n (drop at (now (s .entry)))) ⌝ }
+{
+    if n < 4 {
+        return bytes_in_class(s, at, n, class);
+    }
+    if n < 8 {
+        return four_in_class(s, at, class) & four_in_class(s, at + (n - 4), class);
+    }
+    if n < 16 {
+        return eight_in_class(s, at, class) & eight_in_class(s, at + (n - 8), class);
+    }
+    blocks_in_class(s, at, n / 16, class) & sixteen_in_class(s, at + (n - 16), class)
 }
 
 // A short string of a class, with at least so many bytes.

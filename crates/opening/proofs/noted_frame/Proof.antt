@@ -2,13 +2,6 @@ use borrow.Author.Needs.{needs}
 use Rattle.opening.proofs.Index.{noted-laws}
 use Rattle.opening.proofs.noted_frame.Statement.{statement}
 use Rattle.opening.proofs.noted_frame.Tie as tie
-use Rattle.opening.proofs.noted_frame.Reads as reads
-use Rattle.opening.proofs.noted_frame.Lts as lts
-use Rattle.frames.proofs.frame_end.Reads as frame-end-reads
-use Rattle.number.proofs.read.Reads as read-reads
-use Rattle.opening.proofs.other_entry.Reads as other-entry-reads
-use Rattle.times.proofs.follows_last.Reads as follows-last-reads
-use Rattle.times.proofs.since.Reads as since-reads
 
 frame-end-requires : tie.Need-frame-end-requires
 frame-end-requires c κs = search needs

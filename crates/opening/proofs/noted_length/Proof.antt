@@ -2,9 +2,6 @@ use borrow.Author.Needs.{needs}
 use Rattle.opening.proofs.Index.{entry-laws}
 use Rattle.opening.proofs.noted_length.Statement.{statement}
 use Rattle.opening.proofs.noted_length.Tie as tie
-use Rattle.opening.proofs.noted_length.Reads as reads
-use Rattle.opening.proofs.noted_length.Lts as lts
-use Rattle.number.proofs.read.Reads as read-reads
 
 add-behind : tie.Need-add-behind
 add-behind c = search needs

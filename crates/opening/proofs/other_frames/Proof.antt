@@ -1,14 +1,10 @@
-use Rattle.opening.proofs.other_frames.Statement.{statement}
 use Prim.Native.Nat.{_+_, _*_, _≤_}
 use mathlib.Core.Path.{_≡_}
 use lib.ListN.{length}
 use Rattle.opening.specs.Opened.{otherFrames}
 use Rattle.opening.proofs.Index.{frames-laws}
+use Rattle.opening.proofs.other_frames.Statement.{statement}
 use Rattle.opening.proofs.other_frames.Tie as tie
-use Rattle.opening.proofs.other_frames.Reads as reads
-use Rattle.opening.proofs.other_frames.Lts as lts
-use Rattle.opening.proofs.noted_frame.Reads as noted-frame-reads
-use Rattle.opening.proofs.noted_length.Reads as noted-length-reads
 
 abbrev Inv-loop : tie.InvT-loop
 Inv-loop file sections start count index first place₀ entry₀ last₀ left₀ place entry last left =
