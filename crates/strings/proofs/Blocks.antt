@@ -9,7 +9,10 @@ use lib.ListN.{length, take, drop, getD}
 use lib.Seq.{drop-drop, take-add}
 use borrow.Author.Needs.{needs}
 use borrow.Author.Tests.{not-true, not-false}
-use Rattle.layout.specs.Recording.{every}
+use Rattle.layout.specs.Recording.{every, isTagByte}
+use Rattle.strings.specs.Strings.{inClass}
+use Rattle.strings.specs.declared.Class.{Class}
+use Rattle.strings.specs.declared.Class.the-variants as class
 use Rattle.strings.proofs.Laws.{every-cons}
 
 -- ── Bools ──
@@ -127,8 +130,20 @@ pub over-sixteen : (ok : ℕ → Bool) (s : List ℕ) (at n : ℕ) (a b : Bool) 
     → b ≡ every ok (take 16 (drop (at + (n - 16)) s)) → (a && b) ≡ every ok (take n (drop at s))
 over-sixteen ok s at n a b p e f = rw (e, f) (every-over ok s at n (16 * (n / 16)) 16 (omega arith) p (omega arith))
 
+-- tags have their own class
+pub tags-class : (s : List ℕ) (at n : ℕ) (r : Bool) → r ≡ every (inClass class.Tag) (take n (drop at s)) → r ≡ every isTagByte (take n (drop at s))
+unfolding inClass
+tags-class s at n r e = e
+
+pub class-tags : (s : List ℕ) (at n : ℕ) (c : Class) (r : Bool) → c ≡ class.Tag → r ≡ every isTagByte (take n (drop at s))
+    → r ≡ every (inClass c) (take n (drop at s))
+unfolding inClass
+class-tags s at n c r z e = rw z e
+
 pub ruleset laws = (
   needs,
+  tags-class,
+  class-tags,
   not-true,
   not-false,
   every-four,

@@ -87,40 +87,37 @@ fn bytes_in_class(s: &[u8], at: usize, n: usize, class: Class) -> bool
     true
 }
 
-// Blocks of bytes are tested with no early exit: so a machine tests the bytes of one at once.
-fn four_in_class(s: &[u8], at: usize, class: Class) -> bool
+// Blocks of bytes that a tag may have are tested with no early exit: so a machine tests the bytes of one at once.
+fn four_tag_bytes(s: &[u8], at: usize) -> bool
     requires { ⌜ at + 4 ≤ length (now s) ⌝ }
-    ensures { λ r. ⌜ r ≡ every (inClass class) (take 4 (drop at (now (s .entry)))) ⌝ }
+    ensures { λ r. ⌜ r ≡ every isTagByte (take 4 (drop at (now (s .entry)))) ⌝ }
 {
-    in_class(s[at], class)
-        & in_class(s[at + 1], class)
-        & in_class(s[at + 2], class)
-        & in_class(s[at + 3], class)
+    is_tag_byte(s[at]) & is_tag_byte(s[at + 1]) & is_tag_byte(s[at + 2]) & is_tag_byte(s[at + 3])
 }
 
-fn eight_in_class(s: &[u8], at: usize, class: Class) -> bool
+fn eight_tag_bytes(s: &[u8], at: usize) -> bool
     requires { ⌜ at + 8 ≤ length (now s) ⌝ }
-    ensures { λ r. ⌜ r ≡ every (inClass class) (take 8 (drop at (now (s .entry)))) ⌝ }
+    ensures { λ r. ⌜ r ≡ every isTagByte (take 8 (drop at (now (s .entry)))) ⌝ }
 {
-    four_in_class(s, at, class) & four_in_class(s, at + 4, class)
+    four_tag_bytes(s, at) & four_tag_bytes(s, at + 4)
 }
 
-fn sixteen_in_class(s: &[u8], at: usize, class: Class) -> bool
+fn sixteen_tag_bytes(s: &[u8], at: usize) -> bool
     requires { ⌜ at + 16 ≤ length (now s) ⌝ }
-    ensures { λ r. ⌜ r ≡ every (inClass class) (take 16 (drop at (now (s .entry)))) ⌝ }
+    ensures { λ r. ⌜ r ≡ every isTagByte (take 16 (drop at (now (s .entry)))) ⌝ }
 {
-    eight_in_class(s, at, class) & eight_in_class(s, at + 8, class)
+    eight_tag_bytes(s, at) & eight_tag_bytes(s, at + 8)
 }
 
 // So many blocks of sixteen bytes, which are there.
-fn blocks_in_class(s: &[u8], at: usize, blocks: usize, class: Class) -> bool
+fn blocks_of_tag_bytes(s: &[u8], at: usize, blocks: usize) -> bool
     requires { ⌜ at + 16 * blocks ≤ length (now s) ⌝ }
-    ensures { λ r. ⌜ r ≡ every (inClass class) (take (16 * blocks) (drop at (now (s .entry)))) ⌝ }
+    ensures { λ r. ⌜ r ≡ every isTagByte (take (16 * blocks) (drop at (now (s .entry)))) ⌝ }
 {
     let mut i = at;
     let mut left = blocks;
     while 0 < left {
-        if !sixteen_in_class(s, i, class) {
+        if !sixteen_tag_bytes(s, i) {
             return false;
         }
         i += 16;
@@ -129,22 +126,33 @@ fn blocks_in_class(s: &[u8], at: usize, blocks: usize, class: Class) -> bool
     true
 }
 
-// Whether n bytes, which are there, are all of a class. The last block ends with them, over the one ahead of it: so no byte is tested alone but of the
-// shortest strings.
+// Whether n bytes, which are there, are all bytes that a tag may have. The last block ends with them, over the one ahead of it: so no byte is tested
+// alone but of the shortest strings.
+fn tag_bytes(s: &[u8], at: usize, n: usize) -> bool
+    requires { ⌜ at + n ≤ length (now s) ⌝ }
+    ensures { λ r. ⌜ r ≡ every isTagByte (take n (drop at (now (s .entry)))) ⌝ }
+{
+    if n < 4 {
+        return bytes_in_class(s, at, n, Class::Tag);
+    }
+    if n < 8 {
+        return four_tag_bytes(s, at) & four_tag_bytes(s, at + (n - 4));
+    }
+    if n < 16 {
+        return eight_tag_bytes(s, at) & eight_tag_bytes(s, at + (n - 8));
+    }
+    blocks_of_tag_bytes(s, at, n / 16) & sixteen_tag_bytes(s, at + (n - 16))
+}
+
+// Whether n bytes, which are there, are all of a class. Section names are at most eight, and tested byte by byte.
 fn all_in_class(s: &[u8], at: usize, n: usize, class: Class) -> bool
     requires { ⌜ at + n ≤ length (now s) ⌝ }
     ensures { λ r. ⌜ r ≡ every (inClass class) (take n (drop at (now (s .entry)))) ⌝ }
 {
-    if n < 4 {
-        return bytes_in_class(s, at, n, class);
+    match class {
+        Class::Name => bytes_in_class(s, at, n, class),
+        Class::Tag => tag_bytes(s, at, n),
     }
-    if n < 8 {
-        return four_in_class(s, at, class) & four_in_class(s, at + (n - 4), class);
-    }
-    if n < 16 {
-        return eight_in_class(s, at, class) & eight_in_class(s, at + (n - 8), class);
-    }
-    blocks_in_class(s, at, n / 16, class) & sixteen_in_class(s, at + (n - 16), class)
 }
 
 // A short string of a class, with at least so many bytes.
