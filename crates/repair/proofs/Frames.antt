@@ -26,7 +26,8 @@ use Rattle.layout.proofs.Outputs.{sets-append, filled-is}
 use Rattle.layout.proofs.Walks.{Walked, walk-gives, took, walk-exactly}
 use Rattle.frames.proofs.Walks.{walk-first, by-first, length-index}
 use Rattle.refusal.specs.Refusal.{plain}
-use Rattle.repair.specs.Repaired.{made, answerOf, madeOf, commonWith, commonBehind, walkedAll, walkedIn, framesIn, alike, alikeIn, entriesIn, indexIn, tailed, tailOf, walkLines, keeping, walkRepaired, framesRepaired}
+use Rattle.repair.specs.Repaired.{made, answerOf, madeOf, commonWith, commonBehind, walkedAll, walkedIn, Lengths, framesIn, alike, alikeIn, listed, listedIn, entriesIn, indexIn, tailed, tailOf, walkLines, keeping, walkRepaired, framesRepaired}
+use Rattle.repair.proofs.Lengths.{all-listed}
 use Rattle.repair.specs.declared.Repaired.the-variants.{Kept, Refused}
 use Rattle.repair.specs.declared.Walked as declared
 use Rattle.repair.specs.declared.Walked.the-variants.{InOrder, OutOfOrder}
@@ -192,6 +193,17 @@ pub frames-alike : (f : List ℕ) (k start count end common : ℕ) (r : declared
 unfolding walkedIn
 frames-alike f k start count end common r s p q = alike-again f 1000000 k start count end common (slice-bytes f s) (sym p ∙ q)
 
+-- the lengths that the walk kept are those of the frames
+pub frames-listed : (f before after : List ℕ) (k start count end common : ℕ) (r : declared.Walked) → ((i : ℕ) → Fits w8 (getD f i 0))
+    → r ≡ walkedIn f k start → Lengths f k start r before after → r ≡ InOrder count end common → listedIn f k after 0 count start ≡ true
+unfolding walkedIn listedIn
+frames-listed f before after k start count end common r s p l q =
+    let (o, c, b, m) = walked-well (walk 1000000 k (drop start f)) start count end common (sym p ∙ q) in
+    ap (λ (n : ℕ). listed after 0 (walk n k (drop start f) .frames)) (sym c)
+    ∙ ap (listed after 0) (walk-again 1000000 k (drop start f) (bytes-drop start f (slice-bytes f s)))
+    ∙ ap (λ (t : List ℕ). listed t 0 (walk 1000000 k (drop start f) .frames)) (l .kept count end common q)
+    ∙ all-listed before 0 (walk 1000000 k (drop start f) .frames)
+
 -- the index that the code writes is that of the walked frames
 index-is : (f : List ℕ) (most k start count : ℕ) → areBytes f ≡ true → length (walk most k (drop start f) .frames) ≡ count
     → indexIn f k start count ≡ indexBytes start (walk most k (drop start f) .frames)
@@ -256,4 +268,4 @@ pub user-fits : (f : List ℕ) (k start count end common : ℕ) (r : declared.Wa
     → r ≡ InOrder count end common → end ≤ 1099511115772 → Fits w64 (end + (4 + 16 * count))
 user-fits f k start count end common r s p q h = let c = count-few f k start count end common r s p q in record { fits = omega arith }
 
-pub ruleset frames = (frames-clock, frames-far, frames-long, frames-room, frames-again, frames-alike, frames-kept, entries-fit, index-fits, user-fits)
+pub ruleset frames = (frames-clock, frames-far, frames-long, frames-room, frames-again, frames-alike, frames-listed, frames-kept, entries-fit, index-fits, user-fits)

@@ -22,7 +22,7 @@ use Rattle.front.specs.declared.Front.the-variants as frontAs
 use Rattle.opening.specs.declared.Held.{Held}
 use Rattle.opening.specs.declared.Opening.{Opening}
 use Rattle.opening.specs.declared.Opening.the-variants as openingAs
-use Rattle.front.proofs.Passed.{front-passes, front-refuses, start-within}
+use Rattle.front.proofs.Passed.{front-passes, front-refuses, start-within, few-sections}
 use Rattle.opening.proofs.Lines.{open-opens, open-refuses}
 use Rattle.repair.proofs.Frames.{refused-made}
 use Rattle.refusal.specs.Refusal.{plain}
@@ -86,4 +86,8 @@ pub start-there : (f : List ℕ) (r : Front) (held : FrontHeld) → ((i : ℕ) �
 unfolding frontHeld
 start-there f r held b p q = rw (held-is f [] r held p q) (start-within f (slice-bytes f b) (passes f [] r held p q .system))
 
-pub ruleset order = (opens-whole, opens-not, repair-front, repair-whole, repair-behind, start-there)
+pub sections-few : (f : List ℕ) (r : Front) (held : FrontHeld) → r ≡ frontOf f → r ≡ frontAs.Whole held → held .sections ≤ 8
+unfolding frontHeld
+sections-few f r held p q = rw (held-is f [] r held p q) (few-sections f (passes f [] r held p q .sections))
+
+pub ruleset order = (opens-whole, opens-not, repair-front, repair-whole, repair-behind, start-there, sections-few)

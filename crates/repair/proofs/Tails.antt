@@ -3,10 +3,10 @@
 use Prim.Native.Nat.{ℕ, zero, suc, _+_, _*_, _-_, _^_, _<_, _≤_}
 use native.Mathlib.Omega.{arith}
 use mathlib.Core.Path.{_≡_, refl, ap, sym, _∙_}
-use mathlib.Core.Bool.{true}
+use mathlib.Core.Bool.{Bool, true, false, _||_, cond}
 use mathlib.Core.List.{List, [], _++_, append-assoc, append-nil, flatMap}
-use lib.Dec.{eqb}
-use borrow.Author.Tests.{eqb-true}
+use lib.Dec.{leb, ltb, eqb}
+use borrow.Author.Tests.{lt-ltb, lt-leb, ltb-true, eqb-true}
 use lib.ListN.{length, take, drop, getD, length-append, length-drop, drop-of-length-le}
 use lib.Seq.{sets, length-sets, sets-eq, drop-drop, take-all, length-take-le}
 use mir.Syntax.{w8, w64}
@@ -29,7 +29,7 @@ use Rattle.frames.specs.Frames.{frameEnd}
 use Rattle.times.specs.Times.{sinceFirst}
 use Rattle.frames.proofs.Laws.{ended, end-behind, end-within}
 use Rattle.frames.proofs.Walks.{walk-cons}
-use Rattle.repair.specs.Repaired.{endIn, nextBy, framesIn, alike, alikeIn, entriesIn, indexIn, tailed}
+use Rattle.repair.specs.Repaired.{endIn, nextKept, nextBy, framesIn, alike, alikeIn, listed, listedIn, entriesIn, indexIn, tailed}
 
 -- ── An entry ──
 
@@ -112,11 +112,17 @@ next-there f k place end r p q e =
     let w : _≡_ {A = ℕ} 0 1 = cc in
     absurd (omega arith)
 
-pub next-common : (f : List ℕ) (k place common : ℕ) → (common ≡ 0 → ⊥) → frameEnd f place k ≡ End (nextBy f place k common)
+pub next-common : (f ls : List ℕ) (k place common i : ℕ) → (common ≡ 0 → ⊥) → frameEnd f place k ≡ End (nextBy f place k common ls i)
     → place + common ≡ endIn (frameEnd f place k)
 unfolding nextBy endIn
-next-common f k place zero n e = absurd (n refl)
-next-common f k place (suc c) n e = rw e
+next-common f ls k place zero i n e = absurd (n refl)
+next-common f ls k place (suc c) i n e = rw e
+
+pub next-kept : (f ls : List ℕ) (k place common i m : ℕ) → common ≡ 0 → i < length ls → m ≡ getD ls i 0
+    → frameEnd f place k ≡ End (nextBy f place k common ls i) → place + m ≡ endIn (frameEnd f place k)
+unfolding nextBy nextKept endIn
+next-kept f ls k place zero i m z h g e = rw (e, lt-ltb i (length ls) h, g)
+next-kept f ls k place (suc c) i m z h g e = absurd (omega arith)
 
 -- a frame that is known to be whole lies in the file
 end-there : (f : List ℕ) (k place next : ℕ) → ((i : ℕ) → Fits w8 (getD f i 0)) → frameEnd f place k ≡ End next → next ≤ length f
@@ -127,18 +133,23 @@ end-there f k place next b q =
     ap length r ∙ length-append (frameBytes x) (drop n (drop place f)) in
     omega (arith, length-drop place f, end-within f place k next (End next) (sym q) refl)
 
-pub next-fits : (f : List ℕ) (k place common : ℕ) → ((i : ℕ) → Fits w8 (getD f i 0)) → (common ≡ 0 → ⊥)
-    → frameEnd f place k ≡ End (nextBy f place k common) → length f < 2 ^ 64 → Fits w64 (place + common)
-unfolding nextBy
-next-fits f k place common b n e l =
-    let t = end-there f k place (nextBy f place k common) b e in
-    let c = next-common f k place common n e in
-    let m : nextBy f place k common ≡ place + common = by-common common n in
+-- so its end fits
+ends-fit : (f : List ℕ) (k place next sum : ℕ) → ((i : ℕ) → Fits w8 (getD f i 0)) → length f < 2 ^ 64 → frameEnd f place k ≡ End next
+    → sum ≡ endIn (frameEnd f place k) → Fits w64 sum
+unfolding endIn
+ends-fit f k place next sum b l e q =
+    let t = end-there f k place next b e in
+    let m : sum ≡ next = q ∙ ap endIn e in
     record { fits = omega arith }
-  where
-    by-common : (c : ℕ) → (c ≡ 0 → ⊥) → nextBy f place k c ≡ place + c
-    by-common zero n = absurd (n refl)
-    by-common (suc c) n = refl
+
+pub next-fits : (f ls : List ℕ) (k place common i : ℕ) → ((i : ℕ) → Fits w8 (getD f i 0)) → (common ≡ 0 → ⊥)
+    → frameEnd f place k ≡ End (nextBy f place k common ls i) → length f < 2 ^ 64 → Fits w64 (place + common)
+next-fits f ls k place common i b n e l = ends-fit f k place (nextBy f place k common ls i) (place + common) b l e (next-common f ls k place common i n e)
+
+pub kept-fits : (f ls : List ℕ) (k place common i m : ℕ) → ((i : ℕ) → Fits w8 (getD f i 0)) → common ≡ 0 → i < length ls → m ≡ getD ls i 0
+    → frameEnd f place k ≡ End (nextBy f place k common ls i) → length f < 2 ^ 64 → Fits w64 (place + m)
+kept-fits f ls k place common i m b z h g e l =
+    ends-fit f k place (nextBy f place k common ls i) (place + m) b l e (next-kept f ls k place common i m z h g e)
 
 -- frames that have a length in common stand at places that it gives
 alike-first : (x : Frame) (n : ℕ) (w : Walk) (c : ℕ) → alike (suc c) (longer x n w .frames) ≡ true
@@ -147,28 +158,62 @@ unfolding alike longer
 alike-first x n w c e = let b = both-true (eqb (length (frameBytes x)) (suc c)) (alike (suc c) (w .frames)) e in
     (eqb-true (length (frameBytes x)) (suc c) (b .0), b .1)
 
-next-alike : (f : List ℕ) (k left place next common : ℕ) → ((i : ℕ) → Fits w8 (getD f i 0)) → 0 < left → frameEnd f place k ≡ End next
-    → alikeIn f k common left place ≡ true → (next ≡ nextBy f place k common) × (alikeIn f k common (left - 1) next ≡ true)
-unfolding nextBy alikeIn endIn alike
-next-alike f k left place next zero b h q e = (rw q, refl)
-next-alike f k left place next (suc c) b h q e = go (ended f place k next q)
+-- frames whose lengths are kept stand at places that these give
+listed-first : (x : Frame) (n : ℕ) (w : Walk) (ls : List ℕ) (i : ℕ) → listed ls i (longer x n w .frames) ≡ true
+    → ((leb (length ls) i || eqb (getD ls i 0) (length (frameBytes x))) ≡ true) × (listed ls (i + 1) (w .frames) ≡ true)
+unfolding listed longer
+listed-first x n w ls i e = both-true (leb (length ls) i || eqb (getD ls i 0) (length (frameBytes x))) (listed ls (i + 1) (w .frames)) e
+
+listed-length : (ls : List ℕ) (i n : ℕ) → i < length ls → (leb (length ls) i || eqb (getD ls i 0) n) ≡ true → getD ls i 0 ≡ n
+listed-length ls i n h e = eqb-true (getD ls i 0) n (rw (lt-leb (length ls) i h) at e)
+
+-- a frame and those behind it
+pub record Next (f : List ℕ) (k left place next common : ℕ) (ls : List ℕ) (i : ℕ) : Type 0 where
+  pub by : next ≡ nextBy f place k common ls i
+  pub alike : alikeIn f k common (left - 1) next ≡ true
+  pub listed : listedIn f k ls (i + 1) (left - 1) next ≡ true
+
+next-alike : (f ls : List ℕ) (k left place next common i : ℕ) → ((i : ℕ) → Fits w8 (getD f i 0)) → 0 < left → frameEnd f place k ≡ End next
+    → alikeIn f k common left place ≡ true → listedIn f k ls i left place ≡ true → Next f k left place next common ls i
+unfolding alikeIn listedIn nextBy nextKept endIn alike
+next-alike f ls k left place next common i b h q e m = go (ended f place k next q)
   where
+    in-common : (c n : ℕ) (x : Frame) (w : Walk) → place + n ≡ next → n ≡ length (frameBytes x) → alike c (longer x n w .frames) ≡ true
+        → (leb (length ls) i || eqb (getD ls i 0) (length (frameBytes x))) ≡ true
+        → (next ≡ nextBy f place k c ls i) × (alike c (w .frames) ≡ true)
+    in-common zero n x w a z t l = (kept (ltb i (length ls)) refl, refl)
+      where
+        kept : (t : Bool) → ltb i (length ls) ≡ t → next ≡ cond t (place + getD ls i 0) (endIn (frameEnd f place k))
+        kept true o = sym a ∙ ap (λ (j : ℕ). place + j) (z ∙ sym (listed-length ls i (length (frameBytes x)) (omega (arith, ltb-true i (length ls) o)) l))
+        kept false o = rw q
+    in-common (suc c) n x w a z t l =
+        let (o, u) = alike-first x n w c t in
+        (sym a ∙ ap (λ (j : ℕ). place + j) (z ∙ o), u)
+
     go : ((x : Frame) × (n : ℕ) × (frame k (drop place f) ≡ good x n) × (place + n ≡ next) × (x .time ≡ readAt f (place + 4) 8)
-        × (x .exposure ≡ readAt f (place + 12) 4)) → (next ≡ place + suc c) × (alikeIn f k (suc c) (left - 1) next ≡ true)
+        × (x .exposure ≡ readAt f (place + 12) 4)) → Next f k left place next common ls i
     go (x, n, g, a, t, d) =
         let z : n ≡ length (frameBytes x) = frame-exact k .gives (drop place f) x n (bytes-drop place f (slice-bytes f b)) g .1 in
-        let (l, m) = alike-first x n (walk (left - 1) k (drop (place + n) f)) c (rw (walk-cons f k left place x n h g) at e) in
-        (sym a ∙ ap (λ (j : ℕ). place + j) (z ∙ l), rw (← a) m)
+        let w : Walk = walk (left - 1) k (drop (place + n) f) in
+        let (o, u) = listed-first x n w ls i (rw (walk-cons f k left place x n h g) at m) in
+        let (v, y) = in-common common n x w a z (rw (walk-cons f k left place x n h g) at e) o in
+        record { by = v; alike = rw (← a) y; listed = rw (← a) u }
 
-pub next-known : (f : List ℕ) (k left place common : ℕ) → ((i : ℕ) → Fits w8 (getD f i 0)) → 0 < left → framesIn f k left place ≡ left
-    → alikeIn f k common left place ≡ true → frameEnd f place k ≡ End (nextBy f place k common)
-next-known f k left place common b h e a =
-    let (m, q, l) = stands f k left place h e in
-    q ∙ ap End (next-alike f k left place m common b h q a .0)
+pub next-known : (f ls : List ℕ) (k left place common i : ℕ) → ((i : ℕ) → Fits w8 (getD f i 0)) → 0 < left → framesIn f k left place ≡ left
+    → alikeIn f k common left place ≡ true → listedIn f k ls i left place ≡ true → frameEnd f place k ≡ End (nextBy f place k common ls i)
+next-known f ls k left place common i b h e a m =
+    let (n, q, l) = stands f k left place h e in
+    q ∙ ap End (next-alike f ls k left place n common i b h q a m .by)
 
-pub alike-left : (f : List ℕ) (k left place next common : ℕ) → ((i : ℕ) → Fits w8 (getD f i 0)) → 0 < left → framesIn f k left place ≡ left
-    → next ≡ endIn (frameEnd f place k) → alikeIn f k common left place ≡ true → alikeIn f k common (left - 1) next ≡ true
-alike-left f k left place next common b h e p a = next-alike f k left place next common b h (known f k left place next h e p .0) a .1
+pub alike-left : (f ls : List ℕ) (k left place next common i : ℕ) → ((i : ℕ) → Fits w8 (getD f i 0)) → 0 < left → framesIn f k left place ≡ left
+    → next ≡ endIn (frameEnd f place k) → listedIn f k ls i left place ≡ true → alikeIn f k common left place ≡ true
+    → alikeIn f k common (left - 1) next ≡ true
+alike-left f ls k left place next common i b h e p m a = next-alike f ls k left place next common i b h (known f k left place next h e p .0) a m .alike
+
+pub listed-left : (f ls : List ℕ) (k left place next common i : ℕ) → ((i : ℕ) → Fits w8 (getD f i 0)) → 0 < left → framesIn f k left place ≡ left
+    → next ≡ endIn (frameEnd f place k) → alikeIn f k common left place ≡ true → listedIn f k ls i left place ≡ true
+    → listedIn f k ls (i + 1) (left - 1) next ≡ true
+listed-left f ls k left place next common i b h e p a m = next-alike f ls k left place next common i b h (known f k left place next h e p .0) a m .listed
 
 -- a time that is read from a part of just its bytes
 pub part-read : (f : List ℕ) (at n : ℕ) → at + 8 ≤ length f → n ≡ readAt (take (at + 8 - at) (drop at f)) 0 8 → n ≡ readAt f at 8

@@ -1,12 +1,13 @@
 -- What this crate's functions answer, by the layout's walk and its repair.
 use Prim.Native.Nat.{ℕ, zero, suc, _+_}
-use mathlib.Core.Bool.{Bool, true, not, _&&_, cond}
+use mathlib.Core.Path.{_≡_}
+use mathlib.Core.Bool.{Bool, true, false, not, _&&_, _||_, cond}
 use mathlib.Core.List.{List, [], _∷_, _++_}
-use lib.ListN.{length, drop}
+use lib.ListN.{length, drop, getD, set}
 use lib.Seq.{sets}
-use lib.Dec.{eqb}
+use lib.Dec.{leb, ltb, eqb}
 use Rattle.number.specs.Number.{bytesOf, readAt}
-use Rattle.layout.specs.Recording.{Frame, frameBytes, mostFrames, follow, inOrder, entriesBytes, indexBytes, indexLength, tableBytes}
+use Rattle.layout.specs.Recording.{Frame, frameBytes, mostFrames, follows, follow, inOrder, entriesBytes, indexBytes, indexLength, tableBytes}
 use Rattle.layout.specs.Reading.{Walk, walk}
 use Rattle.layout.specs.Opening.{Line, line, firstOf}
 use Rattle.layout.specs.Recorder.{tooLong, noRoom, filled}
@@ -17,6 +18,8 @@ use Rattle.parts.specs.declared.Place.the-variants.{End, Broken}
 use Rattle.refusal.specs.Refusal.{plain}
 use Rattle.repair.specs.declared.Repaired.{Repaired}
 use Rattle.repair.specs.declared.Repaired.the-variants.{Kept, Refused}
+use Rattle.repair.specs.declared.Step.{Step}
+use Rattle.repair.specs.declared.Step.the-variants.{Next, Stop}
 use Rattle.repair.specs.declared.Walked.{Walked}
 use Rattle.repair.specs.declared.Walked.the-variants.{InOrder, OutOfOrder}
 
@@ -44,6 +47,19 @@ repairOf f out = madeOf out (repair f (length out))
 
 -- ── The walk ──
 
+-- a frame that ends there, by its time
+unfoldable pub stepBy : Place → List ℕ → (first last place : ℕ) → Step
+stepBy (End next) f first last place = cond (follows first last (readAt f (place + 4) 8)) (Next next (readAt f (place + 4) 8)) (Stop true)
+stepBy Broken f first last place = Stop false
+
+unfoldable pub stepOf : List ℕ → (sections first last place : ℕ) → Step
+stepOf f sections first last place = stepBy (frameEnd f place sections) f first last place
+
+-- a walk that a step stops; one that goes on stops no walk
+unfoldable pub stoppedBy : Step → (count end common : ℕ) → Walked
+stoppedBy (Next next time) count end common = OutOfOrder
+stoppedBy (Stop late) count end common = cond late OutOfOrder (InOrder count end common)
+
 -- the length that `count` frames and one more have in common; 0 where they differ
 unfoldable pub commonWith : (count common size : ℕ) → ℕ
 commonWith zero common size = size
@@ -70,6 +86,19 @@ walkedAll w start = cond (inOrder (w .frames)) (InOrder (length (w .frames)) (st
 unfoldable pub walkedIn : List ℕ → (sections start : ℕ) → Walked
 walkedIn f sections start = walkedAll (walk mostFrames sections (drop start f)) start
 
+-- the length of frame i kept, where there is a place for it
+unfoldable pub noted : (lengths : List ℕ) → (i size : ℕ) → List ℕ
+noted ls i n = cond (ltb i (length ls)) (set ls i n) ls
+
+-- the lengths of these frames kept, the first of them having number i
+unfoldable pub notedFrom : (lengths : List ℕ) → (i : ℕ) → List Frame → List ℕ
+notedFrom ls i [] = ls
+notedFrom ls i (x ∷ xs) = notedFrom (noted ls i (length (frameBytes x))) (i + 1) xs
+
+-- a walk that ends in order has kept the lengths of its frames
+pub record Lengths (f : List ℕ) (sections start : ℕ) (r : Walked) (before after : List ℕ) : Type 0 where
+  pub kept : (count end common : ℕ) → r ≡ InOrder count end common → after ≡ notedFrom before 0 (walk mostFrames sections (drop start f) .frames)
+
 -- how many frames a walk of at most `count` takes from a place on
 unfoldable pub framesIn : List ℕ → (sections count place : ℕ) → ℕ
 framesIn f sections count place = length (walk count sections (drop place f) .frames)
@@ -83,15 +112,27 @@ alike (suc n) (x ∷ xs) = eqb (length (frameBytes x)) (suc n) && alike (suc n) 
 unfoldable pub alikeIn : List ℕ → (sections common count place : ℕ) → Bool
 alikeIn f sections common count place = alike common (walk count sections (drop place f) .frames)
 
+-- each of these frames has the length that is kept for it, the first of them having number i
+unfoldable pub listed : (lengths : List ℕ) → (i : ℕ) → List Frame → Bool
+listed ls i [] = true
+listed ls i (x ∷ xs) = (leb (length ls) i || eqb (getD ls i 0) (length (frameBytes x))) && listed ls (i + 1) xs
+
+unfoldable pub listedIn : List ℕ → (sections : ℕ) → (lengths : List ℕ) → (i count place : ℕ) → Bool
+listedIn f sections ls i count place = listed ls i (walk count sections (drop place f) .frames)
+
 -- the end that was found; 0 for none
 unfoldable pub endIn : Place → ℕ
 endIn (End n) = n
 endIn Broken = 0
 
--- where the next frame starts, by the length that all have in common, or where this one is found to end
-unfoldable pub nextBy : List ℕ → (place sections common : ℕ) → ℕ
-nextBy f place sections zero = endIn (frameEnd f place sections)
-nextBy f place sections (suc n) = place + suc n
+-- where the next frame starts, by the length that was kept of this one, or where it is found to end
+unfoldable pub nextKept : List ℕ → (place sections : ℕ) → (lengths : List ℕ) → (i : ℕ) → ℕ
+nextKept f place sections ls i = cond (ltb i (length ls)) (place + getD ls i 0) (endIn (frameEnd f place sections))
+
+-- by the length that all have in common, or so
+unfoldable pub nextBy : List ℕ → (place sections common : ℕ) → (lengths : List ℕ) → (i : ℕ) → ℕ
+nextBy f place sections zero ls i = nextKept f place sections ls i
+nextBy f place sections (suc n) ls i = place + suc n
 
 -- ── The tail ──
 

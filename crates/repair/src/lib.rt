@@ -8,7 +8,7 @@ use refusal::Refusal;
 ghost use mathlib.Core.Path.{_≡_};
 ghost use mathlib.Core.Bool.{true};
 ghost use mathlib.Core.List.{[]};
-ghost use Prim.Native.Nat.{_+_, _*_, _≤_};
+ghost use Prim.Native.Nat.{_+_, _*_, _^_, _<_, _≤_};
 ghost use lib.ListN.{length};
 ghost use lib.Seq.{sets};
 ghost use Rattle.number.specs.Number.{readAt};
@@ -16,7 +16,7 @@ ghost use Rattle.layout.specs.Recording.{entryBytes, tableBytes};
 ghost use Rattle.layout.specs.Repair.{whole};
 ghost use Rattle.parts.specs.declared.Place.the-variants.{End};
 ghost use Rattle.frames.specs.Frames.{frameEnd};
-ghost use Rattle.repair.specs.Repaired.{endIn, nextBy, commonWith, framesIn, alikeIn, walkedIn, entriesIn, indexIn, tailed, made, framesRepaired, repairOf};
+ghost use Rattle.repair.specs.Repaired.{endIn, nextBy, stepOf, stoppedBy, commonWith, noted, framesIn, alikeIn, listedIn, walkedIn, Lengths, entriesIn, indexIn, tailed, made, framesRepaired, repairOf};
 
 // The kept length, the three header fields, and the length of the tail, which stands at the start of the lent output; or the refusal number.
 pub enum Repaired {
@@ -30,6 +30,16 @@ pub enum Repaired {
     Refused(Refusal),
 }
 
+// Of how many frames the lengths are kept from the walk for the writing.
+const KEPT_LENGTHS: usize = 10_000;
+
+// A step of the walk: where a whole frame ends, and its time, which follows the last one; or that the walk stops there, with whether a time that breaks
+// its rule is why.
+enum Step {
+    Next(usize, u64),
+    Stop(bool),
+}
+
 // What the walk found: how many frames there are, where the last one ends and the length that they have in common; or that their times break the rule.
 enum Walked {
     InOrder {
@@ -38,6 +48,34 @@ enum Walked {
         common: usize,
     },
     OutOfOrder,
+}
+
+fn frame_step(file: &[u8], sections: usize, first: u64, last: u64, place: usize) -> Step
+    ensures { λ r. ⌜ r ≡ stepOf (now (file .entry)) sections first last place ⌝ }
+{
+    let end = frames::frame_end(file, place, sections);
+    let Place::End(next) = end else {
+        return Step::Stop(false);
+    };
+    let time = number::read(file, place + 4, 8);
+    if times::follows_last(first, last, time) {
+        Step::Next(next, time)
+    } else {
+        Step::Stop(true)
+    }
+}
+
+// The walk that a step has stopped.
+fn stopped(step: Step, count: usize, end: usize, common: usize) -> Walked
+    ensures { λ r. ⌜ r ≡ stoppedBy step count end common ⌝ }
+{
+    let Step::Stop(late) = step else {
+        return Walked::OutOfOrder;
+    };
+    if late {
+        return Walked::OutOfOrder;
+    }
+    Walked::InOrder { count, end, common }
 }
 
 // The length that `count` frames and one more have in common: 0 where they differ.
@@ -53,11 +91,22 @@ fn common_length(count: usize, common: usize, size: usize) -> usize
     0
 }
 
+// Keeps the length of a frame, where there is a place for it.
+fn note_length(lengths: &mut [u32], number: usize, size: usize)
+    requires { ⌜ size < 2 ^ 32 ⌝ }
+    ensures { λ r. ⌜ now (lengths .exit) ≡ noted (now (lengths .entry)) number size ⌝ }
+{
+    if lengths.len() <= number {
+        return;
+    }
+    lengths[number] = size as u32;
+}
+
 // "The walk takes whole frames one behind the other and stops at the first place without one, or after 1,000,000."
-// A time that breaks its rule settles the answer, so the walk goes no further then.
-fn walk(file: &[u8], sections: usize, start: usize) -> Walked
-    requires { ⌜ start ≤ length (now file) ⌝ }
-    ensures { λ r. ⌜ r ≡ walkedIn (now (file .entry)) sections start ⌝ }
+// A time that breaks its rule settles the answer, so the walk goes no further then. It keeps the lengths of as many frames as there are places for.
+fn walk(file: &[u8], sections: usize, start: usize, lengths: &mut [u32]) -> Walked
+    requires { ⌜ (sections ≤ 8) × (start ≤ length (now file)) ⌝ }
+    ensures { λ r. ⌜ (r ≡ walkedIn (now (file .entry)) sections start) × Lengths (now (file .entry)) sections start r (now (lengths .entry)) (now (lengths .exit)) ⌝ }
 {
     // the first frame's time stands behind its mark
     let first = number::read(file, start + 4, 8);
@@ -67,19 +116,12 @@ fn walk(file: &[u8], sections: usize, start: usize) -> Walked
     let mut common = 0;
     let mut left = Header::MOST_FRAMES;
     while 0 < left {
-        let end = frames::frame_end(file, place, sections);
-        let Place::End(next) = end else {
-            return Walked::InOrder {
-                count,
-                end: place,
-                common,
-            };
+        let step = frame_step(file, sections, first, last, place);
+        let Step::Next(next, time) = step else {
+            return stopped(step, count, place, common);
         };
-        let time = number::read(file, place + 4, 8);
-        if !times::follows_last(first, last, time) {
-            return Walked::OutOfOrder;
-        }
         common = common_length(count, common, next - place);
+        note_length(lengths, count, next - place);
         count += 1;
         place = next;
         last = time;
@@ -101,20 +143,37 @@ fn known_time(file: &[u8], at: usize) -> u64
     number::read(&file[at..end], 0, 8)
 }
 
-// Where a frame that is known to be whole ends. Frames that have a length in common need no size read: the place of one does not wait for the bytes of
-// the one ahead of it.
-fn next_place(file: &[u8], place: usize, sections: usize, common: usize) -> usize
-    requires { ⌜ frameEnd (now file) place sections ≡ End (nextBy (now file) place sections common) ⌝ }
+// A length that was kept, as a number: so that only one place asks that it fits.
+fn wide(length: u32) -> usize
+    ensures { λ r. ⌜ r ≡ length ⌝ }
+{
+    length as usize
+}
+
+// Where a frame that is known to be whole ends. Frames that have a length in common, or whose lengths were kept, need no size read: the place of one does
+// not wait for the bytes of the one ahead of it.
+fn next_place(
+    file: &[u8],
+    place: usize,
+    sections: usize,
+    common: usize,
+    lengths: &[u32],
+    number: usize,
+) -> usize
+    requires { ⌜ frameEnd (now file) place sections ≡ End (nextBy (now file) place sections common (now lengths) number) ⌝ }
     ensures { λ r. ⌜ r ≡ endIn (frameEnd (now (file .entry)) place sections) ⌝ }
 {
-    if common == 0 {
-        let end = frames::frame_end(file, place, sections);
-        let Place::End(next) = end else {
-            return place;
-        };
-        return next;
+    if common != 0 {
+        return place + common;
     }
-    place + common
+    if number < lengths.len() {
+        return place + wide(lengths[number]);
+    }
+    let end = frames::frame_end(file, place, sections);
+    let Place::End(next) = end else {
+        return place;
+    };
+    next
 }
 
 // An index entry in its sixteen bytes, all of which there is room for: time since the first frame, offset, length.
@@ -144,20 +203,23 @@ fn write_entries(
     first: u64,
     count: usize,
     common: usize,
+    lengths: &[u32],
     out: &mut [u8],
 )
-    requires { ⌜ (4 + 16 * count ≤ length (now out)) × (framesIn (now file) sections count start ≡ count) × (alikeIn (now file) sections common count start ≡ true) ⌝ }
+    requires { ⌜ (4 + 16 * count ≤ length (now out)) × (framesIn (now file) sections count start ≡ count) × (alikeIn (now file) sections common count start ≡ true) × (listedIn (now file) sections (now lengths) 0 count start ≡ true) ⌝ }
     ensures { λ r. ⌜ now (out .exit) ≡ sets (now (out .entry)) 4 (entriesIn (now (file .entry)) sections first count start) ⌝ }
 {
     let mut place = start;
     let mut entry = 4;
+    let mut passed = 0;
     let mut left = count;
     while 0 < left {
-        let next = next_place(file, place, sections, common);
+        let next = next_place(file, place, sections, common, lengths, passed);
         let time = known_time(file, place + 4);
         write_entry(out, entry, first, time, place, next - place);
         place = next;
         entry += Header::INDEX_ENTRY;
+        passed += 1;
         left -= 1;
     }
 }
@@ -169,14 +231,15 @@ fn write_index(
     start: usize,
     count: usize,
     common: usize,
+    lengths: &[u32],
     out: &mut [u8],
 )
-    requires { ⌜ (start ≤ length (now file)) × (4 + 16 * count ≤ length (now out)) × (framesIn (now file) sections count start ≡ count) × (alikeIn (now file) sections common count start ≡ true) ⌝ }
+    requires { ⌜ (start ≤ length (now file)) × (4 + 16 * count ≤ length (now out)) × (framesIn (now file) sections count start ≡ count) × (alikeIn (now file) sections common count start ≡ true) × (listedIn (now file) sections (now lengths) 0 count start ≡ true) ⌝ }
     ensures { λ r. ⌜ now (out .exit) ≡ sets (now (out .entry)) 0 (indexIn (now (file .entry)) sections start count) ⌝ }
 {
     let first = number::read(file, start + 4, 8);
     number::write(out, 0, 4, count as u64);
-    write_entries(file, sections, start, first, count, common, out);
+    write_entries(file, sections, start, first, count, common, lengths, out);
 }
 
 // "The user table is always written empty": its number of tags, and none.
@@ -194,21 +257,28 @@ fn write_tail(
     start: usize,
     count: usize,
     common: usize,
+    lengths: &[u32],
     out: &mut [u8],
 )
-    requires { ⌜ (start ≤ length (now file)) × (4 + 16 * count + 4 ≤ length (now out)) × (framesIn (now file) sections count start ≡ count) × (alikeIn (now file) sections common count start ≡ true) ⌝ }
+    requires { ⌜ (start ≤ length (now file)) × (4 + 16 * count + 4 ≤ length (now out)) × (framesIn (now file) sections count start ≡ count) × (alikeIn (now file) sections common count start ≡ true) × (listedIn (now file) sections (now lengths) 0 count start ≡ true) ⌝ }
     ensures { λ r. ⌜ now (out .exit) ≡ tailed (now (file .entry)) sections start count (now (out .entry)) ⌝ }
 {
-    write_index(file, sections, start, count, common, out);
+    write_index(file, sections, start, count, common, lengths, out);
     write_empty_table(out, 4 + Header::INDEX_ENTRY * count);
 }
 
 // 13, 15, 9 of a file whose frames start there; and the tail, where none of them is given.
-fn repair_frames(file: &[u8], sections: usize, start: usize, out: &mut [u8]) -> Repaired
-    requires { ⌜ start ≤ length (now file) ⌝ }
+fn repair_frames(
+    file: &[u8],
+    sections: usize,
+    start: usize,
+    lengths: &mut [u32],
+    out: &mut [u8],
+) -> Repaired
+    requires { ⌜ (sections ≤ 8) × (start ≤ length (now file)) ⌝ }
     ensures { λ r. ⌜ made r (now (out .exit)) ≡ framesRepaired (now (file .entry)) sections start (now (out .entry)) ⌝ }
 {
-    let walked = walk(file, sections, start);
+    let walked = walk(file, sections, start, lengths);
     let Walked::InOrder { count, end, common } = walked else {
         return Repaired::Refused(Refusal::CLOCK);
     };
@@ -225,7 +295,7 @@ fn repair_frames(file: &[u8], sections: usize, start: usize, out: &mut [u8]) -> 
     if out.len() < tail {
         return Repaired::Refused(Refusal::NO_ROOM);
     }
-    write_tail(file, sections, start, count, common, out);
+    write_tail(file, sections, start, count, common, lengths, out);
     Repaired::Kept {
         kept: end,
         count,
@@ -233,6 +303,20 @@ fn repair_frames(file: &[u8], sections: usize, start: usize, out: &mut [u8]) -> 
         user,
         tail,
     }
+}
+
+// The same with places for the lengths of as many frames as a recording of 1 GiB may well have. A short file is read from end to end while these are
+// cleared: it does without.
+fn repair_walked(file: &[u8], sections: usize, start: usize, out: &mut [u8]) -> Repaired
+    requires { ⌜ (sections ≤ 8) × (start ≤ length (now file)) ⌝ }
+    ensures { λ r. ⌜ made r (now (out .exit)) ≡ framesRepaired (now (file .entry)) sections start (now (out .entry)) ⌝ }
+{
+    if file.len() < 0x10_0000 {
+        let mut few = [0; 1];
+        return repair_frames(file, sections, start, &mut few, out);
+    }
+    let mut lengths = [0; KEPT_LENGTHS];
+    repair_frames(file, sections, start, &mut lengths, out)
 }
 
 // 16: "repair of a file that opens"
@@ -257,5 +341,5 @@ pub fn repair(file: &[u8], out: &mut [u8]) -> Repaired
     if opens(file) {
         return Repaired::Refused(Refusal::WHOLE);
     }
-    repair_frames(file, held.sections, held.start, out)
+    repair_walked(file, held.sections, held.start, out)
 }

@@ -1,13 +1,7 @@
-use Rattle.repair.proofs.Laws.{laws}
 use borrow.Author.Needs.{needs}
+use Rattle.repair.proofs.Laws.{laws}
 use Rattle.repair.proofs.repair.Statement.{statement}
 use Rattle.repair.proofs.repair.Tie as tie
-use Rattle.repair.proofs.repair.Reads as reads
-use Rattle.repair.proofs.repair.Lts as lts
-use Rattle.front.proofs.front_refusal.Reads as front-refusal-reads
-use Rattle.front.proofs.open_front.Reads as open-front-reads
-use Rattle.repair.proofs.opens.Reads as opens-reads
-use Rattle.repair.proofs.repair_frames.Reads as repair-frames-reads
 
 open-front-requires : tie.Need-open-front-requires
 open-front-requires c κs = search needs
@@ -30,8 +24,8 @@ opens-requires c κs = search needs
 returns-2 : tie.Need-returns-2
 returns-2 c = search laws
 
-repair-frames-requires : tie.Need-repair-frames-requires
-repair-frames-requires c κs = search laws
+repair-walked-requires : tie.Need-repair-walked-requires
+repair-walked-requires c κs = search laws
 
 same-length : tie.Need-same-length
 same-length c = search needs
@@ -50,6 +44,6 @@ repair-spec =
     returns
     opens-requires
     returns-2
-    repair-frames-requires
+    repair-walked-requires
     same-length
     returns-3)

@@ -1,11 +1,7 @@
-use Rattle.repair.proofs.Laws.{laws}
 use borrow.Author.Needs.{needs}
+use Rattle.repair.proofs.Laws.{laws}
 use Rattle.repair.proofs.repair_frames.Statement.{statement}
 use Rattle.repair.proofs.repair_frames.Tie as tie
-use Rattle.repair.proofs.repair_frames.Reads as reads
-use Rattle.repair.proofs.repair_frames.Lts as lts
-use Rattle.repair.proofs.walk.Reads as walk-reads
-use Rattle.repair.proofs.write_tail.Reads as write-tail-reads
 
 walk-requires : tie.Need-walk-requires
 walk-requires c κs = search needs
@@ -13,11 +9,18 @@ walk-requires c κs = search needs
 enum-known-walked : tie.Need-enum-known-walked
 enum-known-walked c = search needs
 
+-- /work/main/target/rlib/refusal.rlib/interface/lang/src/lib.rt:16:29
 enum-told : tie.Need-enum-told
 enum-told c = search needs
 
+same-length : tie.Need-same-length
+same-length c = search needs
+
 returns : tie.Need-returns
 returns c = search laws
+
+same-length-2 : tie.Need-same-length-2
+same-length-2 c = search needs
 
 returns-2 : tie.Need-returns-2
 returns-2 c = search laws
@@ -31,20 +34,29 @@ add-index-length c = search laws
 add-user : tie.Need-add-user
 add-user c = search laws
 
+same-length-3 : tie.Need-same-length-3
+same-length-3 c = search needs
+
 returns-3 : tie.Need-returns-3
 returns-3 c = search laws
 
 add-tail : tie.Need-add-tail
 add-tail c = search needs
 
+same-length-4 : tie.Need-same-length-4
+same-length-4 c = search needs
+
 returns-4 : tie.Need-returns-4
 returns-4 c = search laws
 
 write-tail-requires : tie.Need-write-tail-requires
-write-tail-requires c κs = search laws
+write-tail-requires c κs = (search laws, search laws, search laws, search laws, search laws)
 
-same-length : tie.Need-same-length
-same-length c = search needs
+same-length-5 : tie.Need-same-length-5
+same-length-5 c = search needs
+
+same-length-6 : tie.Need-same-length-6
+same-length-6 c = search needs
 
 returns-5 : tie.Need-returns-5
 returns-5 c = search laws
@@ -56,14 +68,19 @@ repair-frames-spec =
     walk-requires
     enum-known-walked
     enum-told
+    same-length
     returns
+    same-length-2
     returns-2
     mul-index-length
     add-index-length
     add-user
+    same-length-3
     returns-3
     add-tail
+    same-length-4
     returns-4
     write-tail-requires
-    same-length
+    same-length-5
+    same-length-6
     returns-5)
