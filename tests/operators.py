@@ -89,6 +89,8 @@ def changes(line):
         yield line[: place.start()] + WORDS[place.group()] + line[place.end() :]
     for place in re.finditer(r"(?<![\w.])\d+(?![\w.])", code):
         yield line[: place.start()] + str(int(place.group()) + 1) + line[place.end() :]
+    for place in re.finditer(r"\b0x[0-9A-Fa-f_]+\b", code):
+        yield line[: place.start()] + hex(int(place.group(), 16) + 1) + line[place.end() :]
 
 
 class Crate:
