@@ -19,7 +19,7 @@ mod walk;
 
 pub use browser::{first_tag, next_tag, tag_at, tag_named, Stop};
 pub use opening::{open, Opened};
-pub use reading::{frame, part, Frame, Item};
+pub use reading::{frame, frame_of, hold, part, part_of, Frame, Held, Item};
 pub use recorder::{add, begin, close, Piece, Stage, State};
 pub use repair::{repair, Repaired};
 pub use saving::{save, NotSaved};

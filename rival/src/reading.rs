@@ -30,9 +30,35 @@ pub enum Item {
     UserValue(u64),
 }
 
+/// What opening found of a file. It reads items of that file, as long as the
+/// file stays as it was.
+#[derive(Debug, Clone, Copy, PartialEq, Eq)]
+pub struct Held {
+    front: Front,
+    rest: Rest,
+}
+
+/// Opens a file of which many items are read.
+pub fn hold(file: &[u8]) -> Result<Held, u64> {
+    let mut names = TableNames::new();
+    let front = front(file, &mut names)?;
+    let rest = rest(file, &front, &mut names)?;
+    Ok(Held { front, rest })
+}
+
 pub fn frame(file: &[u8], i: u64) -> Result<Frame, u64> {
-    let (_, rest) = opened(file)?;
-    let (place, bytes) = frame_bytes(file, &rest, below(i, rest.frames)?);
+    frame_of(file, &hold(file)?, i)
+}
+
+/// Where the item's bytes start in the file, and how many they are.
+pub fn part(file: &[u8], item: Item) -> Result<(u64, u64), u64> {
+    part_of(file, &hold(file)?, item)
+}
+
+/// As `frame`, of a file that is held.
+pub fn frame_of(file: &[u8], held: &Held, i: u64) -> Result<Frame, u64> {
+    let rest = &held.rest;
+    let (place, bytes) = frame_bytes(file, rest, below(i, rest.frames)?);
     Ok(Frame {
         place: place as u64,
         length: bytes.len() as u64,
@@ -41,15 +67,15 @@ pub fn frame(file: &[u8], i: u64) -> Result<Frame, u64> {
     })
 }
 
-/// Where the item's bytes start in the file, and how many they are.
-pub fn part(file: &[u8], item: Item) -> Result<(u64, u64), u64> {
-    let (front, rest) = opened(file)?;
+/// As `part`, of a file that is held.
+pub fn part_of(file: &[u8], held: &Held, item: Item) -> Result<(u64, u64), u64> {
+    let Held { front, rest } = held;
     let definitions = &front.definitions;
     match item {
         Item::Section(i, section) => {
             let i = below(i, rest.frames)?;
             let section = below(section, definitions.count)?;
-            let (place, bytes) = frame_bytes(file, &rest, i);
+            let (place, bytes) = frame_bytes(file, rest, i);
             let mut at = HEAD;
             for _ in 0..section {
                 at += 4 + size_at(bytes, at);
@@ -90,13 +116,6 @@ pub fn part(file: &[u8], item: Item) -> Result<(u64, u64), u64> {
             Ok((rest.user as u64 + tag.value, tag.value_length))
         }
     }
-}
-
-fn opened(file: &[u8]) -> Result<(Front, Rest), u64> {
-    let mut names = TableNames::new();
-    let front = front(file, &mut names)?;
-    let rest = rest(file, &front, &mut names)?;
-    Ok((front, rest))
 }
 
 fn below(number: u64, count: usize) -> Result<usize, u64> {
