@@ -1,0 +1,27 @@
+//! Saves.
+
+use crate::calls;
+use crate::inputs::*;
+use crate::measure::*;
+use crate::verdict::*;
+
+pub fn saving(effort: &Effort, file: &[u8], sheet: &[u8]) -> Times {
+    let mut out = vec![0; file.len() + sheet.len()];
+    let mut other = out.clone();
+    assert_eq!(calls::save(file, sheet, &mut out).refused, 0);
+    let times = measure(effort, &mut || calls::save(file, sheet, &mut out).length, &mut || {
+        rival::save(file, sheet, &mut other).unwrap_or(0)
+    });
+    assert!(out == other, "the two tables differ");
+    times
+}
+
+/// Every fifteenth tag is changed.
+pub fn rows(report: &mut Report) {
+    let tags = named_tags(1000, short_name);
+    let file = file_with(tags.clone());
+    for (changes, named) in [(1, "1 change"), (8, "8 changes"), (64, "64 changes")] {
+        let times = saving(&FULL, &file, &sheet_of(tags.iter().step_by(15).take(changes)));
+        report.row(&format!("a save of {} to 1,000 tags", named), &["save"], ROW, &times);
+    }
+}

@@ -1,0 +1,129 @@
+//! What the rows are held to. A row over its goal has to be explained on the page, up to a ratio that the page states; some limits nothing explains.
+
+use crate::measure::{shown, Times};
+use std::collections::BTreeSet;
+
+/// The calls that there are.
+const HEADER: &str = include_str!("../../include/fstf.h");
+/// Under this title the page explains rows: their names in bold type, and behind the last of them `(up to 1.6)`.
+const TITLE: &str = "\n## Where the library is slower than 1.2 times, and why\n";
+
+#[derive(Clone, Copy)]
+pub struct Limit {
+    /// Over it the page has to explain the row.
+    goal: f64,
+    /// Over it the row fails, whatever the page says.
+    most: f64,
+}
+
+/// A row against the rival.
+pub const ROW: Limit = Limit { goal: 1.2, most: f64::INFINITY };
+/// What request #114 wants of opening 1 GiB.
+pub const FIRST_ROW: Limit = Limit { goal: 1.2, most: 2.0 };
+pub const BARE_LOOP: Limit = Limit { goal: 1.5, most: f64::INFINITY };
+/// How much longer the worst upload may take than a usual one.
+pub const WORST: Limit = Limit { goal: 20.0, most: 20.0 };
+/// How much more a unit of a larger input may cost than one of a smaller: twice, or where caches make more than that of it, a quarter more than for the
+/// rival.
+pub fn growth(rival: f64) -> Limit {
+    let most = (1.25 * rival).max(2.0);
+    Limit { goal: most, most }
+}
+
+struct Held {
+    name: String,
+    limit: Limit,
+    ratio: f64,
+}
+
+#[derive(Default)]
+pub struct Report {
+    rows: Vec<Held>,
+    called: BTreeSet<String>,
+    reasons: Vec<String>,
+}
+
+impl Report {
+    /// Prints a row, and holds it to its limit at the end. `calls` are the calls that it measures, as include/fstf.h names them, without `fstf_`.
+    pub fn row(&mut self, name: &str, calls: &[&str], limit: Limit, times: &Times) {
+        println!("| {} | {} | {} | {:.2} |", name, shown(times.ours), shown(times.theirs), times.ratio());
+        self.called.extend(calls.iter().map(|call| call.to_string()));
+        self.hold(name, limit, times.ratio());
+    }
+
+    /// A ratio counts as it is printed, in hundredths.
+    pub fn hold(&mut self, name: &str, limit: Limit, ratio: f64) {
+        self.rows.push(Held { name: name.to_string(), limit, ratio: (ratio * 100.0).round() / 100.0 });
+    }
+
+    pub fn fail(&mut self, reason: String) {
+        self.reasons.push(reason);
+    }
+
+    /// Why the run fails: nothing where it passes.
+    pub fn reasons(mut self, page: &str) -> Vec<String> {
+        let explained = explained(page);
+        for row in &self.rows {
+            let stated = explained.iter().find(|(name, _)| *name == row.name).and_then(|(_, most)| *most);
+            if let Some(why) = over(row, stated) {
+                self.reasons.push(format!("{}: {:.2}, {}", row.name, row.ratio, why));
+            }
+        }
+        for (name, most) in &explained {
+            if !self.rows.iter().any(|row| row.name == *name) {
+                self.reasons.push(format!("the page explains a row that is not there: {}", name));
+            } else if most.is_none() {
+                self.reasons.push(format!("the page does not say up to what it explains: {}", name));
+            }
+        }
+        let called = &self.called;
+        let missing = calls(HEADER).into_iter().filter(|call| !called.contains(call));
+        self.reasons.extend(missing.map(|call| format!("no row for the call fstf_{}", call)));
+        self.reasons
+    }
+}
+
+/// What is wrong with a row that the page explains up to a ratio, or not at all.
+fn over(row: &Held, stated: Option<f64>) -> Option<String> {
+    if row.ratio > row.limit.most {
+        return Some(format!("over {:.1}, which nothing explains", row.limit.most));
+    }
+    if row.ratio <= row.limit.goal {
+        return None;
+    }
+    match stated {
+        None => Some(format!("over {:.1}, and the page does not explain it", row.limit.goal)),
+        Some(most) if row.ratio > most => Some(format!("over {:.2}, up to which the page explains it", most)),
+        Some(_) => None,
+    }
+}
+
+/// The rows that the page explains, each with the ratio up to which it does, where that is stated. `**a**, **b** (up to 1.6)` states it for both.
+fn explained(page: &str) -> Vec<(String, Option<f64>)> {
+    let behind = page.split(TITLE).nth(1).unwrap_or("");
+    let section = behind.split("\n## ").next().unwrap_or("");
+    let text = section.split_whitespace().collect::<Vec<_>>().join(" ");
+    let mut found = Vec::new();
+    let mut waiting = Vec::new();
+    for (number, piece) in text.split("**").enumerate() {
+        if number % 2 == 1 {
+            waiting.push(piece.to_string());
+        } else if !["", ",", "and"].contains(&piece.trim()) {
+            let most = piece.trim().strip_prefix("(up to ").and_then(|rest| rest.split(')').next()?.parse().ok());
+            found.extend(waiting.drain(..).map(|name| (name, most)));
+        }
+    }
+    found.extend(waiting.drain(..).map(|name| (name, None)));
+    found
+}
+
+/// The names of the calls that a header declares, without `fstf_`.
+fn calls(header: &str) -> Vec<String> {
+    let declared = |line: &str| {
+        let (_, behind) = line.strip_prefix("Fstf")?.split_once(" fstf_")?;
+        Some(behind.split('(').next()?.to_string())
+    };
+    let calls: Vec<_> = header.lines().filter_map(declared).collect();
+    assert!(!calls.is_empty(), "no call found in include/fstf.h");
+    calls
+}

@@ -1,0 +1,264 @@
+//! The worst upload: tables whose names are chosen against the marks by which the library tells names apart, each in three orders, beside a usual table
+//! of as many names of the same lengths. Who sends a file chooses its bytes, and who opens it waits.
+
+use crate::build::*;
+use crate::calls;
+use crate::inputs::*;
+use crate::measure::*;
+use crate::random::Random;
+use crate::verdict::*;
+use std::time::Duration;
+
+type Names = Vec<Vec<u8>>;
+type Call = Box<dyn FnMut() -> u64>;
+
+/// How many names a table has. The names behind them are for sheets.
+const TAGS: usize = 1000;
+const NAMES: usize = TAGS + 64;
+
+/// Where the marks are defined, and what of it the names below are chosen against.
+const DEFINED: &str = "crates/marks/specs/Marks.antt";
+const ATTACKED: [&str; 8] = [
+    "mix m w = (m * 11400715 + w) % 2 ^ 40",
+    "mixWords (suc k) m s = mixWords k (mix m (numberOf (take 4 s))) (drop 4 s)",
+    "markFor s = mix (mix (cond (ltb (length s) 4) (mixBytes 0 s) (mix (mixWords (length s / 4) 0 s) (numberOf (drop (length s - 4) s))))",
+    "    (length s % 256)) 0",
+    "place m = m / 2 ^ 31",
+    "first m = m / 2 ^ 25 % 64",
+    "second m = m / 2 ^ 19 % 64",
+    "third m = m / 2 ^ 13 % 64",
+];
+
+const FACTOR: u64 = 11_400_715;
+const MARKS: u64 = 1 << 40;
+
+fn mix(mark: u64, word: u64) -> u64 {
+    (mark * FACTOR + word) % MARKS
+}
+
+fn mark(name: &[u8]) -> u64 {
+    let length = name.len();
+    let mixed = if length < 4 {
+        name.iter().fold(0, |so_far, byte| mix(so_far, u64::from(*byte)))
+    } else {
+        let words = name.chunks_exact(4).fold(0, |so_far, word| mix(so_far, number(word, 0, 4)));
+        mix(words, number(name, length - 4, 4))
+    };
+    mix(mix(mixed, length as u64 % 256), 0)
+}
+
+/// Which of the 512 words of the marks a mark stands in.
+fn place(mark: u64) -> usize {
+    (mark >> 31) as usize
+}
+
+/// Its three bits there.
+fn bits(mark: u64) -> u64 {
+    1 << (mark >> 25 & 63) | 1 << (mark >> 19 & 63) | 1 << (mark >> 13 & 63)
+}
+
+fn is_text(bytes: &[u8]) -> bool {
+    bytes.iter().all(|byte| matches!(byte, 32..=126))
+}
+
+/// So many groups of eight bytes that all leave one mix, so that names that are alike but for one of them share one mark. The mix is linear: any four
+/// bytes go ahead, what has to follow them is counted out, and taken where it is text.
+fn twins(count: usize) -> Vec<[u8; 8]> {
+    let wanted = mix(number(b"FSTF", 0, 4), number(b"mark", 0, 4));
+    let mut found = Vec::new();
+    let mut choice = 0u64;
+    while found.len() < count {
+        let ahead = [0, 1, 2, 3].map(|digit| 32 + (choice / 95u64.pow(digit) % 95) as u8);
+        choice += 1;
+        let behind = (wanted + MARKS - number(&ahead, 0, 4) * FACTOR % MARKS) % MARKS;
+        let mut eight = [0; 8];
+        eight[..4].copy_from_slice(&ahead);
+        eight[4..].copy_from_slice(&behind.to_le_bytes()[..4]);
+        if behind < 1 << 32 && is_text(&eight[4..]) {
+            found.push(eight);
+        }
+    }
+    found
+}
+
+/// A name that is alike all others of its length but for eight bytes.
+fn with_eight(length: usize, at: usize, eight: &[u8]) -> Vec<u8> {
+    let mut name = vec![b'T'; length];
+    name[at..at + 8].copy_from_slice(eight);
+    name
+}
+
+/// Numbers in place of the twins.
+fn usual(length: usize, at: usize) -> Names {
+    (0..NAMES).map(|i| with_eight(length, at, format!("{:08}", i).as_bytes())).collect()
+}
+
+fn sharing_a_mark(twins: &[[u8; 8]], length: usize, at: usize) -> Names {
+    let names: Names = twins.iter().map(|eight| with_eight(length, at, eight)).collect();
+    assert!(names.iter().all(|name| mark(name) == mark(&names[0])), "the marks differ");
+    names
+}
+
+/// Names of 255 bytes whose marks stand in one word: a few set all of its bits, and the others are taken for known.
+fn in_one_word(random: &mut Random, at: usize) -> Names {
+    let mut names = vec![with_eight(255, at, &text(random, 8))];
+    while names.len() < TAGS {
+        let name = with_eight(255, at, &text(random, 8));
+        if place(mark(&name)) == place(mark(&names[0])) && !names.contains(&name) {
+            names.push(name);
+        }
+    }
+    names
+}
+
+/// All of 3 bytes are tried.
+fn short_in_one_word() -> Names {
+    let texts = (0..95usize.pow(3)).map(|i| [i / 95 / 95, i / 95 % 95, i % 95].map(|digit| 32 + digit as u8).to_vec());
+    let names: Names = texts.filter(|name| place(mark(name)) == 0).take(TAGS).collect();
+    assert_eq!(names.len(), TAGS, "too few names of 3 bytes");
+    names
+}
+
+/// Usual names, and at last eight whose bits those have set already.
+fn usual_but_for_eight(random: &mut Random, at: usize) -> Names {
+    let mut names = usual(255, at);
+    names.truncate(TAGS - 8);
+    let mut marked = [0; 512];
+    for name in &names {
+        marked[place(mark(name))] |= bits(mark(name));
+    }
+    while names.len() < TAGS {
+        let name = with_eight(255, at, &text(random, 8));
+        let bits = bits(mark(&name));
+        if marked[place(mark(&name))] & bits == bits && !names.contains(&name) {
+            names.push(name);
+        }
+    }
+    names
+}
+
+/// A table's names in three orders: ascending by length and then as numbers with their low byte first, descending, and shuffled. The eight that come
+/// last stay there.
+fn orders(names: &Names, random: &mut Random) -> [Names; 3] {
+    let (mut ascending, last) = (names[..TAGS - 8].to_vec(), &names[TAGS - 8..]);
+    ascending.sort_by(|a, b| a.len().cmp(&b.len()).then_with(|| a.iter().rev().cmp(b.iter().rev())));
+    let descending: Names = ascending.iter().rev().cloned().collect();
+    let mut shuffled = ascending.clone();
+    for place in (1..shuffled.len()).rev() {
+        shuffled.swap(place, random.size(place));
+    }
+    [ascending, descending, shuffled].map(|ordered| [&ordered[..], last].concat())
+}
+
+fn tags_of(names: &Names) -> Vec<Tag> {
+    names[..TAGS].iter().map(|name| tag(name.clone())).collect()
+}
+
+fn opening(names: &Names) -> Call {
+    let file = file_with(tags_of(names));
+    let opened = calls::open(&file);
+    assert_eq!(rival::open(&file).map(|other| (other.user, other.user_tags)), Ok((opened.user, opened.user_tags)));
+    Box::new(move || calls::open(&file).user_tags)
+}
+
+fn saving(names: &Names, sheet: Vec<u8>) -> Call {
+    let file = file_with(tags_of(names));
+    let mut out = vec![0; file.len()];
+    let mut other = out.clone();
+    let saved = calls::save(&file, &sheet, &mut out);
+    assert_eq!(rival::save(&file, &sheet, &mut other), Ok(saved.length));
+    assert!(out == other, "the two tables differ");
+    Box::new(move || calls::save(&file, &sheet, &mut out).length)
+}
+
+/// Each fifteenth tag is changed.
+fn saving_tags(names: &Names) -> Call {
+    saving(names, sheet_of(tags_of(names).iter().step_by(15).take(64)))
+}
+
+/// Names that no tag has, and that get none.
+fn saving_absent(names: &Names) -> Call {
+    let mut sheet = vec![64];
+    for name in &names[TAGS..NAMES] {
+        sheet.push(name.len() as u8);
+        sheet.extend_from_slice(name);
+        sheet.extend_from_slice(&[0, 0]);
+    }
+    saving(names, sheet)
+}
+
+fn beginning(names: &Names) -> Call {
+    let system = table(&tags_of(names)).bytes;
+    let setup = setup(&worked().sections).bytes;
+    let mut out = vec![0; 81 + setup.len() + system.len()];
+    let mut begin = move || calls::begin(calls::new(), &setup, &system, &mut [0; 4], &mut out);
+    assert_eq!(begin().refused, 0);
+    Box::new(move || begin().length)
+}
+
+fn by_name(names: &Names) -> Call {
+    let table = table(&tags_of(names)).bytes;
+    let name = names[TAGS - 1].clone();
+    let found = calls::tag_named(&table, &name);
+    assert_eq!(rival::tag_named(&table, &name).map(|tag| tag.map(|tag| tag.value)), Ok(Some(found.value)));
+    Box::new(move || calls::tag_named(&table, &name).found)
+}
+
+/// A line of the table: the call on the names in each order, in turns with the call on usual names. The slowest order counts.
+fn line(report: &mut Report, what: &str, call: fn(&Names) -> Call, orders: &[Names; 3], usual: &Names) {
+    let mut plain = call(usual);
+    let mut cells = Vec::new();
+    let (mut slowest, mut least) = (Duration::ZERO, Duration::MAX);
+    for names in orders {
+        let times = measure(&QUICK, &mut *call(names), &mut *plain);
+        cells.push(shown(times.ours));
+        slowest = slowest.max(times.ours);
+        least = least.min(times.theirs);
+    }
+    let ratio = slowest.as_secs_f64() / least.as_secs_f64();
+    println!("| {} | {} | {} | {:.2} |", what, cells.join(" | "), shown(least), ratio);
+    report.hold(what, WORST, ratio);
+}
+
+fn lines(report: &mut Report) {
+    let random = &mut Random::new(1, 2, 3);
+    let twins = twins(NAMES);
+    let three: Names = (0..TAGS).map(|i| format!("{:T>3}", i).into_bytes()).collect();
+    for (alike, at) in [("alike but for the first", 0), ("alike but for the end", 240)] {
+        let plain = usual(255, at);
+        let sharing = orders(&sharing_a_mark(&twins, 255, at), random);
+        let word = orders(&in_one_word(random, at), random);
+        let eight = orders(&usual_but_for_eight(random, at), random);
+        let mut line =
+            |what: &str, call, names, plain| line(report, &format!("{}, {}", what, alike), call, names, plain);
+        line("opening: 1,000 names of 255 bytes share one mark", opening, &sharing, &plain);
+        line("opening: 1,000 names of 255 bytes have marks in one word", opening, &word, &plain);
+        line("opening: 992 usual names of 255 bytes, and 8 whose marks are set", opening, &eight, &plain);
+        line("a save: 64 changes and 1,000 names of 255 bytes share one mark", saving_tags, &sharing, &plain);
+        line("a save: 64 absent and 1,000 names of 255 bytes share one mark", saving_absent, &sharing, &plain);
+        line("a begin call: 1,000 names of 255 bytes share one mark", beginning, &sharing, &plain);
+        line("a tag by its name: 1,000 names of 255 bytes share one mark", by_name, &sharing, &plain);
+    }
+    let twelve = orders(&sharing_a_mark(&twins, 12, 0), random);
+    line(report, "opening: 1,000 names of 12 bytes share one mark", opening, &twelve, &usual(12, 0));
+    let words = orders(&short_in_one_word(), random);
+    line(report, "opening: 1,000 names of 3 bytes have marks in one word", opening, &words, &three);
+}
+
+pub fn rows(report: &mut Report) {
+    println!();
+    println!("| the worst upload | ascending | descending | shuffled | usual | ratio of the slowest |");
+    println!("|---|---|---|---|---|---|");
+    match std::fs::read_to_string(DEFINED) {
+        Ok(page) => {
+            for line in ATTACKED {
+                if !page.lines().any(|other| other == line) {
+                    report
+                        .fail(format!("the worst upload attacks marks that are not in {} any more: {}", DEFINED, line));
+                }
+            }
+        }
+        Err(_) => report.fail(format!("the worst upload attacks marks that {} defined, and it is not there", DEFINED)),
+    }
+    lines(report);
+}
