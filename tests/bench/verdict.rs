@@ -108,7 +108,7 @@ fn explained(page: &str) -> Vec<(String, Option<f64>)> {
     for (number, piece) in text.split("**").enumerate() {
         if number % 2 == 1 {
             waiting.push(piece.to_string());
-        } else if !["", ",", "and"].contains(&piece.trim()) {
+        } else if !["", ",", "and", ", and"].contains(&piece.trim()) {
             let most = piece.trim().strip_prefix("(up to ").and_then(|rest| rest.split(')').next()?.parse().ok());
             found.extend(waiting.drain(..).map(|name| (name, most)));
         }
