@@ -32,8 +32,8 @@ fn opened_and_repaired(report: &mut Report, name: &str, limit: Limit, file: (Vec
 
 /// Touches what opening has to touch and nothing else: the index and, where it says that a frame stands, the frame's mark, time and size.
 fn bare_loop(file: &[u8], index: usize, frames: usize) -> u64 {
-    let four = |bytes: &[u8], at: usize| u64::from(u32::from_le_bytes([0, 1, 2, 3].map(|i| bytes[at + i])));
-    let eight = |bytes: &[u8], at: usize| four(bytes, at) + (four(bytes, at + 4) << 32);
+    let four = |bytes: &[u8], at: usize| u64::from(u32::from_le_bytes(bytes[at..at + 4].try_into().unwrap()));
+    let eight = |bytes: &[u8], at: usize| u64::from_le_bytes(bytes[at..at + 8].try_into().unwrap());
     let mut sum = 0;
     for entry in file[index + 4..][..16 * frames].chunks_exact(16) {
         let place = eight(entry, 4);

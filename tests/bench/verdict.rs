@@ -76,9 +76,10 @@ impl Report {
                 self.reasons.push(format!("the page does not say up to what it explains: {}", name));
             }
         }
-        let called = &self.called;
-        let missing = calls(HEADER).into_iter().filter(|call| !called.contains(call));
-        self.reasons.extend(missing.map(|call| format!("no row for the call fstf_{}", call)));
+        let calls = calls(HEADER);
+        let missing = calls.difference(&self.called).map(|call| format!("no row for the call fstf_{}", call));
+        let unknown = self.called.difference(&calls).map(|call| format!("a row for fstf_{}, which is no call", call));
+        self.reasons.extend(missing.chain(unknown));
         self.reasons
     }
 }
@@ -118,12 +119,10 @@ fn explained(page: &str) -> Vec<(String, Option<f64>)> {
 }
 
 /// The names of the calls that a header declares, without `fstf_`.
-fn calls(header: &str) -> Vec<String> {
+fn calls(header: &str) -> BTreeSet<String> {
     let declared = |line: &str| {
         let (_, behind) = line.strip_prefix("Fstf")?.split_once(" fstf_")?;
         Some(behind.split('(').next()?.to_string())
     };
-    let calls: Vec<_> = header.lines().filter_map(declared).collect();
-    assert!(!calls.is_empty(), "no call found in include/fstf.h");
-    calls
+    header.lines().filter_map(declared).collect()
 }
