@@ -25,7 +25,8 @@ mod verdict;
 mod worst;
 
 fn main() {
-    let mut report = verdict::Report::default();
+    let page = std::env::args().nth(1).map(|page| std::fs::read_to_string(page).expect("no such page"));
+    let mut report = verdict::Report::new(page.as_deref());
     println!("| what | library | rival | ratio |");
     println!("|---|---|---|---|");
     let beside = opening::rows_of_frames(&mut report);
@@ -38,15 +39,12 @@ fn main() {
     growth::rows(&mut report);
     println!();
     println!("{}", measure::steadiness());
-    let page = match std::env::args().nth(1) {
-        Some(page) => std::fs::read_to_string(page).expect("no such page"),
-        None => return,
-    };
-    let reasons = report.reasons(&page);
-    println!();
-    println!("verdict: {}", if reasons.is_empty() { "passed" } else { "FAILED" });
-    for reason in &reasons {
-        println!("- {}", reason);
+    if let Some(reasons) = report.verdict() {
+        println!();
+        println!("verdict: {}", if reasons.is_empty() { "passed" } else { "FAILED" });
+        for reason in &reasons {
+            println!("- {}", reason);
+        }
+        std::process::exit(i32::from(!reasons.is_empty()));
     }
-    std::process::exit(i32::from(!reasons.is_empty()));
 }

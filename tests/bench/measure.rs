@@ -27,6 +27,10 @@ impl Times {
     pub fn ratio(&self) -> f64 {
         self.ours.as_secs_f64() / self.theirs.as_secs_f64()
     }
+
+    pub fn least(self, other: Times) -> Times {
+        Times { ours: self.ours.min(other.ours), theirs: self.theirs.min(other.theirs) }
+    }
 }
 
 fn timed(repeats: u32, call: &mut dyn FnMut() -> u64) -> (Duration, u64) {

@@ -25,9 +25,10 @@ pub fn repairing(effort: &Effort, cut: &[u8], frames: usize) -> Times {
 /// Opening a file, and repair of it where it was not closed and its last frame is torn.
 fn opened_and_repaired(report: &mut Report, name: &str, limit: Limit, file: (Vec<u8>, usize), frames: usize) {
     let (file, index) = file;
-    report.row(&format!("opening {}", name), &["open"], limit, &opening(&FULL, &file));
-    let times = repairing(&FULL, &torn(file, index), frames);
-    report.row(&format!("repair of {}, last frame torn", name), &["repair"], ROW, &times);
+    report.row(&format!("opening {}", name), &["open"], limit, &mut || opening(&FULL, &file));
+    let cut = torn(file, index);
+    let times = &mut || repairing(&FULL, &cut, frames);
+    report.row(&format!("repair of {}, last frame torn", name), &["repair"], ROW, times);
 }
 
 /// Touches what opening has to touch and nothing else: the index and, where it says that a frame stands, the frame's mark, time and size.
@@ -57,11 +58,13 @@ fn beside_bare_loop(file: &[u8], index: usize, frames: usize, section: usize) ->
     })
 }
 
+const BARE_ROW: &str = "opening 1 GiB, 10,000 frames, against a bare loop over its cache lines";
+
 /// The rows of large files. It hands back the first file's opening beside the bare loop.
 pub fn rows_of_frames(report: &mut Report) -> Times {
     // 1 GiB less what index and front take of it, by 10,000.
     let file = file_of(10_000, |_| 107_338);
-    let beside = beside_bare_loop(&file.0, file.1, 10_000, 107_338);
+    let beside = report.measured(BARE_ROW, BARE_LOOP, &mut || beside_bare_loop(&file.0, file.1, 10_000, 107_338));
     opened_and_repaired(report, "1 GiB, 10,000 frames", FIRST_ROW, file, 10_000);
     let file = file_of(10_000, |i| 107_138 + 37 * i % 401);
     opened_and_repaired(report, "1 GiB, 10,000 frames of 401 lengths", ROW, file, 10_000);
@@ -72,8 +75,9 @@ pub fn rows_of_frames(report: &mut Report) -> Times {
 
 pub fn rows_of_tags(report: &mut Report) {
     let mut row = |names: &str, name: &dyn Fn(usize) -> String| {
-        let times = opening(&FULL, &file_with(named_tags(1000, name)));
-        report.row(&format!("opening with 1,000 tags, names {}", names), &["open"], ROW, &times);
+        let file = file_with(named_tags(1000, name));
+        let times = &mut || opening(&FULL, &file);
+        report.row(&format!("opening with 1,000 tags, names {}", names), &["open"], ROW, times);
     };
     row("of 8 bytes", &short_name);
     row("OBS0000 to OBS0999", &|i| format!("OBS{:04}", i));
@@ -86,5 +90,5 @@ pub fn row_of_bare_loop(report: &mut Report, beside: &Times) {
     println!();
     println!("| what | library | bare loop | ratio |");
     println!("|---|---|---|---|");
-    report.row("opening 1 GiB, 10,000 frames, against a bare loop over its cache lines", &["open"], BARE_LOOP, beside);
+    report.print(BARE_ROW, &["open"], BARE_LOOP, beside);
 }

@@ -19,16 +19,16 @@ fn their_frame_sum(frame: Result<rival::Frame, u64>) -> u64 {
 
 fn rows_of_frames(report: &mut Report) {
     let (file, _) = file_of(1000, |_| 2);
-    let times =
-        measure(&FULL, &mut || frame_sum(calls::frame(&file, 999)), &mut || their_frame_sum(rival::frame(&file, 999)));
-    report.row("frame 999 of 1,000 frames of 22 bytes, opening included", &["frame"], ROW, &times);
+    report.row("frame 999 of 1,000 frames of 22 bytes, opening included", &["frame"], ROW, &mut || {
+        measure(&FULL, &mut || frame_sum(calls::frame(&file, 999)), &mut || their_frame_sum(rival::frame(&file, 999)))
+    });
     let opened = calls::open(&file);
     let held = rival::hold(&file).unwrap();
-    let times =
+    report.row("1,000 frames of 22 bytes of an opened file, one after another", &["frame_of"], ROW, &mut || {
         measure(&FULL, &mut || (0..1000).map(|i| frame_sum(calls::frame_of(&file, opened, i))).sum(), &mut || {
             (0..1000).map(|i| their_frame_sum(rival::frame_of(&file, &held, i))).sum()
-        });
-    report.row("1,000 frames of 22 bytes of an opened file, one after another", &["frame_of"], ROW, &times);
+        })
+    });
 }
 
 /// Items of a file: a kind of the C face, its two numbers, and the same item for the rival.
@@ -90,15 +90,16 @@ fn rows_of_parts(report: &mut Report) {
         ("name and value of the last of 1,000 system tags", &system),
         ("name and value of the last of 1,000 user tags", &user),
     ];
-    let times = parts(&file, &[section(999)]);
-    report.row("the last of 8 sections of frame 999, opening included", &["part"], ROW, &times);
+    let times = &mut || parts(&file, &[section(999)]);
+    report.row("the last of 8 sections of frame 999, opening included", &["part"], ROW, times);
     for (name, asked) in both {
-        report.row(&format!("{}, opening included", name), &["part"], ROW, &parts(&file, asked));
+        report.row(&format!("{}, opening included", name), &["part"], ROW, &mut || parts(&file, asked));
     }
-    let times = parts_of(&FULL, &file, &(0..1000).map(section).collect::<Vec<_>>());
-    report.row("the last of 8 sections of 1,000 frames, of an opened file", &["part_of"], ROW, &times);
+    let last: Vec<Asked> = (0..1000).map(section).collect();
+    let times = &mut || parts_of(&FULL, &file, &last);
+    report.row("the last of 8 sections of 1,000 frames, of an opened file", &["part_of"], ROW, times);
     for (name, asked) in both {
-        report.row(&format!("{}, of an opened file", name), &["part_of"], ROW, &parts_of(&FULL, &file, asked));
+        report.row(&format!("{}, of an opened file", name), &["part_of"], ROW, &mut || parts_of(&FULL, &file, asked));
     }
 }
 
@@ -146,12 +147,12 @@ fn rows_of_tables(report: &mut Report) {
     let tags = named_tags(1000, short_name);
     let table = table(&tags).bytes;
     let both = &["first_tag", "next_tag"];
-    report.row("1,000 tags of a table, one after another", both, ROW, &listing(&FULL, &table));
-    let times =
-        measure(&FULL, &mut || tag_sum(calls::tag_at(&table, 999)), &mut || their_tag_sum(rival::tag_at(&table, 999)));
-    report.row("the last of 1,000 tags of a table, by its number", &["tag_at"], ROW, &times);
-    let times = by_name(&FULL, &table, &tags[999].name);
-    report.row("the last of 1,000 tags of a table, by its name", &["tag_named"], ROW, &times);
+    report.row("1,000 tags of a table, one after another", both, ROW, &mut || listing(&FULL, &table));
+    report.row("the last of 1,000 tags of a table, by its number", &["tag_at"], ROW, &mut || {
+        measure(&FULL, &mut || tag_sum(calls::tag_at(&table, 999)), &mut || their_tag_sum(rival::tag_at(&table, 999)))
+    });
+    let times = &mut || by_name(&FULL, &table, &tags[999].name);
+    report.row("the last of 1,000 tags of a table, by its name", &["tag_named"], ROW, times);
 }
 
 pub fn rows(report: &mut Report) {

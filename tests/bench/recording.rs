@@ -90,9 +90,9 @@ fn closing(effort: &Effort) -> Times {
 
 pub fn rows(report: &mut Report) {
     let all = &["new", "begin", "add", "close"];
-    report.row("recording 1,000,000 frames of 36 bytes", all, ROW, &recording(&FULL, 1_000_000, 16));
-    report.row("recording 1,000 frames of 1 MiB", all, ROW, &recording(&FULL, 1_000, 1 << 20));
-    let begun = beginning(&FULL, &named_tags(1000, short_name));
-    report.row("a begin call with 1,000 system tags", &["new", "begin"], ROW, &begun);
-    report.row("the five close calls of 1,000,000 frames", &["close"], ROW, &closing(&FULL));
+    report.row("recording 1,000,000 frames of 36 bytes", all, ROW, &mut || recording(&FULL, 1_000_000, 16));
+    report.row("recording 1,000 frames of 1 MiB", all, ROW, &mut || recording(&FULL, 1_000, 1 << 20));
+    let system = named_tags(1000, short_name);
+    report.row("a begin call with 1,000 system tags", &["new", "begin"], ROW, &mut || beginning(&FULL, &system));
+    report.row("the five close calls of 1,000,000 frames", &["close"], ROW, &mut || closing(&FULL));
 }

@@ -21,7 +21,8 @@ pub fn rows(report: &mut Report) {
     let tags = named_tags(1000, short_name);
     let file = file_with(tags.clone());
     for (changes, named) in [(1, "1 change"), (8, "8 changes"), (64, "64 changes")] {
-        let times = saving(&FULL, &file, &sheet_of(tags.iter().step_by(15).take(changes)));
-        report.row(&format!("a save of {} to 1,000 tags", named), &["save"], ROW, &times);
+        let sheet = sheet_of(tags.iter().step_by(15).take(changes));
+        let times = &mut || saving(&FULL, &file, &sheet);
+        report.row(&format!("a save of {} to 1,000 tags", named), &["save"], ROW, times);
     }
 }
