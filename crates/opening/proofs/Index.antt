@@ -19,7 +19,7 @@ use Rattle.number.proofs.Laws.{read-is}
 use Rattle.layout.specs.Recording.{Frame, frameBytes, entryBytes, entriesBytes, indexBytes, firstTime, follows, follow, inOrder, same}
 use Rattle.layout.specs.Reading.{good, frame, Walk, stopped, longer, walk}
 use Rattle.layout.proofs.Lists.{bytes-drop, bytes-take, same-true}
-use Rattle.opening.proofs.Same.{same-append, same-number}
+use Rattle.parts.proofs.Same.{same-append, same-number}
 use Rattle.frames.proofs.Laws.{frame-parts, ended, not-ended, end-behind, time-fits, end-near}
 use Rattle.frames.specs.Frames.{frameEnd}
 use Rattle.times.specs.Times.{sinceFirst}

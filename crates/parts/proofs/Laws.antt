@@ -1,19 +1,20 @@
 -- Equal parts and copying: what the functions of this crate leave to be shown.
 -- Assumes nothing.
-use Prim.Native.Nat.{ℕ, zero, suc, _+_, _-_, _<_, _≤_}
+use Prim.Native.Nat.{ℕ, zero, suc, _+_, _*_, _-_, _/_, _<_, _≤_}
 use native.Mathlib.Omega.{arith}
-use mathlib.Core.Path.{_≡_, refl, sym, _∙_}
+use mathlib.Core.Path.{_≡_, refl, ap, sym, _∙_}
 use mathlib.Core.Bool.{Bool, true, false, _&&_}
 use mathlib.Core.List.{List}
 use lib.ListN.{length, take, drop, getD, set}
 use lib.Seq.{drop-cons, sets}
 use lib.Dec.{eqb}
 use borrow.Author.Needs.{needs}
-use borrow.Author.Tests.{le-leb, lt-leb, eq-eqb, ne-eqb}
+use borrow.Author.Tests.{le-leb, lt-leb, eq-eqb, ne-eqb, not-true, not-false}
 use Rattle.number.specs.Number.{has}
 use Rattle.number.proofs.Bools.{and-false}
 use Rattle.layout.specs.Recording.{same}
 use Rattle.parts.specs.Parts.{samePart, copied}
+use Rattle.parts.proofs.Same.{same-add, eight-same, sixteen-same, blocks-done, blocks-stop, blocks-step}
 
 -- ── Equal parts ──
 
@@ -70,6 +71,29 @@ pub equal-there : (a b : List ℕ) (i j n : ℕ) → n ≤ length a → i ≤ le
 unfolding samePart
 equal-there a b i j n h k l m = rw (there a i n (omega arith), there b j n (omega arith))
 
+-- in blocks, and what is left behind them
+equal-split : (a b : List ℕ) (i j n : ℕ) → i + n ≤ length a → j + n ≤ length b
+    → same (take n (drop i a)) (take n (drop j b)) ≡ (same (take (16 * (n / 16)) (drop i a)) (take (16 * (n / 16)) (drop j b))
+    && same (take (n - 16 * (n / 16)) (drop (i + 16 * (n / 16)) a)) (take (n - 16 * (n / 16)) (drop (j + 16 * (n / 16)) b)))
+equal-split a b i j n h k =
+    let e : n ≡ 16 * (n / 16) + (n - 16 * (n / 16)) = omega arith in
+    ap (λ (m : ℕ). same (take m (drop i a)) (take m (drop j b))) e
+    ∙ same-add a b i j (16 * (n / 16)) (n - 16 * (n / 16)) (omega arith) (omega arith)
+
+pub equal-blocks : (a b : List ℕ) (i j n : ℕ) (r : Bool) → n ≤ length a → i ≤ length a - n → n ≤ length b → j ≤ length b - n
+    → r ≡ same (take (16 * (n / 16)) (drop i a)) (take (16 * (n / 16)) (drop j b)) → r ≡ false → false ≡ samePart a i b j n
+equal-blocks a b i j n r h k l m e f =
+    let q : same (take (16 * (n / 16)) (drop i a)) (take (16 * (n / 16)) (drop j b)) ≡ false = sym e ∙ f in
+    sym (rw q at (equal-split a b i j n (omega arith) (omega arith))) ∙ equal-there a b i j n h k l m
+
+pub equal-rest : (a b : List ℕ) (i j n : ℕ) (r s : Bool) → n ≤ length a → i ≤ length a - n → n ≤ length b → j ≤ length b - n
+    → r ≡ same (take (16 * (n / 16)) (drop i a)) (take (16 * (n / 16)) (drop j b)) → r ≡ true
+    → s ≡ same (take (n - 16 * (n / 16)) (drop (i + 16 * (n / 16)) a)) (take (n - 16 * (n / 16)) (drop (j + 16 * (n / 16)) b))
+    → s ≡ samePart a i b j n
+equal-rest a b i j n r s h k l m e f g =
+    let q : same (take (16 * (n / 16)) (drop i a)) (take (16 * (n / 16)) (drop j b)) ≡ true = sym e ∙ f in
+    g ∙ sym (rw q at (equal-split a b i j n (omega arith) (omega arith))) ∙ equal-there a b i j n h k l m
+
 -- ── Copying ──
 
 copied-out : (f t : List ℕ) (i j n : ℕ) → (has f i n && has t j n) ≡ false → t ≡ copied f i t j n
@@ -117,6 +141,13 @@ copy-end f t t₀ i j n k h l p q o e =
 
 pub ruleset laws = (
   needs,
+  not-true,
+  not-false,
+  eight-same,
+  sixteen-same,
+  blocks-done,
+  blocks-stop,
+  blocks-step,
   same-done,
   same-stop,
   same-step,
@@ -124,7 +155,8 @@ pub ruleset laws = (
   equal-far,
   equal-short-other,
   equal-far-other,
-  equal-there,
+  equal-blocks,
+  equal-rest,
   copied-short,
   copied-far,
   copied-no-room,
