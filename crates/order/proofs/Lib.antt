@@ -1,0 +1,4 @@
+pub mod Keys
+pub mod Seats
+pub mod Laws
+pub mod Outcomes
