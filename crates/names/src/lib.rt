@@ -1,4 +1,6 @@
 // The names of rows: the row that has one, and whether no two are equal.
+use header::Header;
+use order::Seat;
 use rows::Row;
 use rows::RowPlace;
 ghost use mathlib.Core.Path.{_≡_};
@@ -10,6 +12,9 @@ ghost use Rattle.marks.specs.Marks.{markOf};
 ghost use Rattle.layout.specs.Recording.{same, among};
 ghost use Rattle.rows.specs.Rows.{rowName};
 ghost use Rattle.names.specs.Names.{names, findName, distinctNames, covers};
+
+// Names that differ are looked for in vain so often at most: a thousand usual ones less than once.
+const MOST_SEARCHES: usize = 2;
 
 // The first row with a name: its number and its place.
 pub enum NameFound {
@@ -109,7 +114,47 @@ fn stands_in(
     false
 }
 
-// The same answer as by search, in time that grows with the rows alone: each name is marked, and looked for only where its mark was set before.
+// The same answer whatever the names are, in little more time than it takes to sort them: the rows passed are kept in the order of their names.
+fn differ_by_order(s: &[u8], at: usize, n: usize, row: Row) -> bool
+    ensures { λ r. ⌜ r ≡ distinctNames (now (s .entry)) at n row ⌝ }
+{
+    if Header::MOST_TAGS < n {
+        return differ_by_search(s, at, n, row);
+    }
+    let mut places = [0; Header::MOST_TAGS];
+    let mut place = at;
+    let mut passed = 0;
+    let mut left = n;
+    while 0 < left {
+        let found = rows::row_at(s, place, row);
+        let RowPlace::Whole(_, end) = found else {
+            return true;
+        };
+        let seat = order::seek(s, &places, passed, place);
+        let Seat::At(i) = seat else {
+            return false;
+        };
+        order::insert(&mut places, passed, i, place);
+        place = end;
+        passed += 1;
+        left -= 1;
+    }
+    true
+}
+
+// Searches that found nothing, counted up to one more than are made.
+fn one_more(searches: usize, hit: bool) -> usize {
+    if !hit {
+        return searches;
+    }
+    if MOST_SEARCHES < searches {
+        return searches;
+    }
+    searches + 1
+}
+
+// The same answer as by search, in time that grows with the rows alone: each name is marked, and looked for only where its mark was set before. Names
+// that differ seldom share a mark: where they do so again and again, they were chosen for that, and the order of names decides.
 fn differ_by_marks(s: &[u8], at: usize, n: usize, row: Row) -> bool
     ensures { λ r. ⌜ r ≡ distinctNames (now (s .entry)) at n row ⌝ }
 {
@@ -117,12 +162,17 @@ fn differ_by_marks(s: &[u8], at: usize, n: usize, row: Row) -> bool
     let mut place = at;
     let mut passed = 0;
     let mut left = n;
+    let mut searches = 0;
     while 0 < left {
         let found = rows::row_at(s, place, row);
         let RowPlace::Whole(len, end) = found else {
             return true;
         };
         let mark = marks::mark_of(s, place + 1, len);
+        searches = one_more(searches, marks::marked(&marked, mark));
+        if MOST_SEARCHES < searches {
+            return differ_by_order(s, at, n, row);
+        }
         if stands_in(s, place + 1, len, at, passed, row, &marked, mark) {
             return false;
         }

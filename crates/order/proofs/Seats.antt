@@ -209,6 +209,28 @@ first-keys s ps n h = length-keys s (take n ps) ∙ length-take-le n ps h
 cut : (ps : List ℕ) (n i : ℕ) → i ≤ n → take n ps ≡ take i ps ++ take (n - i) (drop i ps)
 cut ps n i h = let q : n ≡ i + (n - i) = omega arith in ap (λ (m : ℕ). take m ps) q ∙ take-add i (n - i) ps
 
+pub length-inserted : (ps : List ℕ) (n i place : ℕ) → length (inserted ps n i place) ≡ length ps
+unfolding inserted
+length-inserted ps n i place = go (ltb n (length ps)) (leb i n) refl refl
+  where
+    whole : n < length ps → i ≤ n
+        → length ((take i ps ++ (place ∷ take (n - i) (drop i ps))) ++ drop (n + 1) ps) ≡ length ps
+    whole h l =
+        length-append (take i ps ++ (place ∷ take (n - i) (drop i ps))) (drop (n + 1) ps)
+        ∙ omega (
+          arith,
+          length-append (take i ps) (place ∷ take (n - i) (drop i ps)),
+          length-take-le i ps (omega arith),
+          part-long ps i (n - i) (omega arith),
+          length-drop (n + 1) ps,
+        )
+
+    go : (a b : Bool) → ltb n (length ps) ≡ a → leb i n ≡ b
+        → length (cond (a && b) ((take i ps ++ (place ∷ take (n - i) (drop i ps))) ++ drop (n + 1) ps) ps) ≡ length ps
+    go true true p q = whole (ltb-true n (length ps) p) (leb-true i n q)
+    go true false p q = refl
+    go false b p q = refl
+
 -- a place put at its seat, among the first ones
 inserted-first : (ps : List ℕ) (n i place : ℕ) → n < length ps → i ≤ n
     → take (n + 1) (inserted ps n i place) ≡ take i ps ++ (place ∷ take (n - i) (drop i ps))
