@@ -118,6 +118,35 @@ blocks-step ok s at left all r h e f g =
 
 -- ── All bytes ──
 
+pub few-none : (ok : ℕ → Bool) (s : List ℕ) (at n : ℕ) → n ≡ 0 → true ≡ every ok (take n (drop at s))
+unfolding every
+few-none ok s at n e = rw e
+
+pub few-bytes : (ok : ℕ → Bool) (s : List ℕ) (at n : ℕ) (a b c : Bool) → n < 4 → (n ≡ 0 → ⊥) → at + n ≤ length s → a ≡ ok (getD s at 0)
+    → b ≡ ok (getD s (at + n / 2) 0) → c ≡ ok (getD s (at + (n - 1)) 0) → ((a && b) && c) ≡ every ok (take n (drop at s))
+few-bytes ok s at zero a b c h z l e f g = absurd (z refl)
+few-bytes ok s at (suc zero) a b c h z l e f g =
+    let p : at + 0 ≡ at = omega arith in
+    rw (e, rw p at f, rw p at g) (thrice (ok (getD s at 0)) ∙ sym (every-one ok s at (omega arith)))
+  where
+    thrice : (x : Bool) → ((x && x) && x) ≡ x
+    thrice true = refl
+    thrice false = refl
+few-bytes ok s at (suc (suc zero)) a b c h z l e f g =
+    rw (e, f, g)
+    (twice (ok (getD s at 0)) (ok (getD s (at + 1) 0))
+    ∙ sym (every-add ok s at 1 1 ∙ rw (every-one ok s at (omega arith), every-one ok s (at + 1) (omega arith))))
+  where
+    twice : (x y : Bool) → ((x && y) && y) ≡ (x && y)
+    twice true true = refl
+    twice true false = refl
+    twice false y = refl
+few-bytes ok s at (suc (suc (suc zero))) a b c h z l e f g =
+    rw (e, f, g)
+    (sym (every-add ok s at 2 1
+    ∙ rw (every-add ok s at 1 1, every-one ok s at (omega arith), every-one ok s (at + 1) (omega arith), every-one ok s (at + 2) (omega arith))))
+few-bytes ok s at (suc (suc (suc (suc n)))) a b c h z l e f g = absurd (omega arith)
+
 pub over-four : (ok : ℕ → Bool) (s : List ℕ) (at n : ℕ) (a b : Bool) → 4 ≤ n → n < 8 → a ≡ every ok (take 4 (drop at s))
     → b ≡ every ok (take 4 (drop (at + (n - 4)) s)) → (a && b) ≡ every ok (take n (drop at s))
 over-four ok s at n a b p q e f = rw (e, f) (every-over ok s at n 4 4 p p (omega arith))
@@ -131,10 +160,6 @@ pub over-sixteen : (ok : ℕ → Bool) (s : List ℕ) (at n : ℕ) (a b : Bool) 
 over-sixteen ok s at n a b p e f = rw (e, f) (every-over ok s at n (16 * (n / 16)) 16 (omega arith) p (omega arith))
 
 -- tags have their own class
-pub tags-class : (s : List ℕ) (at n : ℕ) (r : Bool) → r ≡ every (inClass class.Tag) (take n (drop at s)) → r ≡ every isTagByte (take n (drop at s))
-unfolding inClass
-tags-class s at n r e = e
-
 pub class-tags : (s : List ℕ) (at n : ℕ) (c : Class) (r : Bool) → c ≡ class.Tag → r ≡ every isTagByte (take n (drop at s))
     → r ≡ every (inClass c) (take n (drop at s))
 unfolding inClass
@@ -142,7 +167,6 @@ class-tags s at n c r z e = rw z e
 
 pub ruleset laws = (
   needs,
-  tags-class,
   class-tags,
   not-true,
   not-false,
@@ -152,6 +176,8 @@ pub ruleset laws = (
   blocks-done,
   blocks-stop,
   blocks-step,
+  few-none,
+  few-bytes,
   over-four,
   over-eight,
   over-sixteen,

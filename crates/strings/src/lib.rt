@@ -109,6 +109,17 @@ fn sixteen_tag_bytes(s: &[u8], at: usize) -> bool
     eight_tag_bytes(s, at) & eight_tag_bytes(s, at + 8)
 }
 
+// Up to three bytes, which are there: the first, the middle one and the last are all.
+fn few_tag_bytes(s: &[u8], at: usize, n: usize) -> bool
+    requires { ⌜ (n < 4) × (at + n ≤ length (now s)) ⌝ }
+    ensures { λ r. ⌜ r ≡ every isTagByte (take n (drop at (now (s .entry)))) ⌝ }
+{
+    if n == 0 {
+        return true;
+    }
+    is_tag_byte(s[at]) & is_tag_byte(s[at + n / 2]) & is_tag_byte(s[at + (n - 1)])
+}
+
 // So many blocks of sixteen bytes, which are there.
 fn blocks_of_tag_bytes(s: &[u8], at: usize, blocks: usize) -> bool
     requires { ⌜ at + 16 * blocks ≤ length (now s) ⌝ }
@@ -127,13 +138,13 @@ fn blocks_of_tag_bytes(s: &[u8], at: usize, blocks: usize) -> bool
 }
 
 // Whether n bytes, which are there, are all bytes that a tag may have. The last block ends with them, over the one ahead of it: so no byte is tested
-// alone but of the shortest strings.
+// alone.
 fn tag_bytes(s: &[u8], at: usize, n: usize) -> bool
     requires { ⌜ at + n ≤ length (now s) ⌝ }
     ensures { λ r. ⌜ r ≡ every isTagByte (take n (drop at (now (s .entry)))) ⌝ }
 {
     if n < 4 {
-        return bytes_in_class(s, at, n, Class::Tag);
+        return few_tag_bytes(s, at, n);
     }
     if n < 8 {
         return four_tag_bytes(s, at) & four_tag_bytes(s, at + (n - 4));

@@ -20,7 +20,7 @@ use Rattle.strings.specs.Strings.{textOf}
 use Rattle.parts.specs.Parts.{endOf}
 use Rattle.rows.specs.Rows.{rowName}
 use Rattle.names.specs.Names.{distinctNames}
-use Rattle.tables.specs.Tables.{tagPlaceOf, tablePlaceOf, partsOf, tagFrom, tagFound}
+use Rattle.tables.specs.Tables.{tagPlaceOf, tablePlaceOf, apartOf, partsOf, tagFrom, tagFound}
 use Rattle.strings.specs.declared.Text.{Text}
 use Rattle.strings.specs.declared.Text.the-variants as text
 use Rattle.parts.specs.declared.Place.{Place}
@@ -209,7 +209,7 @@ count-good s at n l h e k =
     only-pass (within 0 mostTags) (number 4) (drop at s) n 4 (rw e (number-there 4 s at (omega arith) (omega arith) (omega arith)))
     (inside 0 mostTags n (omega arith) k)
 
-pub table-no-tags : (s : List ℕ) (at n : ℕ) (t : Place) → 4 ≤ length s → at ≤ length s - 4 → n ≡ readAt s at 4 → n ≤ 1000
+table-no-tags : (s : List ℕ) (at n : ℕ) (t : Place) → 4 ≤ length s → at ≤ length s - 4 → n ≡ readAt s at 4 → n ≤ 1000
     → t ≡ endOf (at + 4) (times n tag (drop (at + 4) s)) → t ≡ place.Broken → tablePlace.Broken ≡ tablePlaceOf at (table (drop at s))
 unfolding table tablePlaceOf onward
 table-no-tags s at n t l h e k f g =
@@ -225,7 +225,7 @@ tags-good : (s : List ℕ) (at n m : ℕ) (ts : List Tag) → 4 ≤ length s →
 tags-good s at n m ts l h e k f = then-takes (only (within 0 mostTags) (number 4)) (λ n. times n tag) (drop at s) n ts 4 m
     (count-good s at n l h e k) (rw (drop-drop 4 at s) f)
 
-pub table-twice : (s : List ℕ) (at n end : ℕ) (t : Place) (d : Bool) → 4 ≤ length s → at ≤ length s - 4 → n ≡ readAt s at 4 → n ≤ 1000
+table-twice : (s : List ℕ) (at n end : ℕ) (t : Place) (d : Bool) → 4 ≤ length s → at ≤ length s - 4 → n ≡ readAt s at 4 → n ≤ 1000
     → t ≡ endOf (at + 4) (times n tag (drop (at + 4) s)) → t ≡ place.End end → d ≡ distinctNames s (at + 4) n row.Tag → d ≡ false
     → tablePlace.Broken ≡ tablePlaceOf at (table (drop at s))
 unfolding table tablePlaceOf
@@ -234,7 +234,7 @@ table-twice s at n end t d l h e k f g i j =
     rw (only-fail (λ ts. distinct (tagNames ts)) (only (within 0 mostTags) (number 4) then λ n. times n tag) (drop at s) ts (4 + m)
     (tags-good s at n m ts l h e k p) (sym (distinct-tags s (at + 4) n m ts p) ∙ sym i ∙ j))
 
-pub table-whole : (s : List ℕ) (at n end : ℕ) (t : Place) (d : Bool) → 4 ≤ length s → at ≤ length s - 4 → n ≡ readAt s at 4 → n ≤ 1000
+table-whole : (s : List ℕ) (at n end : ℕ) (t : Place) (d : Bool) → 4 ≤ length s → at ≤ length s - 4 → n ≡ readAt s at 4 → n ≤ 1000
     → t ≡ endOf (at + 4) (times n tag (drop (at + 4) s)) → t ≡ place.End end → d ≡ distinctNames s (at + 4) n row.Tag → d ≡ true
     → tablePlace.Whole n end ≡ tablePlaceOf at (table (drop at s))
 unfolding table tablePlaceOf
@@ -245,6 +245,28 @@ table-whole s at n end t d l h e k f g i j =
     rw (only-pass (λ ts. distinct (tagNames ts)) (only (within 0 mostTags) (number 4) then λ n. times n tag) (drop at s) ts (4 + m)
     (tags-good s at n m ts l h e k p) (sym (distinct-tags s (at + 4) n m ts p) ∙ sym i ∙ j))
     (ap (λ (z : ℕ). tablePlace.Whole z end) a ∙ ap (tablePlace.Whole (length ts)) b)
+
+-- the tags of a table, by where they end if their names differ
+module _ (s : List ℕ) (at n : ℕ) (t : Place) (l : 4 ≤ length s) (h : at ≤ length s - 4) (e : n ≡ readAt s at 4) (k : n ≤ 1000)
+    (f : t ≡ apartOf (endOf (at + 4) (times n tag (drop (at + 4) s))) (distinctNames s (at + 4) n row.Tag)) where
+  pub table-broken : t ≡ place.Broken → tablePlace.Broken ≡ tablePlaceOf at (table (drop at s))
+  unfolding apartOf
+  table-broken g = go (distinctNames s (at + 4) n row.Tag) (endOf (at + 4) (times n tag (drop (at + 4) s))) refl refl (sym f ∙ g)
+    where
+      go : (d : Bool) (p : Place) → distinctNames s (at + 4) n row.Tag ≡ d → endOf (at + 4) (times n tag (drop (at + 4) s)) ≡ p
+          → cond d p place.Broken ≡ place.Broken → tablePlace.Broken ≡ tablePlaceOf at (table (drop at s))
+      go d place.Broken q r i = table-no-tags s at n place.Broken l h e k (sym r) refl
+      go true (place.End x) q r i = let z : _≡_ {A = ℕ} 0 1 = cc in absurd (omega arith)
+      go false (place.End x) q r i = table-twice s at n x (place.End x) false l h e k (sym r) refl (sym q) refl
+
+  pub table-ends : (end : ℕ) → t ≡ place.End end → tablePlace.Whole n end ≡ tablePlaceOf at (table (drop at s))
+  unfolding apartOf
+  table-ends end g = go (distinctNames s (at + 4) n row.Tag) refl (sym f ∙ g)
+    where
+      go : (d : Bool) → distinctNames s (at + 4) n row.Tag ≡ d → cond d (endOf (at + 4) (times n tag (drop (at + 4) s))) place.Broken ≡ place.End end
+          → tablePlace.Whole n end ≡ tablePlaceOf at (table (drop at s))
+      go true q i = table-whole s at n end (place.End end) true l h e k (sym i) refl (sym q) refl
+      go false q i = let z : _≡_ {A = ℕ} 0 1 = cc in absurd (omega arith)
 
 -- ── A tag by its number ──
 
@@ -307,9 +329,8 @@ pub ruleset laws = (
   table-short,
   table-far,
   table-many,
-  table-no-tags,
-  table-twice,
-  table-whole,
+  table-broken,
+  table-ends,
   tag-past,
   count-fits,
   tag-no-start,

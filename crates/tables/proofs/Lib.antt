@@ -1,4 +1,5 @@
 pub mod Laws
+pub mod Apart
 pub mod Alone
 pub mod Places
 pub mod Outcomes

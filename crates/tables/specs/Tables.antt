@@ -1,6 +1,7 @@
 -- Tags and tag tables at a place, by the layout's readers.
 use Prim.Native.Nat.{ℕ, _+_}
-use mathlib.Core.Bool.{cond}
+use mathlib.Core.Path.{_≡_}
+use mathlib.Core.Bool.{Bool, true, cond}
 use mathlib.Core.List.{List}
 use lib.ListN.{length, drop}
 use lib.Dec.{ltb}
@@ -9,11 +10,14 @@ use Rattle.layout.specs.Recording.{Tag}
 use Rattle.layout.specs.Reading.{Parsed, bad, good, times, tag}
 use Rattle.parts.specs.Parts.{endOf}
 use Rattle.rows.specs.Rows.{rowName}
+use Rattle.names.specs.Names.{distinctNames}
 use Rattle.parts.specs.declared.Place.{Place}
 use Rattle.parts.specs.declared.Place.the-variants as place
 use Rattle.rows.specs.declared.Row.the-variants as row
 use Rattle.tables.specs.declared.TagPlace.{TagPlace}
 use Rattle.tables.specs.declared.TagPlace.the-variants as tagPlace
+use Rattle.tables.specs.declared.TagsEnd.{TagsEnd}
+use Rattle.tables.specs.declared.TagsEnd.the-variants as tagsEnd
 use Rattle.tables.specs.declared.TablePlace.{TablePlace}
 use Rattle.tables.specs.declared.TablePlace.the-variants as tablePlace
 use Rattle.tables.specs.declared.Tags.{Tags}
@@ -30,6 +34,15 @@ tagPlaceOf (good t n) = tagPlace.Whole (length (t .name)) (length (t .value))
 unfoldable pub tablePlaceOf : (at : ℕ) → Parsed (List Tag) → TablePlace
 tablePlaceOf at bad = tablePlace.Broken
 tablePlaceOf at (good ts n) = tablePlace.Whole (length ts) (at + n)
+
+-- where tags end whose names differ
+unfoldable pub apartOf : Place → (apart : Bool) → Place
+apartOf end apart = cond apart end place.Broken
+
+-- n tags end there; and where their names were seen to differ, they do
+unfoldable pub Ends : List ℕ → (at n : ℕ) → TagsEnd → Type 0
+Ends s at n (tagsEnd.End e apart) = (endOf at (times n tag (drop at s)) ≡ place.End e) × (apart ≡ true → distinctNames s at n row.Tag ≡ true)
+Ends s at n tagsEnd.Broken = endOf at (times n tag (drop at s)) ≡ place.Broken
 
 -- the number of tags of bytes that were read as a table, and nothing behind it
 unfoldable pub tagsOf : Parsed (List Tag) → Tags

@@ -7,7 +7,9 @@ ghost use mathlib.Core.Path.{_≡_};
 ghost use lib.ListN.{drop};
 ghost use Rattle.layout.specs.Reading.{times, exactly, tag, table};
 ghost use Rattle.parts.specs.Parts.{endOf};
-ghost use Rattle.tables.specs.Tables.{tagPlaceOf, tablePlaceOf, tagsOf, tagFound};
+ghost use Rattle.names.specs.Names.{distinctNames};
+ghost use Rattle.rows.specs.declared.Row.the-variants as row;
+ghost use Rattle.tables.specs.Tables.{tagPlaceOf, tablePlaceOf, tagsOf, tagFound, Ends, apartOf};
 
 // A tag at a place: the numbers of bytes of its name and of its value.
 pub enum TagPlace {
@@ -53,6 +55,75 @@ fn tags_end(s: &[u8], at: usize, n: usize) -> Place
     Place::End(place)
 }
 
+// Where tags end, with whether their names were seen to differ on the way.
+enum TagsEnd {
+    End(usize, bool),
+    Broken,
+}
+
+// Where n tags end. Each name is marked as its tag is passed: where no mark was set before, no two names are equal, and no second walk is needed.
+fn marked_tags_end(s: &[u8], at: usize, n: usize) -> TagsEnd
+    ensures { λ r. ⌜ Ends (now (s .entry)) at n r ⌝ }
+{
+    let mut marked = [0; marks::MARKS];
+    let mut apart = true;
+    let mut place = at;
+    let mut left = n;
+    while 0 < left {
+        let found = tag(s, place);
+        let TagPlace::Whole(name, value) = found else {
+            return TagsEnd::Broken;
+        };
+        let mark = marks::mark_of(s, place + 1, name);
+        apart = apart & !marks::marked(&marked, mark);
+        marks::mark(&mut marked, mark);
+        place = place + 1 + name + 1 + value;
+        left -= 1;
+    }
+    TagsEnd::End(place, apart)
+}
+
+// The n tags of a table, and whether no two of their names are equal.
+fn tags_apart(s: &[u8], at: usize, n: usize) -> Place
+    ensures { λ r. ⌜ r ≡ apartOf (endOf at (times n tag (drop at (now (s .entry))))) (distinctNames (now (s .entry)) at n row.Tag) ⌝ }
+{
+    let tags = marked_tags_end(s, at, n);
+    let TagsEnd::End(end, apart) = tags else {
+        return Place::Broken;
+    };
+    if apart {
+        return Place::End(end);
+    }
+    if names::distinct_names(s, at, n, Row::Tag) {
+        return Place::End(end);
+    }
+    Place::Broken
+}
+
+// The same for few tags: to clear the marks costs more than a second walk.
+fn few_tags_apart(s: &[u8], at: usize, n: usize) -> Place
+    ensures { λ r. ⌜ r ≡ apartOf (endOf at (times n tag (drop at (now (s .entry))))) (distinctNames (now (s .entry)) at n row.Tag) ⌝ }
+{
+    let tags = tags_end(s, at, n);
+    let Place::End(end) = tags else {
+        return Place::Broken;
+    };
+    if names::distinct_names(s, at, n, Row::Tag) {
+        return Place::End(end);
+    }
+    Place::Broken
+}
+
+fn read_tags(s: &[u8], at: usize, n: usize) -> Place
+    ensures { λ r. ⌜ r ≡ apartOf (endOf at (times n tag (drop at (now (s .entry))))) (distinctNames (now (s .entry)) at n row.Tag) ⌝ }
+{
+    if n < 12 {
+        few_tags_apart(s, at, n)
+    } else {
+        tags_apart(s, at, n)
+    }
+}
+
 // A tag table: its number of tags, the tags, and no two names equal.
 pub fn table(s: &[u8], at: usize) -> TablePlace
     ensures { λ r. ⌜ r ≡ tablePlaceOf at (table (drop at (now (s .entry)))) ⌝ }
@@ -68,15 +139,11 @@ pub fn table(s: &[u8], at: usize) -> TablePlace
     if Header::MOST_TAGS < n {
         return TablePlace::Broken;
     }
-    let tags = tags_end(s, at + 4, n);
+    let tags = read_tags(s, at + 4, n);
     let Place::End(end) = tags else {
         return TablePlace::Broken;
     };
-    if names::distinct_names(s, at + 4, n, Row::Tag) {
-        TablePlace::Whole(n, end)
-    } else {
-        TablePlace::Broken
-    }
+    TablePlace::Whole(n, end)
 }
 
 // The number of tags of bytes that are exactly a legal table.

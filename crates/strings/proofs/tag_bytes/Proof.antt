@@ -3,11 +3,11 @@ use Rattle.strings.proofs.Blocks.{laws}
 use Rattle.strings.proofs.tag_bytes.Statement.{statement}
 use Rattle.strings.proofs.tag_bytes.Tie as tie
 
-bytes-in-class-requires : tie.Need-bytes-in-class-requires
-bytes-in-class-requires c κs = search needs
+few-tag-bytes-requires : tie.Need-few-tag-bytes-requires
+few-tag-bytes-requires c κs = search needs
 
 returns : tie.Need-returns
-returns c = search laws
+returns c = search needs
 
 four-tag-bytes-requires : tie.Need-four-tag-bytes-requires
 four-tag-bytes-requires c κs = search needs
@@ -49,7 +49,7 @@ pub tag-bytes-spec : {M : Type 1} → statement M
 tag-bytes-spec =
     tie.close
     (tie.spec
-    bytes-in-class-requires
+    few-tag-bytes-requires
     returns
     four-tag-bytes-requires
     add-four-tag-bytes

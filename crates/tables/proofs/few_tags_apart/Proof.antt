@@ -1,0 +1,37 @@
+use borrow.Author.Needs.{needs}
+use Rattle.tables.proofs.Apart.{laws}
+use Rattle.tables.proofs.few_tags_apart.Statement.{statement}
+use Rattle.tables.proofs.few_tags_apart.Tie as tie
+
+tags-end-requires : tie.Need-tags-end-requires
+tags-end-requires c κs = search needs
+
+enum-known-tags : tie.Need-enum-known-tags
+enum-known-tags c = search needs
+
+enum-told : tie.Need-enum-told
+enum-told c = search needs
+
+returns : tie.Need-returns
+returns c = search laws
+
+distinct-names-requires : tie.Need-distinct-names-requires
+distinct-names-requires c κs = search needs
+
+returns-2 : tie.Need-returns-2
+returns-2 c = search laws
+
+returns-3 : tie.Need-returns-3
+returns-3 c = search laws
+
+pub few-tags-apart-spec : {M : Type 1} → statement M
+few-tags-apart-spec =
+    tie.close
+    (tie.spec
+    tags-end-requires
+    enum-known-tags
+    enum-told
+    returns
+    distinct-names-requires
+    returns-2
+    returns-3)
