@@ -20,7 +20,7 @@ use Rattle.rows.specs.declared.RowPlace.the-variants as rowPlace
 use Rattle.names.specs.declared.NameFound.{NameFound}
 use Rattle.names.specs.declared.NameFound.the-variants.{At, Nothing}
 use Rattle.rows.proofs.Laws.{row-parts}
-use Rattle.names.proofs.Laws.{isFound, among-found, find-there}
+use Rattle.names.proofs.Laws.{isFound, among-found, find-there, row-name-place, row-name-there}
 use Rattle.names.proofs.Passed.{Passed, passed-hit, passed-more, names-next, passing}
 
 -- ── Covered names ──
@@ -82,6 +82,8 @@ pub ruleset laws = (
   passing,
   not-true,
   not-false,
+  row-name-place,
+  row-name-there,
   passed-hit,
   passed-more,
   marked-none,

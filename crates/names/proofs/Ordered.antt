@@ -6,7 +6,6 @@ use mathlib.Core.Path.{_≡_, refl, ap, sym, _∙_}
 use mathlib.Core.Bool.{Bool, true, false, _||_}
 use mathlib.Core.List.{List, [], _∷_, _++_}
 use lib.ListN.{length, take, drop, getD}
-use lib.Dec.{eqb}
 use lib.Pow.{areBytes}
 use mir.Syntax.{w8}
 use mir.Val.{Fits}
@@ -20,7 +19,7 @@ use Rattle.order.specs.Order.{key, nameOf, nameAt, keys, seek, inserted}
 use Rattle.order.specs.declared.Seat.{Seat}
 use Rattle.order.specs.declared.Seat.the-variants as seat
 use Rattle.order.proofs.Keys.{key-same}
-use Rattle.order.proofs.Seats.{ascend, holds, seek-met, seek-new, inserted-holds, length-inserted}
+use Rattle.order.proofs.Seats.{ascend, holds, or-swap, seek-met, seek-new, inserted-holds, length-inserted}
 use Rattle.names.specs.Names.{names, distinctNames}
 use Rattle.rows.specs.declared.Row.{Row}
 use Rattle.rows.specs.declared.RowPlace.{RowPlace}
@@ -47,12 +46,7 @@ row-name k s at m v e =
 among-more : (x n : List ℕ) (ns : List (List ℕ)) → (same x n || among x ns) ≡ among x (ns ++ n ∷ [])
 unfolding among
 among-more x n [] = refl
-among-more x n (y ∷ ns) = go (same x n) (same x y) (among x ns) ∙ ap (λ (b : Bool). same x y || b) (among-more x n ns)
-  where
-    go : (a b c : Bool) → (a || (b || c)) ≡ (b || (a || c))
-    go true true c = refl
-    go true false c = refl
-    go false b c = refl
+among-more x n (y ∷ ns) = or-swap (same x n) (same x y) (among x ns) ∙ ap (λ (b : Bool). same x y || b) (among-more x n ns)
 
 module _ (ps s : List ℕ) (k : Row) (at passed place len end : ℕ) (r : RowPlace) (t : Seat) (b : (i : ℕ) → Fits w8 (getD s i 0))
     (o : Ordered ps s k at passed) (f : r ≡ rowOf place (rowName k (drop place s))) (g : r ≡ rowPlace.Whole len end)

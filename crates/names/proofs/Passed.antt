@@ -19,7 +19,7 @@ use Rattle.rows.specs.declared.RowPlace.{RowPlace}
 use Rattle.rows.specs.declared.RowPlace.the-variants as rowPlace
 use Rattle.rows.proofs.Laws.{row-parts, row-broken}
 use Rattle.names.proofs.Finding.{same-sym}
-use Rattle.names.proofs.Laws.{names-bad, names-good, row-name-place, row-name-there}
+use Rattle.names.proofs.Laws.{names-bad, names-good}
 
 -- ── Names that differ, taken from the front ──
 
@@ -145,11 +145,4 @@ module _ (s : List ℕ) (k : Row) (at passed place len end : ℕ) (r : RowPlace)
           let z : 1 + more - 1 ≡ more = omega arith in
           ap (λ (x : List (List ℕ)). names passed (rowName k) (drop at s) ++ x) (names-good k s place (1 + more) c name (omega arith) p ∙ rw (z, q))
 
-pub ruleset passing = (
-  needs,
-  row-name-place,
-  row-name-there,
-  passed-none,
-  passed-all,
-  passed-broken,
-)
+pub ruleset passing = (needs, passed-none, passed-all, passed-broken)

@@ -13,7 +13,7 @@ ghost use Rattle.layout.specs.Recording.{same, among};
 ghost use Rattle.rows.specs.Rows.{rowName};
 ghost use Rattle.names.specs.Names.{names, findName, distinctNames, covers};
 
-// Names that differ are looked for in vain so often at most: a thousand usual ones less than once.
+// How many names are looked for in vain: of a thousand usual ones, on average, not one.
 const MOST_SEARCHES: usize = 2;
 
 // The first row with a name: its number and its place.
@@ -114,7 +114,8 @@ fn stands_in(
     false
 }
 
-// The same answer whatever the names are, in little more time than it takes to sort them: the rows passed are kept in the order of their names.
+// The same answer in a time that no choice of names drives up: the places of the rows passed are kept in the order of their names, and the seat of each
+// name among them is found by halves.
 fn differ_by_order(s: &[u8], at: usize, n: usize, row: Row) -> bool
     ensures { λ r. ⌜ r ≡ distinctNames (now (s .entry)) at n row ⌝ }
 {
@@ -142,7 +143,7 @@ fn differ_by_order(s: &[u8], at: usize, n: usize, row: Row) -> bool
     true
 }
 
-// Searches that found nothing, counted up to one more than are made.
+// One search more where a mark was set before; counted to one more than are made.
 fn one_more(searches: usize, hit: bool) -> usize {
     if !hit {
         return searches;

@@ -1,10 +1,10 @@
 -- Names as numbers: no two names have one, a shorter name has a smaller one, and of two that are equally long the last byte that differs decides.
 -- Assumes nothing.
-use Prim.Native.Nat.{ℕ, zero, suc, _+_, _*_, _^_, _<_, _≤_}
+use Prim.Native.Nat.{ℕ, suc, _+_, _*_, _^_, _<_, _≤_}
 use native.Mathlib.Nat.{mul-assoc, mul-comm, pow-suc}
 use native.Mathlib.Omega.{arith}
 use mathlib.Core.Path.{_≡_, refl, ap, sym, _∙_}
-use mathlib.Core.Bool.{Bool, true, false, _&&_}
+use mathlib.Core.Bool.{Bool, true, false}
 use mathlib.Core.List.{List, [], _∷_, _++_, append-nil}
 use lib.ListN.{length}
 use lib.Dec.{ltb, eqb}
@@ -15,7 +15,6 @@ use Rattle.number.proofs.Bytes.{both-true}
 use Rattle.layout.specs.Recording.{same}
 use Rattle.layout.proofs.Lists.{same-true, same-refl}
 use Rattle.order.specs.Order.{key, turnOf}
-use Rattle.order.specs.declared.Turn.{Turn}
 use Rattle.order.specs.declared.Turn.the-variants as turn
 
 -- ── How one number stands to another ──
@@ -50,28 +49,6 @@ turn-both x y a b f g h =
     let q = g p in
     sym (turn-same a b (omega arith) (omega arith)) ∙ turn-same x y (omega arith) (omega arith)) (λ p.
     sym (turn-after a b (h p)) ∙ turn-after x y p)
-
-turn-told : (x y : ℕ) (r : Turn) → turnOf x y ≡ r → {G : Type 0} → (r ≡ turn.Before → x < y → G) → (r ≡ turn.Same → x ≡ y → G)
-    → (r ≡ turn.After → y < x → G) → G
-turn-told x y r e f g h =
-    three x y (λ p. f (sym e ∙ sym (turn-before x y p)) p) (λ p. g (sym e ∙ sym (turn-same x y (omega arith) (omega arith))) p) (λ p.
-    h (sym e ∙ sym (turn-after x y p)) p)
-
--- what an answer says of the numbers
-pub told-before : (x y : ℕ) → turnOf x y ≡ turn.Before → x < y
-told-before x y e =
-    turn-told x y turn.Before e (λ p q. q) (λ p q. let z : _≡_ {A = ℕ} 0 1 = cc in absurd (omega arith)) (λ p q.
-    let z : _≡_ {A = ℕ} 0 1 = cc in absurd (omega arith))
-
-pub told-same : (x y : ℕ) → turnOf x y ≡ turn.Same → x ≡ y
-told-same x y e =
-    turn-told x y turn.Same e (λ p q. let z : _≡_ {A = ℕ} 0 1 = cc in absurd (omega arith)) (λ p q. q) (λ p q.
-    let z : _≡_ {A = ℕ} 0 1 = cc in absurd (omega arith))
-
-pub told-after : (x y : ℕ) → turnOf x y ≡ turn.After → y < x
-told-after x y e =
-    turn-told x y turn.After e (λ p q. let z : _≡_ {A = ℕ} 0 1 = cc in absurd (omega arith)) (λ p q.
-    let z : _≡_ {A = ℕ} 0 1 = cc in absurd (omega arith)) (λ p q. q)
 
 -- ── A name as a number ──
 

@@ -1,6 +1,6 @@
 -- What the functions of this crate leave to be shown, as laws about the definitions.
 -- Assumes nothing.
-use Prim.Native.Nat.{ℕ, suc, _+_, _*_, _-_, _^_, _<_, _≤_}
+use Prim.Native.Nat.{ℕ, _+_, _*_, _-_, _^_, _<_, _≤_}
 use native.Mathlib.Omega.{arith}
 use mathlib.Core.Path.{_≡_, refl, ap, sym, _∙_}
 use mathlib.Core.Bool.{true}
@@ -14,7 +14,7 @@ use mir.Val.{Fits}
 use Rattle.number.specs.Number.{numberOf}
 use Rattle.number.proofs.Bytes.{slice-bytes, part-long}
 use Rattle.number.proofs.Laws.{byte-there, read-is, read-whole}
-use Rattle.layout.specs.Reading.{Parsed, bad, good, string}
+use Rattle.layout.specs.Reading.{string}
 use Rattle.layout.proofs.Lists.{bytes-take, bytes-drop}
 use Rattle.strings.specs.Strings.{textOf}
 use Rattle.strings.specs.declared.Text.{Text}

@@ -8,9 +8,9 @@ use mathlib.Core.Path.{_≡_, refl, ap, sym, _∙_}
 use mathlib.Core.Bool.{Bool, true, false, _&&_, _||_, cond}
 use mathlib.Core.List.{List, [], _∷_, _++_, append-assoc, append-nil}
 use lib.ListN.{length, take, drop, getD, set, length-set, length-append, length-drop, take-append-drop}
-use lib.Seq.{length-take-le, take-suc, drop-cons, take-add, take-at, drop-at, set-at, append-snoc, take-set-le, drop-set-lt, drop-set-add, getD-set-same, getD-drop}
+use lib.Seq.{length-take-le, take-suc, drop-cons, take-add, take-at, drop-at, set-at, take-set-le, drop-set-lt, drop-set-add, getD-set-same, getD-drop}
 use lib.Dec.{leb, ltb, eqb}
-use borrow.Author.Tests.{ltb-true, lt-ltb, le-ltb, le-leb, lt-leb, leb-true, leb-false, eq-eqb, ne-eqb}
+use borrow.Author.Tests.{ltb-true, lt-ltb, le-ltb, le-leb, lt-leb, leb-true, eq-eqb, ne-eqb}
 use Rattle.number.proofs.Bytes.{both-true, and-true, part-long}
 use Rattle.number.proofs.Bools.{or-left, and-false}
 use Rattle.order.specs.Order.{key, nameAt, turnOf, keys, middle, halves, seek, inserted}
@@ -69,16 +69,16 @@ holds-at x (k ∷ ks) (suc i) h e = go (eqb x k) (holds-at x ks i (omega arith) 
     go true e = refl
     go false e = e
 
+pub or-swap : (a b c : Bool) → (a || (b || c)) ≡ (b || (a || c))
+or-swap true true c = refl
+or-swap true false c = refl
+or-swap false b c = refl
+
 -- one number more, wherever it stands
 pub holds-more : (x y : ℕ) (ks ls : List ℕ) → holds x (ks ++ y ∷ ls) ≡ (eqb x y || holds x (ks ++ ls))
 unfolding holds
 holds-more x y [] ls = refl
-holds-more x y (k ∷ ks) ls = rw (holds-more x y ks ls) (go (eqb x k) (eqb x y) (holds x (ks ++ ls)))
-  where
-    go : (a b c : Bool) → (a || (b || c)) ≡ (b || (a || c))
-    go true true c = refl
-    go true false c = refl
-    go false b c = refl
+holds-more x y (k ∷ ks) ls = rw (holds-more x y ks ls) (or-swap (eqb x k) (eqb x y) (holds x (ks ++ ls)))
 
 -- ── By halves ──
 

@@ -30,13 +30,13 @@ loop-holds : tie.Need-loop-holds Inv-loop μ-loop
 loop-holds c = search laws
 
 row-at-requires : tie.Need-row-at-requires Inv-loop μ-loop
-row-at-requires c κs = search laws
+row-at-requires c κs = search needs
 
 enum-known-found : tie.Need-enum-known-found Inv-loop μ-loop
-enum-known-found c = search laws
+enum-known-found c = search needs
 
 enum-told : tie.Need-enum-told Inv-loop μ-loop
-enum-told c = search laws
+enum-told c = search needs
 
 returns : tie.Need-returns Inv-loop μ-loop
 returns c = search laws
@@ -45,28 +45,28 @@ add-mark-of : tie.Need-add-mark-of Inv-loop μ-loop
 add-mark-of c = search laws
 
 mark-of-requires : tie.Need-mark-of-requires Inv-loop μ-loop
-mark-of-requires c κs = search laws
+mark-of-requires c κs = search needs
 
 slice-aggregate-marked : tie.Need-slice-aggregate-marked Inv-loop μ-loop
-slice-aggregate-marked c = search laws
+slice-aggregate-marked c = search needs
 
 marked-requires : tie.Need-marked-requires Inv-loop μ-loop
-marked-requires c κs = search laws
+marked-requires c κs = search needs
 
 one-more-requires : tie.Need-one-more-requires Inv-loop μ-loop
-one-more-requires c κs = search laws
+one-more-requires c κs = search needs
 
 differ-by-order-requires : tie.Need-differ-by-order-requires Inv-loop μ-loop
-differ-by-order-requires c κs = search laws
+differ-by-order-requires c κs = search needs
 
 returns-2 : tie.Need-returns-2 Inv-loop μ-loop
-returns-2 c = search laws
+returns-2 c = search needs
 
 add-stands-in : tie.Need-add-stands-in Inv-loop μ-loop
 add-stands-in c = search laws
 
 slice-aggregate-stands-in : tie.Need-slice-aggregate-stands-in Inv-loop μ-loop
-slice-aggregate-stands-in c = search laws
+slice-aggregate-stands-in c = search needs
 
 stands-in-requires : tie.Need-stands-in-requires Inv-loop μ-loop
 stands-in-requires c κs = search laws
@@ -75,19 +75,19 @@ returns-3 : tie.Need-returns-3 Inv-loop μ-loop
 returns-3 c = search laws
 
 slice-aggregate-mark : tie.Need-slice-aggregate-mark Inv-loop μ-loop
-slice-aggregate-mark c = search laws
+slice-aggregate-mark c = search needs
 
 mark-requires : tie.Need-mark-requires Inv-loop μ-loop
-mark-requires c κs = search laws
+mark-requires c κs = search needs
 
 add-passed : tie.Need-add-passed Inv-loop μ-loop
-add-passed c = search laws
+add-passed c = search needs
 
 sub-left : tie.Need-sub-left Inv-loop μ-loop
-sub-left c = search laws
+sub-left c = search needs
 
 loop-less : tie.Need-loop-less Inv-loop μ-loop
-loop-less c = search laws
+loop-less c = search needs
 
 loop-again : tie.Need-loop-again Inv-loop μ-loop
 loop-again c = search laws

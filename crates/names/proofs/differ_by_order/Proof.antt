@@ -21,55 +21,55 @@ abbrev μ-loop : tie.MeasureT-loop
 μ-loop s at n row places₀ place₀ passed₀ left₀ places place passed left = left
 
 differ-by-search-requires : tie.Need-differ-by-search-requires Inv-loop μ-loop
-differ-by-search-requires c κs = search laws
+differ-by-search-requires c κs = search needs
 
 returns : tie.Need-returns Inv-loop μ-loop
-returns c = search laws
+returns c = search needs
 
 loop-holds : tie.Need-loop-holds Inv-loop μ-loop
 loop-holds c = search laws
 
 row-at-requires : tie.Need-row-at-requires Inv-loop μ-loop
-row-at-requires c κs = search laws
+row-at-requires c κs = search needs
 
 enum-known-found : tie.Need-enum-known-found Inv-loop μ-loop
-enum-known-found c = search laws
+enum-known-found c = search needs
 
 enum-told : tie.Need-enum-told Inv-loop μ-loop
-enum-told c = search laws
+enum-told c = search needs
 
 returns-2 : tie.Need-returns-2 Inv-loop μ-loop
 returns-2 c = search laws
 
 slice-aggregate-seek : tie.Need-slice-aggregate-seek Inv-loop μ-loop
-slice-aggregate-seek c = search laws
+slice-aggregate-seek c = search needs
 
 seek-requires : tie.Need-seek-requires Inv-loop μ-loop
-seek-requires c κs = search laws
+seek-requires c κs = search needs
 
 enum-known-seat : tie.Need-enum-known-seat Inv-loop μ-loop
-enum-known-seat c = search laws
+enum-known-seat c = search needs
 
 enum-told-2 : tie.Need-enum-told-2 Inv-loop μ-loop
-enum-told-2 c = search laws
+enum-told-2 c = search needs
 
 returns-3 : tie.Need-returns-3 Inv-loop μ-loop
 returns-3 c = search laws
 
 slice-aggregate-insert : tie.Need-slice-aggregate-insert Inv-loop μ-loop
-slice-aggregate-insert c = search laws
+slice-aggregate-insert c = search needs
 
 insert-requires : tie.Need-insert-requires Inv-loop μ-loop
-insert-requires c κs = search laws
+insert-requires c κs = search needs
 
 add-passed : tie.Need-add-passed Inv-loop μ-loop
-add-passed c = search laws
+add-passed c = search needs
 
 sub-left : tie.Need-sub-left Inv-loop μ-loop
-sub-left c = search laws
+sub-left c = search needs
 
 loop-less : tie.Need-loop-less Inv-loop μ-loop
-loop-less c = search laws
+loop-less c = search needs
 
 loop-again : tie.Need-loop-again Inv-loop μ-loop
 loop-again c = search laws

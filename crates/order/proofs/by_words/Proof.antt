@@ -21,37 +21,37 @@ abbrev μ-loop : tie.MeasureT-loop
 μ-loop s here there n left₀ left = left
 
 loop-holds : tie.Need-loop-holds Inv-loop μ-loop
-loop-holds c = search laws
+loop-holds c = search needs
 
 sub-left : tie.Need-sub-left Inv-loop μ-loop
-sub-left c = search laws
+sub-left c = search needs
 
 add-word : tie.Need-add-word Inv-loop μ-loop
-add-word c = search laws
+add-word c = search needs
 
 word-requires : tie.Need-word-requires Inv-loop μ-loop
-word-requires c κs = search laws
+word-requires c κs = search needs
 
 add-word-2 : tie.Need-add-word-2 Inv-loop μ-loop
-add-word-2 c = search laws
+add-word-2 c = search needs
 
 word-requires-2 : tie.Need-word-requires-2 Inv-loop μ-loop
-word-requires-2 c κs = search laws
+word-requires-2 c κs = search needs
 
 turn-of-requires : tie.Need-turn-of-requires Inv-loop μ-loop
-turn-of-requires c κs = search laws
+turn-of-requires c κs = search needs
 
 returns : tie.Need-returns Inv-loop μ-loop
 returns c = search laws
 
 loop-less : tie.Need-loop-less Inv-loop μ-loop
-loop-less c = search laws
+loop-less c = search needs
 
 loop-again : tie.Need-loop-again Inv-loop μ-loop
 loop-again c = search laws
 
 by-bytes-requires : tie.Need-by-bytes-requires Inv-loop μ-loop
-by-bytes-requires c κs = search laws
+by-bytes-requires c κs = search needs
 
 returns-2 : tie.Need-returns-2 Inv-loop μ-loop
 returns-2 c = search laws

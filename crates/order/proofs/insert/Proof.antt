@@ -28,37 +28,37 @@ loop-holds : tie.Need-loop-holds Inv-loop μ-loop
 loop-holds c = search laws
 
 sub-places : tie.Need-sub-places Inv-loop μ-loop
-sub-places c = search laws
+sub-places c = search needs
 
 mul-places : tie.Need-mul-places Inv-loop μ-loop
-mul-places c = search laws
+mul-places c = search needs
 
 slice-read-places : tie.Need-slice-read-places Inv-loop μ-loop
-slice-read-places c = search laws
+slice-read-places c = search needs
 
 mul-places-2 : tie.Need-mul-places-2 Inv-loop μ-loop
-mul-places-2 c = search laws
+mul-places-2 c = search needs
 
 slice-write-places : tie.Need-slice-write-places Inv-loop μ-loop
-slice-write-places c = search laws
+slice-write-places c = search needs
 
 sub-i : tie.Need-sub-i Inv-loop μ-loop
-sub-i c = search laws
+sub-i c = search needs
 
 loop-less : tie.Need-loop-less Inv-loop μ-loop
-loop-less c = search laws
+loop-less c = search needs
 
 loop-again : tie.Need-loop-again Inv-loop μ-loop
 loop-again c = (search needs, search needs, search needs, search needs, search laws)
 
 mul-places-3 : tie.Need-mul-places-3 Inv-loop μ-loop
-mul-places-3 c = search laws
+mul-places-3 c = search needs
 
 slice-write-places-2 : tie.Need-slice-write-places-2 Inv-loop μ-loop
-slice-write-places-2 c = search laws
+slice-write-places-2 c = search needs
 
 same-length : tie.Need-same-length Inv-loop μ-loop
-same-length c = search laws
+same-length c = search needs
 
 returns-3 : tie.Need-returns-3 Inv-loop μ-loop
 returns-3 c = search laws

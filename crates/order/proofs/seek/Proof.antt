@@ -25,43 +25,43 @@ loop-holds : tie.Need-loop-holds Inv-loop μ-loop
 loop-holds c = search laws
 
 sub-middle : tie.Need-sub-middle Inv-loop μ-loop
-sub-middle c = search laws
+sub-middle c = search needs
 
 add-middle : tie.Need-add-middle Inv-loop μ-loop
-add-middle c = search laws
+add-middle c = search needs
 
 mul-compare : tie.Need-mul-compare Inv-loop μ-loop
-mul-compare c = search laws
+mul-compare c = search needs
 
 shared-slice-read-compare : tie.Need-shared-slice-read-compare Inv-loop μ-loop
-shared-slice-read-compare c = search laws
+shared-slice-read-compare c = search needs
 
 compare-requires : tie.Need-compare-requires Inv-loop μ-loop
-compare-requires c κs = search laws
+compare-requires c κs = search needs
 
 enum-told : tie.Need-enum-told Inv-loop μ-loop
-enum-told c = search laws
+enum-told c = search needs
 
 loop-less : tie.Need-loop-less Inv-loop μ-loop
-loop-less c = search laws
+loop-less c = search needs
 
 loop-again : tie.Need-loop-again Inv-loop μ-loop
 loop-again c = search laws
 
 enum-told-2 : tie.Need-enum-told-2 Inv-loop μ-loop
-enum-told-2 c = search laws
+enum-told-2 c = search needs
 
 add-low : tie.Need-add-low Inv-loop μ-loop
-add-low c = search laws
+add-low c = search needs
 
 loop-less-2 : tie.Need-loop-less-2 Inv-loop μ-loop
-loop-less-2 c = search laws
+loop-less-2 c = search needs
 
 loop-again-2 : tie.Need-loop-again-2 Inv-loop μ-loop
 loop-again-2 c = search laws
 
 enum-told-3 : tie.Need-enum-told-3 Inv-loop μ-loop
-enum-told-3 c = search laws
+enum-told-3 c = search needs
 
 returns-2 : tie.Need-returns-2 Inv-loop μ-loop
 returns-2 c = search laws
