@@ -13,7 +13,7 @@ use mir.Syntax.{w8, w64}
 use mir.Val.{Fits}
 use Rattle.number.specs.Number.{numberOf}
 use Rattle.number.proofs.Bytes.{slice-bytes, part-long}
-use Rattle.number.proofs.Laws.{byte-there, read-is, read-whole}
+use Rattle.parts.proofs.Same.{eight-read}
 use Rattle.layout.specs.Reading.{string}
 use Rattle.layout.proofs.Lists.{bytes-take, bytes-drop}
 use Rattle.strings.specs.Strings.{textOf}
@@ -27,20 +27,6 @@ use Rattle.order.specs.declared.Seat.{Seat}
 use Rattle.order.specs.declared.Seat.the-variants as seat
 use Rattle.order.proofs.Keys.{turn-before, turn-same, turn-after, key-longer, same-ends, other-ends}
 use Rattle.order.proofs.Seats.{keys-at, halves-done, halves-lower, halves-met, halves-upper, seek-more, seek-start, insert-full, insert-nowhere, insert-start, insert-step, insert-done}
-
--- ── Eight bytes as a word ──
-
-pub word-is : (s : List ℕ) (at a b c d e f g h : ℕ) → at + 8 ≤ length s → a ≡ getD s at 0 → b ≡ getD s (at + 1) 0 → c ≡ getD s (at + 2) 0
-    → d ≡ getD s (at + 3) 0 → e ≡ getD s (at + 4) 0 → f ≡ getD s (at + 5) 0 → g ≡ getD s (at + 6) 0 → h ≡ getD s (at + 7) 0
-    → a + b * 256 + c * 65536 + d * 16777216 + e * 4294967296 + f * 1099511627776 + g * 281474976710656 + h * 72057594037927936
-    ≡ numberOf (take 8 (drop at s))
-word-is s at a b c d e f g h l p0 p1 p2 p3 p4 p5 p6 p7 =
-    let z : at + 0 ≡ at = omega arith in
-    read-whole s at 8 a b c d e f g h (omega arith) (omega arith) (omega arith) (byte-there s at 8 0 a (omega arith) (rw z p0))
-    (byte-there s at 8 1 b (omega arith) p1) (byte-there s at 8 2 c (omega arith) p2) (byte-there s at 8 3 d (omega arith) p3)
-    (byte-there s at 8 4 e (omega arith) p4) (byte-there s at 8 5 f (omega arith) p5) (byte-there s at 8 6 g (omega arith) p6)
-    (byte-there s at 8 7 h (omega arith) p7)
-    ∙ read-is s at 8 (omega arith) l
 
 -- ── Names of one length, from their ends on ──
 
@@ -218,7 +204,7 @@ module _ (s ps : List ℕ) (n low high k : ℕ) (t : Turn) (all : Seat) where
 
 pub ruleset laws = (
   needs,
-  word-is,
+  eight-read,
   turn-before,
   turn-after,
   turn-same,

@@ -31,14 +31,8 @@ fn word(s: &[u8], at: usize) -> u64
     requires { ⌜ at + 8 ≤ length (now s) ⌝ }
     ensures { λ r. ⌜ r ≡ numberOf (take 8 (drop at (now (s .entry)))) ⌝ }
 {
-    wide(s[at])
-        + wide(s[at + 1]) * 0x100
-        + wide(s[at + 2]) * 0x1_0000
-        + wide(s[at + 3]) * 0x100_0000
-        + wide(s[at + 4]) * 0x1_0000_0000
-        + wide(s[at + 5]) * 0x100_0000_0000
-        + wide(s[at + 6]) * 0x1_0000_0000_0000
-        + wide(s[at + 7]) * 0x100_0000_0000_0000
+    let end = at + 8;
+    number::read(&s[at..end], 0, 8)
 }
 
 fn turn_of(x: u64, y: u64) -> Turn

@@ -71,19 +71,19 @@ same-add a b i j n m h k =
     (same-append (part a i n) (part a (i + n) m) (part b j n) (part b (j + n) m) (part-long a i n h ∙ sym (part-long b j n k)))
 
 -- eight bytes, read from a part of just these
+pub eight-read : (s : List ℕ) (at n : ℕ) → at + 8 ≤ length s → n ≡ readAt (part s at (at + 8 - at)) 0 8 → n ≡ numberOf (part s at 8)
+eight-read s at n l e =
+    let d : at + 8 - at ≡ 8 = omega arith in
+    let m : length (part s at 8) ≡ 8 = part-long s at 8 l in
+    e ∙ rw d (read-is (part s at 8) 0 8 (omega arith) (omega arith) ∙ ap numberOf (take-all 8 (part s at 8) (omega arith)))
+
 pub eight-same : (a b : List ℕ) (i j x y : ℕ) → ((k : ℕ) → Fits w8 (getD a k 0)) → ((k : ℕ) → Fits w8 (getD b k 0)) → i + 8 ≤ length a
     → j + 8 ≤ length b → x ≡ readAt (part a i (i + 8 - i)) 0 8 → y ≡ readAt (part b j (j + 8 - j)) 0 8
     → eqb x y ≡ same (part a i 8) (part b j 8)
 eight-same a b i j x y f g h k p q =
-    rw (p ∙ eight a i h, q ∙ eight b j k)
+    rw (eight-read a i x h p, eight-read b j y k q)
     (same-numbers 8 (part a i 8) (part b j 8) (bytes-take 8 (drop i a) (bytes-drop i a (slice-bytes a f)))
     (bytes-take 8 (drop j b) (bytes-drop j b (slice-bytes b g))) (part-long a i 8 h) (part-long b j 8 k))
-  where
-    eight : (s : List ℕ) (at : ℕ) → at + 8 ≤ length s → readAt (part s at (at + 8 - at)) 0 8 ≡ numberOf (part s at 8)
-    eight s at l =
-        let d : at + 8 - at ≡ 8 = omega arith in
-        let m : length (part s at 8) ≡ 8 = part-long s at 8 l in
-        rw d (read-is (part s at 8) 0 8 (omega arith) (omega arith) ∙ ap numberOf (take-all 8 (part s at 8) (omega arith)))
 
 pub sixteen-same : (a b : List ℕ) (i j : ℕ) (p q : Bool) → i + 16 ≤ length a → j + 16 ≤ length b → p ≡ same (part a i 8) (part b j 8)
     → q ≡ same (part a (i + 8) 8) (part b (j + 8) 8) → (p && q) ≡ same (part a i 16) (part b j 16)
