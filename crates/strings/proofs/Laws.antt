@@ -2,25 +2,27 @@
 -- Assumes nothing.
 use Prim.Native.Nat.{ℕ, zero, suc, _+_, _*_, _-_, _^_, _<_, _≤_}
 use native.Mathlib.Omega.{arith}
-use mathlib.Core.Path.{_≡_, refl, sym, _∙_}
+use mathlib.Core.Path.{_≡_, refl, ap, sym, _∙_}
 use mathlib.Core.Bool.{Bool, true, false, _&&_, cond}
 use mathlib.Core.List.{List, [], _∷_}
 use lib.ListN.{length, take, drop, getD, length-drop, drop-of-length-le}
 use lib.Seq.{drop-cons, length-take-le}
-use lib.Dec.{leb}
+use lib.Dec.{leb, ltb}
 use borrow.Author.Needs.{needs}
 use mir.Syntax.{w8, w64}
 use mir.Val.{Fits}
-use borrow.Author.Tests.{le-leb, lt-leb, leb-true, leb-false, not-true, not-false}
+use borrow.Author.Tests.{le-leb, lt-leb, leb-true, leb-false, lt-ltb, le-ltb, not-true, not-false}
 use Rattle.number.specs.Number.{numberOf}
 use Rattle.layout.specs.Recording.{within, every, isNameByte, isTagByte, legalSectionName, legalTagName, legalTagValue}
 use Rattle.layout.specs.Reading.{Parsed, bad, good, onward, _then_, only, number, block, string}
-use Rattle.strings.specs.Strings.{textOf, inClass, legalText}
+use Rattle.strings.specs.Strings.{textOf, lengthOf, textWith, inClass, legalText}
 use Rattle.strings.specs.declared.Text.{Text}
 use Rattle.strings.specs.declared.Text.the-variants as text
 use Rattle.strings.specs.declared.Class.{Class}
 use Rattle.strings.specs.declared.Class.the-variants as class
 use Rattle.number.proofs.Bools.{and-false}
+use Rattle.number.proofs.Bytes.{both-true}
+use Rattle.parts.proofs.Taken.{only-parts}
 use Rattle.parts.proofs.Readers.{only-bad, only-pass, only-fail}
 
 -- ── Tests ──
@@ -179,7 +181,7 @@ legal-right : (least : ℕ) (c : Class) (v : List ℕ) → least ≤ length v �
 unfolding legalText
 legal-right least c v p q h = rw (inside least 255 (length v) p q, h)
 
-pub text-short : (least : ℕ) (c : Class) (s : List ℕ) (at n : ℕ) (r : Text) → r ≡ textOf (string (drop at s)) → r ≡ text.Whole n → n < least
+text-short : (least : ℕ) (c : Class) (s : List ℕ) (at n : ℕ) (r : Text) → r ≡ textOf (string (drop at s)) → r ≡ text.Whole n → n < least
     → text.Broken ≡ textOf (only (legalText least c) string (drop at s))
 unfolding textOf
 text-short least c s at n r e f h =
@@ -187,14 +189,14 @@ text-short least c s at n r e f h =
     let k : length (take n (drop (at + 1) s)) ≡ n = part-length s at n l in
     rw (only-fail (legalText least c) string (drop at s) _ _ p (legal-short least c _ (omega arith)))
 
-pub text-wrong : (least : ℕ) (c : Class) (s : List ℕ) (at n : ℕ) (r : Text) (q : Bool) → r ≡ textOf (string (drop at s)) → r ≡ text.Whole n
+text-wrong : (least : ℕ) (c : Class) (s : List ℕ) (at n : ℕ) (r : Text) (q : Bool) → r ≡ textOf (string (drop at s)) → r ≡ text.Whole n
     → q ≡ every (inClass c) (take n (drop (at + 1) s)) → q ≡ false → text.Broken ≡ textOf (only (legalText least c) string (drop at s))
 unfolding textOf
 text-wrong least c s at n r q e f g h =
     let (l, o, p) = string-parts s at n (sym e ∙ f) in
     rw (only-fail (legalText least c) string (drop at s) _ _ p (legal-wrong least c _ (sym g ∙ h)))
 
-pub text-right : (least : ℕ) (c : Class) (s : List ℕ) (at n : ℕ) (r : Text) (q : Bool) → ((i : ℕ) → Fits w8 (getD s i 0))
+text-right : (least : ℕ) (c : Class) (s : List ℕ) (at n : ℕ) (r : Text) (q : Bool) → ((i : ℕ) → Fits w8 (getD s i 0))
     → r ≡ textOf (string (drop at s)) → r ≡ text.Whole n → least ≤ n → q ≡ every (inClass c) (take n (drop (at + 1) s)) → q ≡ true
     → text.Whole n ≡ textOf (only (legalText least c) string (drop at s))
 unfolding textOf
@@ -204,20 +206,59 @@ text-right least c s at n r q w e f m g h =
     let b : getD s at 0 < 256 = w at .fits in
     rw (only-pass (legalText least c) string (drop at s) _ _ p (legal-right least c _ (omega arith) (omega arith) (sym g ∙ h)), k)
 
-pub section-rule : (s : List ℕ) (at : ℕ) (r : Text) → r ≡ textOf (only (legalText 1 class.Name) string (drop at s))
-    → r ≡ textOf (only legalSectionName string (drop at s))
-unfolding legalText legalSectionName inClass
-section-rule s at r e = e
+-- the same by the string's number of bytes
+module _ (least : ℕ) (c : Class) (s : List ℕ) (at : ℕ) (r : Text) (e : r ≡ textOf (string (drop at s))) where
+  pub length-broken : r ≡ text.Broken → 256 ≡ lengthOf (textOf (only (legalText least c) string (drop at s)))
+  unfolding lengthOf
+  length-broken f = ap lengthOf (text-broken (legalText least c) s at r e f)
 
-pub name-rule : (s : List ℕ) (at : ℕ) (r : Text) → r ≡ textOf (only (legalText 1 class.Tag) string (drop at s))
-    → r ≡ textOf (only legalTagName string (drop at s))
-unfolding legalText legalTagName inClass
-name-rule s at r e = e
+  pub length-short : (n : ℕ) → r ≡ text.Whole n → n < least → 256 ≡ lengthOf (textOf (only (legalText least c) string (drop at s)))
+  unfolding lengthOf
+  length-short n f h = ap lengthOf (text-short least c s at n r e f h)
 
-pub value-rule : (s : List ℕ) (at : ℕ) (r : Text) → r ≡ textOf (only (legalText 0 class.Tag) string (drop at s))
-    → r ≡ textOf (only legalTagValue string (drop at s))
-unfolding legalText legalTagValue inClass
-value-rule s at r e = e
+  pub length-wrong : (n : ℕ) (q : Bool) → r ≡ text.Whole n → q ≡ every (inClass c) (take n (drop (at + 1) s)) → q ≡ false
+      → 256 ≡ lengthOf (textOf (only (legalText least c) string (drop at s)))
+  unfolding lengthOf
+  length-wrong n q f g h = ap lengthOf (text-wrong least c s at n r q e f g h)
+
+  pub length-right : (n : ℕ) (q : Bool) → ((i : ℕ) → Fits w8 (getD s i 0)) → r ≡ text.Whole n → least ≤ n
+      → q ≡ every (inClass c) (take n (drop (at + 1) s)) → q ≡ true → n ≡ lengthOf (textOf (only (legalText least c) string (drop at s)))
+  unfolding lengthOf
+  length-right n q w f m g h = ap lengthOf (text-right least c s at n r q w e f m g h)
+
+pub with-length : (n : ℕ) → n < 256 → text.Whole n ≡ textWith n
+unfolding textWith
+with-length n h = rw (lt-ltb n 256 h)
+
+pub with-none : (n : ℕ) → 256 ≤ n → text.Broken ≡ textWith n
+unfolding textWith
+with-none n h = rw (le-ltb n 256 h)
+
+-- a string that keeps the rule is known by its number of bytes
+text-again : (least : ℕ) (c : Class) (l : List ℕ) → textWith (lengthOf (textOf (only (legalText least c) string l))) ≡ textOf (only (legalText least c) string l)
+unfolding textOf lengthOf textWith legalText
+text-again least c l = go (only (legalText least c) string l) refl
+  where
+    go : (p : Parsed (List ℕ)) → only (legalText least c) string l ≡ p → textWith (lengthOf (textOf p)) ≡ textOf p
+    go bad e = refl
+    go (good v n) e =
+        let (f, g) = only-parts (legalText least c) string l v n e in
+        let (h, i) = both-true (within least 255 (length v)) (every (inClass c) v) g in
+        let (j, k) = both-true (leb least (length v)) (leb (length v) 255) h in
+        rw (lt-ltb (length v) 256 (omega (arith, leb-true (length v) 255 k)))
+
+module _ (s : List ℕ) (at n : ℕ) (r : Text) (e : r ≡ textWith n) where
+  pub section-rule : n ≡ lengthOf (textOf (only (legalText 1 class.Name) string (drop at s))) → r ≡ textOf (only legalSectionName string (drop at s))
+  unfolding legalText legalSectionName inClass
+  section-rule f = e ∙ ap textWith f ∙ text-again 1 class.Name (drop at s)
+
+  pub name-rule : n ≡ lengthOf (textOf (only (legalText 1 class.Tag) string (drop at s))) → r ≡ textOf (only legalTagName string (drop at s))
+  unfolding legalText legalTagName inClass
+  name-rule f = e ∙ ap textWith f ∙ text-again 1 class.Tag (drop at s)
+
+  pub value-rule : n ≡ lengthOf (textOf (only (legalText 0 class.Tag) string (drop at s))) → r ≡ textOf (only legalTagValue string (drop at s))
+  unfolding legalText legalTagValue inClass
+  value-rule f = e ∙ ap textWith f ∙ text-again 0 class.Tag (drop at s)
 
 -- ── All of a class ──
 
@@ -267,10 +308,12 @@ pub ruleset laws = (
   string-whole,
   text-fits,
   text-place,
-  text-broken,
-  text-short,
-  text-wrong,
-  text-right,
+  length-broken,
+  length-short,
+  length-wrong,
+  length-right,
+  with-length,
+  with-none,
   section-rule,
   name-rule,
   value-rule,

@@ -1,8 +1,9 @@
 -- Short strings that were read, and the classes of their bytes.
 use Prim.Native.Nat.{ℕ}
-use mathlib.Core.Bool.{Bool, _&&_}
+use mathlib.Core.Bool.{Bool, _&&_, cond}
 use mathlib.Core.List.{List}
 use lib.ListN.{length}
+use lib.Dec.{ltb}
 use Rattle.layout.specs.Recording.{within, every, isNameByte, isTagByte}
 use Rattle.layout.specs.Reading.{Parsed, bad, good}
 use Rattle.strings.specs.declared.Text.{Text}
@@ -14,6 +15,14 @@ use Rattle.strings.specs.declared.Class.the-variants as class
 unfoldable pub textOf : Parsed (List ℕ) → Text
 textOf bad = text.Broken
 textOf (good v n) = text.Whole (length v)
+
+-- its number of bytes, 256 for none; and the string with so many
+unfoldable pub lengthOf : Text → ℕ
+lengthOf (text.Whole n) = n
+lengthOf text.Broken = 256
+
+unfoldable pub textWith : (length : ℕ) → Text
+textWith n = cond (ltb n 256) (text.Whole n) text.Broken
 
 unfoldable pub inClass : Class → ℕ → Bool
 inClass class.Name = isNameByte

@@ -4,7 +4,7 @@ ghost use Prim.Native.Nat.{_+_, _*_, _<_, _≤_};
 ghost use lib.ListN.{length, take, drop};
 ghost use Rattle.layout.specs.Recording.{isNameByte, isTagByte, every, legalSectionName, legalTagName, legalTagValue};
 ghost use Rattle.layout.specs.Reading.{only, string};
-ghost use Rattle.strings.specs.Strings.{inClass, legalText, textOf};
+ghost use Rattle.strings.specs.Strings.{inClass, legalText, textOf, lengthOf, textWith};
 
 // A short string at a place: its number of bytes, which start behind the length byte.
 pub enum Text {
@@ -166,19 +166,34 @@ fn all_in_class(s: &[u8], at: usize, n: usize, class: Class) -> bool
     }
 }
 
-// A short string of a class, with at least so many bytes.
-fn text_of(s: &[u8], at: usize, least: usize, class: Class) -> Text
-    ensures { λ r. ⌜ r ≡ textOf (only (legalText least class) string (drop at (now (s .entry)))) ⌝ }
+// What no length byte says.
+const NO_LENGTH: usize = 256;
+
+// How many bytes the short string of a class at a place has; no length where there is none with at least so many bytes, or one of them is of no such class.
+// A number, and no enum: it comes back in a register, and the walk over a table goes by it.
+fn text_length(s: &[u8], at: usize, least: usize, class: Class) -> usize
+    ensures { λ r. ⌜ r ≡ lengthOf (textOf (only (legalText least class) string (drop at (now (s .entry))))) ⌝ }
 {
     let text = string(s, at);
     let Text::Whole(n) = text else {
-        return Text::Broken;
+        return NO_LENGTH;
     };
     if n < least {
-        return Text::Broken;
+        return NO_LENGTH;
     }
     if all_in_class(s, at + 1, n, class) {
-        Text::Whole(n)
+        n
+    } else {
+        NO_LENGTH
+    }
+}
+
+// A short string of that length.
+fn text_of(length: usize) -> Text
+    ensures { λ r. ⌜ r ≡ textWith length ⌝ }
+{
+    if length < NO_LENGTH {
+        Text::Whole(length)
     } else {
         Text::Broken
     }
@@ -187,17 +202,17 @@ fn text_of(s: &[u8], at: usize, least: usize, class: Class) -> Text
 pub fn section_name(s: &[u8], at: usize) -> Text
     ensures { λ r. ⌜ r ≡ textOf (only legalSectionName string (drop at (now (s .entry)))) ⌝ }
 {
-    text_of(s, at, 1, Class::Name)
+    text_of(text_length(s, at, 1, Class::Name))
 }
 
 pub fn tag_name(s: &[u8], at: usize) -> Text
     ensures { λ r. ⌜ r ≡ textOf (only legalTagName string (drop at (now (s .entry)))) ⌝ }
 {
-    text_of(s, at, 1, Class::Tag)
+    text_of(text_length(s, at, 1, Class::Tag))
 }
 
 pub fn tag_value(s: &[u8], at: usize) -> Text
     ensures { λ r. ⌜ r ≡ textOf (only legalTagValue string (drop at (now (s .entry)))) ⌝ }
 {
-    text_of(s, at, 0, Class::Tag)
+    text_of(text_length(s, at, 0, Class::Tag))
 }

@@ -84,6 +84,16 @@ pub ends-broken : (s : List ℕ) (at n left place : ℕ) (r : TagPlace) → 0 < 
 unfolding Ends
 ends-broken s at n left place r h e f g = sym (tags-broken s place left _ r h e f g)
 
+-- tags that were not marked
+pub few-broken : (s : List ℕ) (at n : ℕ) (t : Place) → t ≡ endOf at (times n tag (drop at s)) → t ≡ place.Broken → Ends s at n tagsEnd.Broken
+unfolding Ends
+few-broken s at n t f e = sym f ∙ e
+
+pub few-end : (s : List ℕ) (at n end : ℕ) (t : Place) → t ≡ endOf at (times n tag (drop at s)) → t ≡ place.End end
+    → Ends s at n (tagsEnd.End end false)
+unfolding Ends
+few-end s at n end t f e = (sym f ∙ e, λ z. let y : _≡_ {A = ℕ} 0 1 = cc in absurd (omega arith))
+
 -- ── The tags of a table ──
 
 module _ (s : List ℕ) (at n : ℕ) (r : TagsEnd) (h : Ends s at n r) where
@@ -127,25 +137,6 @@ module _ (s : List ℕ) (at n : ℕ) (r : TagsEnd) (h : Ends s at n r) where
   unfolding apartOf
   apart-twice end apart d e f t = rw (sym f ∙ t)
 
-module _ (s : List ℕ) (at n : ℕ) (t : Place) (f : t ≡ endOf at (times n tag (drop at s))) where
-  pub few-broken : t ≡ place.Broken → place.Broken ≡ apartOf (endOf at (times n tag (drop at s))) (distinctNames s at n row.Tag)
-  unfolding apartOf
-  few-broken e = rw (sym f ∙ e) (pick (distinctNames s at n row.Tag))
-    where
-      pick : (b : Bool) → place.Broken ≡ cond b place.Broken place.Broken
-      pick true = refl
-      pick false = refl
-
-  pub few-apart : (end : ℕ) (d : Bool) → t ≡ place.End end → d ≡ distinctNames s at n row.Tag → d ≡ true
-      → place.End end ≡ apartOf (endOf at (times n tag (drop at s))) (distinctNames s at n row.Tag)
-  unfolding apartOf
-  few-apart end d e g i = rw (sym g ∙ i, sym f ∙ e)
-
-  pub few-twice : (d : Bool) → d ≡ distinctNames s at n row.Tag → d ≡ false
-      → place.Broken ≡ apartOf (endOf at (times n tag (drop at s))) (distinctNames s at n row.Tag)
-  unfolding apartOf
-  few-twice d g i = rw (sym g ∙ i)
-
 pub ruleset laws = (
   needs,
   length-marked,
@@ -163,6 +154,5 @@ pub ruleset laws = (
   apart-names,
   apart-twice,
   few-broken,
-  few-apart,
-  few-twice,
+  few-end,
 )

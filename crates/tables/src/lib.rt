@@ -83,11 +83,25 @@ fn marked_tags_end(s: &[u8], at: usize, n: usize) -> TagsEnd
     TagsEnd::End(place, apart)
 }
 
-// The n tags of a table, and whether no two of their names are equal.
+// Where n tags end. Few are not marked: to clear the marks costs more than to compare their names.
+fn seen_tags_end(s: &[u8], at: usize, n: usize) -> TagsEnd
+    ensures { λ r. ⌜ Ends (now (s .entry)) at n r ⌝ }
+{
+    if 11 < n {
+        return marked_tags_end(s, at, n);
+    }
+    let tags = tags_end(s, at, n);
+    let Place::End(end) = tags else {
+        return TagsEnd::Broken;
+    };
+    TagsEnd::End(end, false)
+}
+
+// Where n tags end, no two of whose names are equal.
 fn tags_apart(s: &[u8], at: usize, n: usize) -> Place
     ensures { λ r. ⌜ r ≡ apartOf (endOf at (times n tag (drop at (now (s .entry))))) (distinctNames (now (s .entry)) at n row.Tag) ⌝ }
 {
-    let tags = marked_tags_end(s, at, n);
+    let tags = seen_tags_end(s, at, n);
     let TagsEnd::End(end, apart) = tags else {
         return Place::Broken;
     };
@@ -98,30 +112,6 @@ fn tags_apart(s: &[u8], at: usize, n: usize) -> Place
         return Place::End(end);
     }
     Place::Broken
-}
-
-// The same for few tags: to clear the marks costs more than a second walk.
-fn few_tags_apart(s: &[u8], at: usize, n: usize) -> Place
-    ensures { λ r. ⌜ r ≡ apartOf (endOf at (times n tag (drop at (now (s .entry))))) (distinctNames (now (s .entry)) at n row.Tag) ⌝ }
-{
-    let tags = tags_end(s, at, n);
-    let Place::End(end) = tags else {
-        return Place::Broken;
-    };
-    if names::distinct_names(s, at, n, Row::Tag) {
-        return Place::End(end);
-    }
-    Place::Broken
-}
-
-fn read_tags(s: &[u8], at: usize, n: usize) -> Place
-    ensures { λ r. ⌜ r ≡ apartOf (endOf at (times n tag (drop at (now (s .entry))))) (distinctNames (now (s .entry)) at n row.Tag) ⌝ }
-{
-    if n < 12 {
-        few_tags_apart(s, at, n)
-    } else {
-        tags_apart(s, at, n)
-    }
 }
 
 // A tag table: its number of tags, the tags, and no two names equal.
@@ -139,7 +129,7 @@ pub fn table(s: &[u8], at: usize) -> TablePlace
     if Header::MOST_TAGS < n {
         return TablePlace::Broken;
     }
-    let tags = read_tags(s, at + 4, n);
+    let tags = tags_apart(s, at + 4, n);
     let Place::End(end) = tags else {
         return TablePlace::Broken;
     };

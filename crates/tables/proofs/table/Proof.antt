@@ -18,11 +18,11 @@ read-requires c κs = search needs
 returns-3 : tie.Need-returns-3
 returns-3 c = search laws
 
-add-read-tags : tie.Need-add-read-tags
-add-read-tags c = search needs
+add-tags-apart : tie.Need-add-tags-apart
+add-tags-apart c = search needs
 
-read-tags-requires : tie.Need-read-tags-requires
-read-tags-requires c κs = search needs
+tags-apart-requires : tie.Need-tags-apart-requires
+tags-apart-requires c κs = search needs
 
 enum-known-tags : tie.Need-enum-known-tags
 enum-known-tags c = search needs
@@ -45,8 +45,8 @@ table-spec =
     returns-2
     read-requires
     returns-3
-    add-read-tags
-    read-tags-requires
+    add-tags-apart
+    tags-apart-requires
     enum-known-tags
     enum-told
     returns-4

@@ -3,8 +3,8 @@ use Rattle.tables.proofs.Apart.{laws}
 use Rattle.tables.proofs.tags_apart.Statement.{statement}
 use Rattle.tables.proofs.tags_apart.Tie as tie
 
-marked-tags-end-requires : tie.Need-marked-tags-end-requires
-marked-tags-end-requires c κs = search needs
+seen-tags-end-requires : tie.Need-seen-tags-end-requires
+seen-tags-end-requires c κs = search needs
 
 enum-known-tags : tie.Need-enum-known-tags
 enum-known-tags c = search needs
@@ -31,7 +31,7 @@ pub tags-apart-spec : {M : Type 1} → statement M
 tags-apart-spec =
     tie.close
     (tie.spec
-    marked-tags-end-requires
+    seen-tags-end-requires
     enum-known-tags
     enum-told
     returns
