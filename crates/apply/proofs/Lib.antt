@@ -1,3 +1,4 @@
+pub mod Runs
 pub mod Sizes
 pub mod Stores
 pub mod Applies

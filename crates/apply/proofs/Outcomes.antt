@@ -16,5 +16,5 @@ module _ {M : Type 1} (𝓤 : URA M) (H : Heap 𝓤) (A : Atoms 𝓤) (mem : Mem
   apply-one κs a g x y v w =
       agree 𝓤 (λ p q. let e = p ∙ sym q in (
         λ i. e i .answer,
-        λ i. (v .0, (v .1 .0, (v .1 .1 .0, (v .1 .1 .1 .0, (v .1 .1 .1 .1 .0, (e i .out, v .1 .1 .1 .1 .1 .1)))))),
+        λ i. (v .0, (v .1 .0, (v .1 .1 .0, (v .1 .1 .1 .0, (v .1 .1 .1 .1 .0, (v .1 .1 .1 .1 .1 .0, (e i .out, v .1 .1 .1 .1 .1 .1 .1))))))),
       ))

@@ -17,8 +17,12 @@ use Rattle.pieces.specs.declared.Side.{Side}
 use Rattle.pieces.specs.declared.Piece.{Piece}
 use Rattle.pieces.specs.declared.Piece.the-variants as piece
 use Rattle.pieces.proofs.Added.{tags-none, tags-one, piece-makes, added-done, added-stop, added-next}
-use Rattle.apply.specs.Applied.{sizeOf, plus}
+use Rattle.places.specs.declared.Walk.{Walk}
+use Rattle.apply.specs.Applied.{keptFrom, sizeOf, plus}
+use Rattle.apply.specs.Runs.{Leads, Keeps}
+use Rattle.apply.specs.declared.Part.{Part}
 use Rattle.apply.specs.declared.Size.{Size}
+use Rattle.apply.proofs.Runs.{Ran, kept-none, lead-last, lead-one, lead-two, lead-forward, lead-number, part-broken, part-fits, first-fits, lead-fits, part-keeps, word-fits, next-fits, kept-onward, last-forward}
 
 -- ── Sizes ──
 
@@ -70,7 +74,7 @@ module _ (x : Side) (s t others : List ℕ) (place passed left : ℕ) (l : passe
     pub more-fits : Fits w64 (f + n)
     more-fits = let a = makes .short in record { fits = omega arith }
 
-    pub bytes-fit : (b : ℕ) → length others ≤ 1000 → b + 512 * left ≤ 512 * length others → 0 < left → Fits w64 (b + (f + n))
+    pub bytes-fit : (b : ℕ) → length others ≤ 64 → b + 512 * left ≤ 512 * length others → 0 < left → Fits w64 (b + (f + n))
     bytes-fit b few h z = let a = makes .short in record { fits = omega arith }
 
     pub bytes-step : (b : ℕ) → b + 512 * left ≤ 512 * length others → 0 < left → b + (f + n) + 512 * (left - 1) ≤ 512 * length others
@@ -82,4 +86,100 @@ module _ (x : Side) (s t others : List ℕ) (place passed left : ℕ) (l : passe
         size-more a b c (f + n) (rowAdds x s t place (getD others passed 0)) _ _ all
         (added-next x s t others place passed f v n end p (omega arith) g h) (e ∙ makes .count) (makes-length _ place t f v n _ makes) i
 
-pub ruleset laws = (needs, tags-none, tags-one, size-start, size-done, size-stop, more-fits, bytes-fit, bytes-step, size-step)
+-- ── What is kept ──
+
+pub kept-start : (t s : List ℕ) (at n k : ℕ) → plus 0 0 (sizeOf (keptFrom t at (n - 0) s k)) ≡ sizeOf (keptFrom t at n s k)
+kept-start t s at n k = let z : n - 0 ≡ n = omega arith in rw z (size-start (keptFrom t at n s k))
+
+module _ (t : List ℕ) (place passed : ℕ) (walk : Walk) (s list : List ℕ) (i : ℕ) (tags bytes : ℕ) (few : tags ≤ passed) (short : bytes ≤ 512 * passed) where
+  module _ (part : Part) (g : Keeps t place passed walk s list i part) where
+    pub kept-tags-fit : Fits w64 (tags + part .tags)
+    kept-tags-fit = let a = g .fewer in let b = g .onward .within in let c = g .onward .few in record { fits = omega arith }
+
+    pub kept-part-fits : Fits w64 (part .first + part .second)
+    kept-part-fits = let a = g .short in let b = g .onward .within in let c = g .onward .few in record { fits = omega arith }
+
+    pub kept-bytes-fit : Fits w64 (bytes + (part .first + part .second))
+    kept-bytes-fit = let a = g .short in let b = g .onward .within in let c = g .onward .few in record { fits = omega arith }
+
+    pub kept-fewer : tags + part .tags ≤ getD list i 0 + 1
+    kept-fewer = let a = g .fewer in omega arith
+
+    pub kept-shorter : bytes + (part .first + part .second) ≤ 512 * (getD list i 0 + 1)
+    kept-shorter = let a = g .short in omega arith
+
+    pub kept-step : (all : Size) → plus tags bytes (sizeOf (keptFrom t place (walk .tags - passed) s (walk .changes))) ≡ all
+        → plus (tags + part .tags) (bytes + (part .first + part .second))
+        (sizeOf (keptFrom t (part .end) (walk .tags - (getD list i 0 + 1)) s (walk .changes))) ≡ all
+    kept-step all e =
+        size-more tags bytes (part .tags) (part .first + part .second) (g .made) _ _ all (g .adds) (g .count)
+        (piece-length t place s (part .first) (part .value) (part .second) (g .firstThere) (g .secondThere) ∙ ap length (g .bytes)) e
+
+  module _ (g : Leads t place passed walk s list i) where
+    pub lead-within : passed ≤ walk .tags
+    lead-within = g .within
+
+    pub last-tags-fit : Fits w64 (tags + (walk .tags - passed))
+    last-tags-fit = let a = g .within in let b = g .few in record { fits = omega arith }
+
+    pub last-fewer : tags + (walk .tags - passed) ≤ 1000
+    last-fewer = let a = g .within in let b = g .few in omega arith
+
+    module _ (w : (i : ℕ) → Fits w8 (getD t i 0)) (y : (i : ℕ) → Fits w8 (getD s i 0)) (h : length list ≤ i) where
+      run : Ran t s (walk .changes) place (walk .tags - passed) (walk .end) 0
+      run = lead-last t place passed walk s list i g w y h
+
+      pub last-shorter : bytes + (walk .end - place) ≤ 512000
+      last-shorter = let a = run .short in let b = run .count in let c = g .few in let d = g .within in omega arith
+
+      pub last-bytes-fit : Fits w64 (bytes + (walk .end - place))
+      last-bytes-fit = let a = last-shorter in record { fits = omega arith }
+
+      pub last-size : (all : Size) → plus tags bytes (sizeOf (keptFrom t place (walk .tags - passed) s (walk .changes))) ≡ all
+          → record { tags = tags + (walk .tags - passed); bytes = bytes + (walk .end - place) } ≡ all
+      last-size all e =
+          let a = run .count in
+          let b = run .there in
+          let f = run .forward in
+          let l = length-take-le (walk .end - place) (drop place t) (simp length-drop (omega arith)) in
+          size-end _ _ _ all (kept-none t s (walk .changes) (walk .end)) (size-more tags bytes (walk .tags - passed) (walk .end - place) (run .made) _ _ all (run .adds)
+          (omega arith) (sym l ∙ ap length (run .bytes)) e)
+
+pub ruleset laws = (
+  needs,
+  tags-none,
+  tags-one,
+  size-start,
+  size-done,
+  size-stop,
+  more-fits,
+  bytes-fit,
+  bytes-step,
+  size-step,
+  lead-one,
+  lead-two,
+  lead-forward,
+  lead-number,
+  part-broken,
+  part-fits,
+  first-fits,
+  lead-fits,
+  part-keeps,
+  word-fits,
+  next-fits,
+  kept-onward,
+  kept-start,
+  kept-tags-fit,
+  kept-part-fits,
+  kept-bytes-fit,
+  kept-fewer,
+  kept-shorter,
+  kept-step,
+  lead-within,
+  last-tags-fit,
+  last-fewer,
+  last-forward,
+  last-shorter,
+  last-bytes-fit,
+  last-size,
+)

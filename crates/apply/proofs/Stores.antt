@@ -1,33 +1,30 @@
--- What the rows add is stored piece by piece, and what is kept as it was a run at a time.
+-- What is kept and what is new is stored piece by piece.
 -- Assumes nothing.
 use Prim.Native.Nat.{ℕ, _+_, _-_, _<_, _≤_}
 use native.Mathlib.Omega.{arith}
 use mathlib.Core.Path.{_≡_, refl, ap, sym, _∙_}
-use mathlib.Core.List.{List, [], _++_, flatMap, append-nil, append-assoc}
+use mathlib.Core.List.{List, [], _++_, flatMap, append-nil}
 use lib.ListN.{length, take, drop, getD, length-append, length-drop}
-use lib.Seq.{length-take-le, sets, length-sets, drop-drop, take-add}
+use lib.Seq.{length-take-le, sets, length-sets}
 use borrow.Author.Needs.{needs}
 use mir.Syntax.{w8}
 use mir.Val.{Fits}
-use Rattle.layout.specs.Recording.{tagBytes}
+use Rattle.layout.specs.Recording.{Tag, tagBytes}
 use Rattle.layout.proofs.Lists.{flatMap-append}
 use Rattle.layout.proofs.Outputs
 use Rattle.parts.specs.Parts.{copied}
 use Rattle.parts.proofs.Laws.{copied-there}
-use Rattle.parts.specs.declared.Place.{Place}
-use Rattle.parts.specs.declared.Place.the-variants as place
+use Rattle.places.specs.declared.Walk.{Walk}
 use Rattle.pieces.specs.Pieces.{pieceAt}
 use Rattle.pieces.specs.Added.{addedBy, walkedIn, rowAdds, pieceBytes, Makes}
-use Rattle.pieces.specs.declared.Side.{Side}
 use Rattle.pieces.specs.declared.Side.the-variants as side
 use Rattle.pieces.specs.declared.Piece.{Piece}
 use Rattle.pieces.specs.declared.Piece.the-variants as piece
-use Rattle.pieces.proofs.Added.{piece-makes, piece-whole, added-done, added-stop, added-next}
-use Rattle.apply.specs.Applied.{bytesBy, Written}
-use Rattle.apply.specs.Runs.{Stays, Still, Runs, Joins, Parted}
-use Rattle.apply.specs.declared.Run.{Run}
+use Rattle.pieces.proofs.Added.{piece-makes, added-done, added-stop, added-next}
+use Rattle.apply.specs.Applied.{keptFrom, Written}
+use Rattle.apply.specs.Runs.{Leads, Keeps}
 use Rattle.apply.specs.declared.Part.{Part}
-use Rattle.apply.specs.declared.Part.the-variants as part
+use Rattle.apply.proofs.Runs.{Ran, kept-none, lead-last, last-forward, word-fits, next-fits, kept-onward}
 use Rattle.apply.proofs.Sizes.{piece-length}
 
 -- one part stored behind another
@@ -77,173 +74,129 @@ storing-more to n some rest more out out₁ before start bytes e f h g =
       stored = rw (h, f) (sets-append out to some rest ∙ sym (ap (λ (z : List ℕ). sets out to z) e) ∙ g .stored);
     }
 
-pub write-start : (x : Side) (s t others out : List ℕ) (at start : ℕ) → start + length (bytesBy x s t at others) ≤ length out
-    → Storing start (bytesBy x s t at others) out out start (bytesBy x s t at others)
-write-start x s t others out at start h = record { room = h; place = refl; long = refl; stored = refl }
+-- a piece, which is all there, with the rest behind it
+module _ (to : ℕ) (more rest out before : List ℕ) (start : ℕ) (bytes : List ℕ) (g : Storing to more out before start bytes) (s : List ℕ) (place : ℕ)
+    (t : List ℕ) (f v n : ℕ) (e : more ≡ pieceBytes s place t f v n ++ rest) (h : place + f ≤ length s) (k : v + n ≤ length t) where
+  pieces-room : to + (f + n) ≤ length out
+  pieces-room =
+      let a = piece-length s place t f v n h k in
+      let c = ap length e ∙ length-append (pieceBytes s place t f v n) rest in
+      let d = g .place in
+      let l = g .long in
+      let r = g .room in
+      omega arith
 
--- ── A piece, or a run of them ──
+  pieces-stored : (z : ℕ) (out₁ : List ℕ) → z ≡ to + (f + n) → out₁ ≡ sets out to (pieceBytes s place t f v n) → Storing z rest out₁ before start bytes
+  pieces-stored z out₁ i j = rw i (storing-more to (f + n) (pieceBytes s place t f v n) rest more out out₁ before start bytes e
+      (piece-length s place t f v n h k) j g)
 
--- the piece of a row
-row-joins : (x : Side) (s t others : List ℕ) (at i f v n e : ℕ) (p : Piece) → walkedIn x s t ≡ s → i < length others
-    → ((j : ℕ) → Fits w8 (getD s j 0)) → ((j : ℕ) → Fits w8 (getD t j 0)) → p ≡ pieceAt x s at t (getD others i 0) → p ≡ piece.Whole f v n e
-    → Joins x s at t others i f v n e (i + 1)
-unfolding bytesBy
-row-joins x s t others at i f v n e p own l w y h k =
-    let m : Makes s at t f v n (rowAdds x s t at (getD others i 0)) = rw own at (piece-makes x s t at (getD others i 0) f v n e p w y h k) in
-    record {
-      bytes = ap (flatMap tagBytes) (added-next x s t others at i f v n e p l h k)
-          ∙ flatMap-append tagBytes _ _
-          ∙ ap (λ (z : List ℕ). z ++ flatMap tagBytes (addedBy x s t e (drop (i + 1) others))) (sym (m .bytes));
-      firstThere = m .firstThere;
-      secondThere = m .secondThere;
-      more = omega arith;
-      within = omega arith;
-    }
+-- ── What is kept ──
 
-pub part-row : (x : Side) (s t others : List ℕ) (at i f v n e : ℕ) (p : Piece) → walkedIn x s t ≡ s → i < length others
-    → ((j : ℕ) → Fits w8 (getD s j 0)) → ((j : ℕ) → Fits w8 (getD t j 0)) → p ≡ pieceAt x s at t (getD others i 0) → p ≡ piece.Whole f v n e
-    → Parted x s at t others i (part.Whole f v n e (i + 1))
-unfolding Parted
-part-row x s t others at i f v n e p own l w y h k = row-joins x s t others at i f v n e p own l w y h k
+pub keep-start : (t s out : List ℕ) (at n k start : ℕ) → start + length (flatMap tagBytes (keptFrom t at n s k)) ≤ length out
+    → Storing start (flatMap tagBytes (keptFrom t at (n - 0) s k)) out out start (flatMap tagBytes (keptFrom t at n s k))
+keep-start t s out at n k start h =
+    let z : n - 0 ≡ n = omega arith in
+    rw z (record { room = h; place = refl; long = refl; stored = refl })
 
-pub part-broken : (x : Side) (s t others : List ℕ) (at i : ℕ) (p : Piece) → p ≡ pieceAt x s at t (getD others i 0) → p ≡ piece.Broken
-    → Parted x s at t others i part.Broken
-unfolding Parted bytesBy flatMap
-part-broken x s t others at i p h k = ap (flatMap tagBytes) (added-stop x s t others at i (getD others i 0) p h k)
+module _ (t : List ℕ) (place passed : ℕ) (walk : Walk) (s list : List ℕ) (i : ℕ) (to : ℕ) (out before : List ℕ) (start : ℕ) (bytes : List ℕ)
+    (g : Storing to (flatMap tagBytes (keptFrom t place (walk .tags - passed) s (walk .changes))) out before start bytes) where
+  module _ (part : Part) (j : Keeps t place passed walk s list i part) where
+    pub keep-first : place + part .first ≤ length t
+    keep-first = j .firstThere
 
-pub run-start : (s t named : List ℕ) (at start : ℕ) → start ≤ length named → Runs s at t named start at start
-run-start s t named at start h =
-    let z : at - at ≡ 0 = omega arith in
-    record { bytes = rw z refl; forward = omega arith; there = λ m. absurd (omega arith); within = h }
+    pub keep-second : part .value + part .second ≤ length s
+    keep-second = j .secondThere
 
-pub still-broken : (s t : List ℕ) (at change : ℕ) → Still s at t change place.Broken
-unfolding Still
-still-broken s t at change = refl
+    joins : flatMap tagBytes (keptFrom t place (walk .tags - passed) s (walk .changes)) ≡ pieceBytes t place s (part .first) (part .value)
+        (part .second) ++ flatMap tagBytes (keptFrom t (part .end) (walk .tags - (getD list i 0 + 1)) s (walk .changes))
+    joins = ap (flatMap tagBytes) (j .adds) ∙ flatMap-append tagBytes (j .made) _
+        ∙ ap (λ (l : List ℕ). l ++ flatMap tagBytes (keptFrom t (part .end) (walk .tags - (getD list i 0 + 1)) s (walk .changes))) (sym (j .bytes))
 
-pub still-there : (s t : List ℕ) (at change f v n e : ℕ) (p : Piece) → ((j : ℕ) → Fits w8 (getD s j 0)) → ((j : ℕ) → Fits w8 (getD t j 0))
-    → change ≡ 0 → p ≡ pieceAt side.Kept s at t change → p ≡ piece.Whole f v n e → Still s at t change (place.End e)
-unfolding Still walkedIn pieceBytes
-still-there s t at change f v n e p w y o h k =
-    let (a, b, c) = piece-whole s t at change f v n e p o h k in
-    let m = piece-makes side.Kept s t at change f v n e p w y h k in
-    let d = m .firstThere in
-    let u : take f (drop at s) ++ take n (drop v t) ≡ take (e - at) (drop at s) = rw (b, a) (append-nil (take (e - at) (drop at s))) in
-    record {
-      bytes = λ named i l q.
-          row-joins side.Kept s t named at i f v n e p refl l w y (rw q h) k .bytes
-          ∙ ap (λ (z : List ℕ). z ++ bytesBy side.Kept s t e (drop (i + 1) named)) u;
-      forward = c;
-      there = omega arith;
-    }
+    pub keep-room : to + (part .first + part .second) ≤ length out
+    keep-room = pieces-room to _ _ out before start bytes g t place s (part .first) (part .value) (part .second) joins keep-first keep-second
 
--- a run, and the tag behind it
-pub run-step : (s t named : List ℕ) (at start here next left e : ℕ) (p : Place) → Runs s at t named start here next → next + left ≡ length named
-    → 0 < left → Still s here t (getD named next 0) p → p ≡ place.End e → Runs s at t named start e (next + 1)
-unfolding Still
-run-step s t named at start here next left e p g l z h k =
-    let j : Stays s here t (getD named next 0) e = rw k at h in
-    let a = j .forward in
-    let b = j .there in
-    let d = g .forward in
-    let q : e - at ≡ here - at + (e - here) = omega arith in
-    let r : at + (here - at) ≡ here = omega arith in
-    let u : take (e - at) (drop at s) ≡ take (here - at) (drop at s) ++ take (e - here) (drop here s) =
-    rw (q, take-add (here - at) (e - here) (drop at s), drop-drop (here - at) at s, r) refl in
-    record {
-      bytes = g .bytes
-          ∙ ap (λ (m : List ℕ). take (here - at) (drop at s) ++ m) (j .bytes named next (omega arith) refl)
-          ∙ sym (append-assoc (take (here - at) (drop at s)) (take (e - here) (drop here s)) (bytesBy side.Kept s t e (drop (next + 1) named)))
-          ∙ ap (λ (m : List ℕ). m ++ bytesBy side.Kept s t e (drop (next + 1) named)) (sym u);
-      forward = omega arith;
-      there = λ m. b;
-      within = omega arith;
-    }
+    pub keep-step : (z : ℕ) (out₁ : List ℕ) → z ≡ to + (part .first + part .second)
+        → out₁ ≡ sets out to (pieceBytes t place s (part .first) (part .value) (part .second))
+        → Storing z (flatMap tagBytes (keptFrom t (part .end) (walk .tags - (getD list i 0 + 1)) s (walk .changes))) out₁ before start bytes
+    keep-step = pieces-stored to _ _ out before start bytes g t place s (part .first) (part .value) (part .second) joins keep-first keep-second
 
-pub part-run : (x : Side) (s t others : List ℕ) (at i : ℕ) (r : Run) → x ≡ side.Kept → Runs s at t others i (r .end) (r .next) → i < r .next
-    → Parted x s at t others i (part.Whole (r .end - at) 0 0 (r .end) (r .next))
-unfolding Parted pieceBytes
-part-run x s t others at i r e g h =
-    let a = g .there h in
-    let b = g .forward in
-    rw e (record {
-      bytes = g .bytes ∙ ap (λ (m : List ℕ). m ++ bytesBy side.Kept s t (r .end) (drop (r .next) others))
-          (sym (append-nil (take (r .end - at) (drop at s))));
-      firstThere = omega arith;
-      secondThere = omega arith;
-      more = h;
-      within = g .within;
-    })
+  module _ (j : Leads t place passed walk s list i) (w : (i : ℕ) → Fits w8 (getD t i 0)) (y : (i : ℕ) → Fits w8 (getD s i 0)) (h : length list ≤ i) where
+    run : Ran t s (walk .changes) place (walk .tags - passed) (walk .end) 0
+    run = lead-last t place passed walk s list i j w y h
 
--- ── Part by part ──
+    ends : flatMap tagBytes (keptFrom t place (walk .tags - passed) s (walk .changes)) ≡ pieceBytes t place s (walk .end - place) 0 0 ++ []
+    unfolding pieceBytes flatMap
+    ends = ap (flatMap tagBytes) (run .adds ∙ ap (λ (l : List Tag). run .made ++ l) (kept-none t s (walk .changes) (walk .end)))
+        ∙ flatMap-append tagBytes (run .made) [] ∙ ap (λ (l : List ℕ). l ++ []) (sym (run .bytes) ∙ sym (append-nil (take (walk .end - place) (drop place t))))
 
-part-joins : (x : Side) (s t others : List ℕ) (at i f v n e k : ℕ) (q : Part) → Parted x s at t others i q → q ≡ part.Whole f v n e k
-    → Joins x s at t others i f v n e k
-unfolding Parted
-part-joins x s t others at i f v n e k q h j = rw j at h
+    pub last-first : place + (walk .end - place) ≤ length t
+    last-first = let a = run .there in let b = run .forward in omega arith
 
-part-none : (x : Side) (s t others : List ℕ) (at i : ℕ) (q : Part) → Parted x s at t others i q → q ≡ part.Broken
-    → bytesBy x s t at (drop i others) ≡ []
-unfolding Parted
-part-none x s t others at i q h j = rw j at h
+    pub last-room : to + (walk .end - place + 0) ≤ length out
+    last-room = pieces-room to _ _ out before start bytes g t place s (walk .end - place) 0 0 ends last-first (omega arith)
 
-pub part-within : (x : Side) (s t others : List ℕ) (at i f v n e k : ℕ) (q : Part) → Parted x s at t others i q → q ≡ part.Whole f v n e k
-    → k ≤ length others
-part-within x s t others at i f v n e k q h j = part-joins x s t others at i f v n e k q h j .within
+    pub last-written : (z : ℕ) (out₁ : List ℕ) → z ≡ to + (walk .end - place + 0) → out₁ ≡ sets out to (pieceBytes t place s (walk .end - place) 0 0)
+        → Written z before out₁ start bytes
+    last-written z out₁ e f = storing-end z [] out₁ before start bytes refl
+        (pieces-stored to _ _ out before start bytes g t place s (walk .end - place) 0 0 ends last-first (omega arith) z out₁ e f)
 
-pub part-less : (x : Side) (s t others : List ℕ) (at i f v n e k : ℕ) (q : Part) → i < length others → Parted x s at t others i q
-    → q ≡ part.Whole f v n e k → length others - k < length others - i
-part-less x s t others at i f v n e k q l h j = let m = part-joins x s t others at i f v n e k q h j .more in omega arith
+-- ── What is new ──
 
-module _ (x : Side) (s t others : List ℕ) (place passed to : ℕ) (out before : List ℕ) (start : ℕ) (bytes : List ℕ)
-    (g : Storing to (bytesBy x s t place (drop passed others)) out before start bytes) where
-  pub write-done : length others ≤ passed → Written to before out start bytes
-  unfolding bytesBy flatMap
-  write-done h = storing-end to _ out before start bytes (ap (flatMap tagBytes) (added-done x s t others place passed h)) g
+pub write-start : (t others out : List ℕ) (at start : ℕ) → start + length (flatMap tagBytes (addedBy side.New t t at others)) ≤ length out
+    → Storing start (flatMap tagBytes (addedBy side.New t t at others)) out out start (flatMap tagBytes (addedBy side.New t t at others))
+write-start t others out at start h = record { room = h; place = refl; long = refl; stored = refl }
 
-  module _ (q : Part) (i : Parted x s place t others passed q) where
-    pub write-stop : q ≡ part.Broken → Written to before out start bytes
-    write-stop e = storing-end to _ out before start bytes (part-none x s t others place passed q i e) g
+module _ (t others : List ℕ) (place passed left to : ℕ) (out before : List ℕ) (start : ℕ) (bytes : List ℕ) (l : passed + left ≡ length others)
+    (g : Storing to (flatMap tagBytes (addedBy side.New t t place (drop passed others))) out before start bytes) where
+  pub write-done : left ≤ 0 → Written to before out start bytes
+  unfolding flatMap
+  write-done h = storing-end to _ out before start bytes (ap (flatMap tagBytes) (added-done side.New t t others place passed (omega arith))) g
 
-    module _ (f v n end next : ℕ) (e : q ≡ part.Whole f v n end next) where
-      joins : Joins x s place t others passed f v n end next
-      joins = part-joins x s t others place passed f v n end next q i e
+  module _ (p : Piece) (a : p ≡ pieceAt side.New t place t (getD others passed 0)) where
+    pub write-stop : p ≡ piece.Broken → Written to before out start bytes
+    unfolding flatMap
+    write-stop e = storing-end to _ out before start bytes
+        (ap (flatMap tagBytes) (added-stop side.New t t others place passed (getD others passed 0) p a e)) g
 
-      long : f + n ≡ length (pieceBytes s place t f v n)
-      long = piece-length s place t f v n (joins .firstThere) (joins .secondThere)
+    module _ (f v n end : ℕ) (b : p ≡ piece.Whole f v n end) (w : (j : ℕ) → Fits w8 (getD t j 0)) where
+      makes : Makes t place t f v n (rowAdds side.New t t place (getD others passed 0))
+      unfolding walkedIn
+      makes = piece-makes side.New t t place (getD others passed 0) f v n end p w w a b
 
-      pub write-first : place + f ≤ length s
-      write-first = joins .firstThere
+      adds : 0 < left → flatMap tagBytes (addedBy side.New t t place (drop passed others)) ≡ pieceBytes t place t f v n ++ flatMap tagBytes
+          (addedBy side.New t t end (drop (passed + 1) others))
+      adds z = ap (flatMap tagBytes) (added-next side.New t t others place passed f v n end p (omega arith) a b)
+          ∙ flatMap-append tagBytes (rowAdds side.New t t place (getD others passed 0)) _
+          ∙ ap (λ (l : List ℕ). l ++ flatMap tagBytes (addedBy side.New t t end (drop (passed + 1) others))) (sym (makes .bytes))
+
+      pub write-first : place + f ≤ length t
+      write-first = makes .firstThere
 
       pub write-second : v + n ≤ length t
-      write-second = joins .secondThere
+      write-second = makes .secondThere
 
-      pub write-room : to + (f + n) ≤ length out
-      write-room =
-          let a = long in
-          let c : length (bytesBy x s t place (drop passed others)) ≡ length (pieceBytes s place t f v n) + length
-          (bytesBy x s t end (drop next others)) = ap length (joins .bytes)
-          ∙ length-append (pieceBytes s place t f v n) (bytesBy x s t end (drop next others)) in
-          let d = g .place in
-          let k = g .long in
-          let r = g .room in
-          omega arith
+      pub write-room : 0 < left → to + (f + n) ≤ length out
+      write-room z = pieces-room to _ _ out before start bytes g t place t f v n (adds z) write-first write-second
 
-      pub write-step : (z : ℕ) (out₁ : List ℕ) → z ≡ to + (f + n) → out₁ ≡ sets out to (pieceBytes s place t f v n)
-          → Storing z (bytesBy x s t end (drop next others)) out₁ before start bytes
-      write-step z out₁ k j = rw k (storing-more to (f + n) (pieceBytes s place t f v n) _ _ out out₁ before start bytes (joins .bytes) long j g)
+      pub write-step : 0 < left → (z : ℕ) (out₁ : List ℕ) → z ≡ to + (f + n) → out₁ ≡ sets out to (pieceBytes t place t f v n)
+          → Storing z (flatMap tagBytes (addedBy side.New t t end (drop (passed + 1) others))) out₁ before start bytes
+      write-step z = pieces-stored to _ _ out before start bytes g t place t f v n (adds z) write-first write-second
 
 pub ruleset laws = (
   needs,
   put-both,
-  part-row,
-  part-broken,
-  still-broken,
-  still-there,
-  run-start,
-  run-step,
-  part-run,
-  part-within,
-  part-less,
+  word-fits,
+  next-fits,
+  kept-onward,
+  last-forward,
+  keep-start,
+  keep-first,
+  keep-second,
+  keep-room,
+  keep-step,
+  last-first,
+  last-room,
+  last-written,
   write-start,
   write-done,
   write-stop,

@@ -8,9 +8,9 @@ use lib.Seq.{sets}
 use lib.Dec.{ltb}
 use Rattle.layout.specs.Recording.{Tag, mostTags, tagBytes, tableBytes}
 use Rattle.layout.specs.Recorder.{filled, noRoom}
-use Rattle.layout.specs.Saving.{mostChanges}
+use Rattle.places.specs.Places.{namedIn}
+use Rattle.places.specs.declared.Walk.{Walk}
 use Rattle.pieces.specs.Added.{addedBy}
-use Rattle.pieces.specs.declared.Side.{Side}
 use Rattle.pieces.specs.declared.Side.the-variants as side
 use Rattle.refusal.specs.Refusal.{plain}
 use Rattle.apply.specs.declared.Size.{Size}
@@ -32,15 +32,13 @@ appliedTo ts out =
     (cond (noRoom (length out) (length (tableBytes ts))) (applying (applied.Refused (plain 9)) out)
     (applying (applied.Table (length (tableBytes ts))) (filled out (tableBytes ts))))
 
--- what is kept, and what is new behind it
-unfoldable pub tagsBy : (table : List ℕ) → (at : ℕ) → (sheet named places : List ℕ) → List Tag
-tagsBy table at sheet named places = addedBy side.Kept table sheet at named ++ addedBy side.New sheet sheet 1 places
+-- what n tags from a place on leave, by the places of their changes
+unfoldable pub keptFrom : (table : List ℕ) → (at n : ℕ) → (sheet : List ℕ) → (changes : ℕ) → List Tag
+keptFrom table at n sheet k = addedBy side.Kept table sheet at (namedIn table at n sheet k)
 
--- more than 1,000 tags or 64 changes come from no save
-unfoldable pub applyOf : (table : List ℕ) → (at : ℕ) → (sheet named places out : List ℕ) → Applying
-applyOf table at sheet named places out =
-    cond (ltb mostTags (length named)) (applying (applied.Refused (plain 17)) out)
-    (cond (ltb mostChanges (length places)) (applying (applied.Refused (plain 10)) out) (appliedTo (tagsBy table at sheet named places) out))
+-- what is kept of the tags of a walk, and what is new behind it
+unfoldable pub tagsBy : (table : List ℕ) → (at : ℕ) → Walk → (sheet places : List ℕ) → List Tag
+tagsBy table at walk sheet places = keptFrom table at (walk .tags) sheet (walk .changes) ++ addedBy side.New sheet sheet 1 places
 
 -- ── As the code finds it ──
 
@@ -52,15 +50,11 @@ sizeOf ts = record { tags = length ts; bytes = length (flatMap tagBytes ts) }
 unfoldable pub plus : (tags bytes : ℕ) → Size → Size
 plus tags bytes s = record { tags = tags + s .tags; bytes = bytes + s .bytes }
 
--- what rows add, in file form
-unfoldable pub bytesBy : Side → (from sheet : List ℕ) → (at : ℕ) → (others : List ℕ) → List ℕ
-bytesBy x from sheet at others = flatMap tagBytes (addedBy x from sheet at others)
-
 -- some bytes are stored from a place on, and an answer is where they end
 pub record Written (r : ℕ) (before after : List ℕ) (start : ℕ) (bytes : List ℕ) : Type 0 where
   pub end : r ≡ start + length bytes
   pub stored : after ≡ sets before start bytes
 
--- the new table has room
-pub record Room (table : List ℕ) (at : ℕ) (sheet named places out : List ℕ) : Type 0 where
-  pub room : 4 + length (bytesBy side.Kept table sheet at named) + length (bytesBy side.New sheet sheet 1 places) ≤ length out
+-- the new table, of what is kept and what is new, has room
+pub record Room (kept new : List Tag) (out : List ℕ) : Type 0 where
+  pub room : 4 + length (flatMap tagBytes kept) + length (flatMap tagBytes new) ≤ length out

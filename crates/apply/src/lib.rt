@@ -1,19 +1,20 @@
 // The new user table: what a sheet keeps of the old one, and what it adds.
 use header::Header;
-use parts::Place;
 use pieces::Piece;
 use pieces::Side;
+use places::Walk;
 use refusal::Refusal;
 ghost use mathlib.Core.Path.{_≡_};
-ghost use mathlib.Core.List.{_++_};
+ghost use mathlib.Core.List.{_++_, flatMap};
 ghost use Prim.Native.Nat.{_+_, _*_, _<_, _≤_};
-ghost use lib.ListN.{length};
+ghost use lib.ListN.{length, take};
 ghost use lib.Seq.{sets};
 ghost use Rattle.number.specs.Number.{bytesOf};
-ghost use Rattle.pieces.specs.Added.{addedBy, walkedIn, tagsIn, pieceBytes};
+ghost use Rattle.layout.specs.Recording.{tagBytes};
+ghost use Rattle.pieces.specs.Added.{addedBy, tagsIn, pieceBytes};
 ghost use Rattle.pieces.specs.declared.Side.the-variants as side;
-ghost use Rattle.apply.specs.Applied.{applying, appliedTo, tagsBy, applyOf, sizeOf, bytesBy, Written, Room};
-ghost use Rattle.apply.specs.Runs.{Still, Runs, Parted};
+ghost use Rattle.apply.specs.Applied.{applying, appliedTo, keptFrom, tagsBy, sizeOf, Written, Room};
+ghost use Rattle.apply.specs.Runs.{Leads, Keeps};
 
 // What applying a sheet answers: the length of the new table, or the refusal.
 pub enum Applied {
@@ -34,18 +35,86 @@ fn tags_in(bytes: usize) -> usize
     if 0 < bytes { 1 } else { 0 }
 }
 
-// How much the rows from a place on add, as many as `others` has places.
-fn rows_size(side: Side, from: &[u8], at: usize, sheet: &[u8], others: &[usize]) -> Size
-    requires { ⌜ length (now others) ≤ 1000 ⌝ }
-    ensures { λ r. ⌜ (r ≡ sizeOf (addedBy side (now (from .entry)) (now (sheet .entry)) at (now (others .entry)))) × (r .tags ≤ length (now (others .entry))) × (r .bytes ≤ 512 * length (now (others .entry))) ⌝ }
+// What is kept at once: how many bytes of the table; the place and the number of bytes of a value of the sheet, which comes behind them; where the next tag
+// stands; and how many tags that are.
+struct Part {
+    first: usize,
+    value: usize,
+    second: usize,
+    end: usize,
+    tags: usize,
+}
+
+// The tags from a place and a number on, up to the one that is listed next, which stay as they are; and what its change makes of that one. What stays of it
+// stands right behind them.
+fn part_at(
+    table: &[u8],
+    place: usize,
+    passed: usize,
+    walk: Walk,
+    sheet: &[u8],
+    list: &[usize],
+    i: usize,
+) -> Part
+    requires { ⌜ (i < length (now list)) × Leads (now table) place passed walk (now sheet) (now list) i ⌝ }
+    ensures { λ r. ⌜ Keeps (now (table .entry)) place passed walk (now (sheet .entry)) (now (list .entry)) i r ⌝ }
+{
+    let tag = list[i + 1];
+    let piece = pieces::piece_at(Side::Kept, table, tag, sheet, list[i + 2]);
+    let Piece::Whole(first, value, second, end) = piece else {
+        return Part {
+            first: 0,
+            value: 0,
+            second: 0,
+            end: tag,
+            tags: 0,
+        };
+    };
+    Part {
+        first: tag - place + first,
+        value,
+        second,
+        end,
+        tags: list[i] - passed + tags_in(first + second),
+    }
+}
+
+// How much is kept: the tags between those that are listed are not looked at, their places and numbers tell all.
+fn kept_size(table: &[u8], at: usize, walk: Walk, sheet: &[u8], list: &[usize]) -> Size
+    requires { ⌜ Leads (now table) at 0 walk (now sheet) (now list) 0 ⌝ }
+    ensures { λ r. ⌜ (r ≡ sizeOf (keptFrom (now (table .entry)) at (walk .tags) (now (sheet .entry)) (walk .changes))) × (r .tags ≤ 1000) × (r .bytes ≤ 512000) ⌝ }
 {
     let mut place = at;
     let mut passed = 0;
     let mut tags = 0;
     let mut bytes = 0;
-    let mut left = others.len();
+    let mut i = 0;
+    while i < list.len() {
+        let part = part_at(table, place, passed, walk, sheet, list, i);
+        tags += part.tags;
+        bytes += part.first + part.second;
+        place = part.end;
+        passed = list[i] + 1;
+        i += 3;
+    }
+    Size {
+        tags: tags + (walk.tags - passed),
+        bytes: bytes + (walk.end - place),
+    }
+}
+
+// How much the changes add, as many as `places` has places.
+fn new_size(sheet: &[u8], places: &[usize]) -> Size
+    requires { ⌜ length (now places) ≤ 64 ⌝ }
+    ensures { λ r. ⌜ (r ≡ sizeOf (addedBy side.New (now (sheet .entry)) (now (sheet .entry)) 1 (now (places .entry)))) × (r .tags ≤ length (now (places .entry))) × (r .bytes ≤ 512 * length (now (places .entry))) ⌝ }
+{
+    let mut place = 1;
+    let mut passed = 0;
+    let mut tags = 0;
+    let mut bytes = 0;
+    let mut left = places.len();
     while 0 < left {
-        let piece = pieces::piece_at(side, from, place, sheet, others[passed]);
+        let piece = pieces::piece_at(Side::New, sheet, place, sheet, places[passed]);
         let Piece::Whole(first, value, second, end) = piece else {
             return Size { tags, bytes };
         };
@@ -57,93 +126,6 @@ fn rows_size(side: Side, from: &[u8], at: usize, sheet: &[u8], others: &[usize])
         left -= 1;
     }
     Size { tags, bytes }
-}
-
-// Where a tag ends that no change names.
-fn still_end(table: &[u8], place: usize, sheet: &[u8], change: usize) -> Place
-    ensures { λ r. ⌜ Still (now (table .entry)) place (now (sheet .entry)) change r ⌝ }
-{
-    if change != 0 {
-        return Place::Broken;
-    }
-    let piece = pieces::piece_at(Side::Kept, table, place, sheet, change);
-    let Piece::Whole(_, _, _, end) = piece else {
-        return Place::Broken;
-    };
-    Place::End(end)
-}
-
-// Tags that stand behind each other and that no change names: where they end, and the number of the one behind them.
-struct Run {
-    end: usize,
-    next: usize,
-}
-
-// The run of such tags from a place and a number on.
-fn run_at(table: &[u8], at: usize, sheet: &[u8], named: &[usize], start: usize) -> Run
-    requires { ⌜ start ≤ length (now named) ⌝ }
-    ensures { λ r. ⌜ Runs (now (table .entry)) at (now (sheet .entry)) (now (named .entry)) start (r .end) (r .next) ⌝ }
-{
-    let mut place = at;
-    let mut next = start;
-    let mut left = named.len() - start;
-    while 0 < left {
-        let still = still_end(table, place, sheet, named[next]);
-        let Place::End(end) = still else {
-            return Run { end: place, next };
-        };
-        place = end;
-        next += 1;
-        left -= 1;
-    }
-    Run { end: place, next }
-}
-
-// What is stored at once: a piece as that of a row, and the number of the row behind it.
-enum Part {
-    Whole(usize, usize, usize, usize, usize),
-    Broken,
-}
-
-// The piece of one row.
-fn row_part(
-    side: Side,
-    from: &[u8],
-    place: usize,
-    sheet: &[u8],
-    others: &[usize],
-    passed: usize,
-) -> Part
-    requires { ⌜ (walkedIn side (now from) (now sheet) ≡ now from) × (passed < length (now others)) ⌝ }
-    ensures { λ r. ⌜ Parted side (now (from .entry)) place (now (sheet .entry)) (now (others .entry)) passed r ⌝ }
-{
-    let piece = pieces::piece_at(side, from, place, sheet, others[passed]);
-    let Piece::Whole(first, value, second, end) = piece else {
-        return Part::Broken;
-    };
-    Part::Whole(first, value, second, end, passed + 1)
-}
-
-// A run of tags, or the piece of one row.
-fn part_at(
-    side: Side,
-    from: &[u8],
-    place: usize,
-    sheet: &[u8],
-    others: &[usize],
-    passed: usize,
-) -> Part
-    requires { ⌜ (walkedIn side (now from) (now sheet) ≡ now from) × (passed < length (now others)) ⌝ }
-    ensures { λ r. ⌜ Parted side (now (from .entry)) place (now (sheet .entry)) (now (others .entry)) passed r ⌝ }
-{
-    let Side::Kept = side else {
-        return row_part(side, from, place, sheet, others, passed);
-    };
-    let run = run_at(from, place, sheet, others, passed);
-    if passed < run.next {
-        return Part::Whole(run.end - place, 0, 0, run.end, run.next);
-    }
-    row_part(side, from, place, sheet, others, passed)
 }
 
 // Stores a piece, which is all there and has room; where it ends.
@@ -165,30 +147,60 @@ fn put_piece(
     to + (first + second)
 }
 
-// Writes what the rows from a place on add; where that ends. The rows are walked in `from`: the table, or the sheet itself.
-fn write_rows(
-    side: Side,
-    from: &[u8],
+// Writes what is kept; where that ends.
+fn write_kept(
+    table: &[u8],
     at: usize,
+    walk: Walk,
     sheet: &[u8],
-    others: &[usize],
+    list: &[usize],
     out: &mut [u8],
     start: usize,
 ) -> usize
-    requires { ⌜ (walkedIn side (now from) (now sheet) ≡ now from) × (start + length (bytesBy side (now from) (now sheet) at (now others)) ≤ length (now out)) ⌝ }
-    ensures { λ r. ⌜ Written r (now (out .entry)) (now (out .exit)) start (bytesBy side (now (from .entry)) (now (sheet .entry)) at (now (others .entry))) ⌝ }
+    requires { ⌜ Leads (now table) at 0 walk (now sheet) (now list) 0 × (start + length (flatMap tagBytes (keptFrom (now table) at (walk .tags) (now sheet) (walk .changes))) ≤ length (now out)) ⌝ }
+    ensures { λ r. ⌜ Written r (now (out .entry)) (now (out .exit)) start (flatMap tagBytes (keptFrom (now (table .entry)) at (walk .tags) (now (sheet .entry)) (walk .changes))) ⌝ }
 {
     let mut place = at;
     let mut passed = 0;
     let mut to = start;
-    while passed < others.len() {
-        let part = part_at(side, from, place, sheet, others, passed);
-        let Part::Whole(first, value, second, end, next) = part else {
+    let mut i = 0;
+    while i < list.len() {
+        let part = part_at(table, place, passed, walk, sheet, list, i);
+        to = put_piece(
+            table,
+            place,
+            part.first,
+            sheet,
+            part.value,
+            part.second,
+            out,
+            to,
+        );
+        place = part.end;
+        passed = list[i] + 1;
+        i += 3;
+    }
+    put_piece(table, place, walk.end - place, sheet, 0, 0, out, to)
+}
+
+// Writes what the changes add; where that ends.
+fn write_new(sheet: &[u8], places: &[usize], out: &mut [u8], start: usize) -> usize
+    requires { ⌜ start + length (flatMap tagBytes (addedBy side.New (now sheet) (now sheet) 1 (now places))) ≤ length (now out) ⌝ }
+    ensures { λ r. ⌜ Written r (now (out .entry)) (now (out .exit)) start (flatMap tagBytes (addedBy side.New (now (sheet .entry)) (now (sheet .entry)) 1 (now (places .entry)))) ⌝ }
+{
+    let mut place = 1;
+    let mut passed = 0;
+    let mut to = start;
+    let mut left = places.len();
+    while 0 < left {
+        let piece = pieces::piece_at(Side::New, sheet, place, sheet, places[passed]);
+        let Piece::Whole(first, value, second, end) = piece else {
             return to;
         };
-        to = put_piece(from, place, first, sheet, value, second, out, to);
+        to = put_piece(sheet, place, first, sheet, value, second, out, to);
         place = end;
-        passed = next;
+        passed += 1;
+        left -= 1;
     }
     to
 }
@@ -197,34 +209,36 @@ fn write_rows(
 fn write_table(
     table: &[u8],
     at: usize,
+    walk: Walk,
     sheet: &[u8],
-    named: &[usize],
+    list: &[usize],
     places: &[usize],
     out: &mut [u8],
     tags: u64,
 )
-    requires { ⌜ Room (now table) at (now sheet) (now named) (now places) (now out) ⌝ }
-    ensures { λ r. ⌜ now (out .exit) ≡ sets (now (out .entry)) 0 (bytesOf 4 tags ++ (bytesBy side.Kept (now (table .entry)) (now (sheet .entry)) at (now (named .entry)) ++ bytesBy side.New (now (sheet .entry)) (now (sheet .entry)) 1 (now (places .entry)))) ⌝ }
+    requires { ⌜ Leads (now table) at 0 walk (now sheet) (now list) 0 × Room (keptFrom (now table) at (walk .tags) (now sheet) (walk .changes)) (addedBy side.New (now sheet) (now sheet) 1 (now places)) (now out) ⌝ }
+    ensures { λ r. ⌜ now (out .exit) ≡ sets (now (out .entry)) 0 (bytesOf 4 tags ++ (flatMap tagBytes (keptFrom (now (table .entry)) at (walk .tags) (now (sheet .entry)) (walk .changes)) ++ flatMap tagBytes (addedBy side.New (now (sheet .entry)) (now (sheet .entry)) 1 (now (places .entry))))) ⌝ }
 {
     number::write(out, 0, 4, tags);
-    let end = write_rows(Side::Kept, table, at, sheet, named, out, 4);
-    write_rows(Side::New, sheet, 1, sheet, places, out, end);
+    let end = write_kept(table, at, walk, sheet, list, out, 4);
+    write_new(sheet, places, out, end);
 }
 
 // The new user table, where its tags are not too many and it has room; nothing is written before that is known.
-fn apply_few(
+fn apply_list(
     table: &[u8],
     at: usize,
+    walk: Walk,
     sheet: &[u8],
-    named: &[usize],
+    list: &[usize],
     places: &[usize],
     out: &mut [u8],
 ) -> Applied
-    requires { ⌜ (length (now named) ≤ 1000) × (length (now places) ≤ 64) ⌝ }
-    ensures { λ r. ⌜ applying r (now (out .exit)) ≡ appliedTo (tagsBy (now (table .entry)) at (now (sheet .entry)) (now (named .entry)) (now (places .entry))) (now (out .entry)) ⌝ }
+    requires { ⌜ (length (now places) ≤ 64) × Leads (now table) at 0 walk (now sheet) (now list) 0 ⌝ }
+    ensures { λ r. ⌜ applying r (now (out .exit)) ≡ appliedTo (tagsBy (now (table .entry)) at walk (now (sheet .entry)) (now (places .entry))) (now (out .entry)) ⌝ }
 {
-    let kept = rows_size(Side::Kept, table, at, sheet, named);
-    let new = rows_size(Side::New, sheet, 1, sheet, places);
+    let kept = kept_size(table, at, walk, sheet, list);
+    let new = new_size(sheet, places);
     let tags = kept.tags + new.tags;
     if Header::MOST_TAGS < tags {
         return Applied::Refused(Refusal::TABLE_FULL);
@@ -233,27 +247,24 @@ fn apply_few(
     if out.len() < bytes {
         return Applied::Refused(Refusal::NO_ROOM);
     }
-    write_table(table, at, sheet, named, places, out, tags as u64);
+    write_table(table, at, walk, sheet, list, places, out, tags as u64);
     Applied::Table(bytes)
 }
 
-// The new user table. `named` has for each tag of the table, from `at` on, where its change stands in the sheet, or 0; `places` for each change where its tag
-// stands in the table, or 0.
+// The new user table. `list` has the tags that changes name, as a walk of the table from `at` on finds them; `places` has for each change where its tag stands
+// in the table, or 0.
 pub fn apply(
     table: &[u8],
     at: usize,
+    walk: Walk,
     sheet: &[u8],
-    named: &[usize],
+    list: &[usize],
     places: &[usize],
     out: &mut [u8],
 ) -> Applied
-    ensures { λ r. ⌜ applying r (now (out .exit)) ≡ applyOf (now (table .entry)) at (now (sheet .entry)) (now (named .entry)) (now (places .entry)) (now (out .entry)) ⌝ }
+    requires { ⌜ (length (now places) ≤ 64) × (walk .words ≤ length (now list)) × Leads (now table) at 0 walk (now sheet) (take (walk .words) (now list)) 0 ⌝ }
+    ensures { λ r. ⌜ applying r (now (out .exit)) ≡ appliedTo (tagsBy (now (table .entry)) at walk (now (sheet .entry)) (now (places .entry))) (now (out .entry)) ⌝ }
 {
-    if Header::MOST_TAGS < named.len() {
-        return Applied::Refused(Refusal::TABLE_FULL);
-    }
-    if Header::MOST_CHANGES < places.len() {
-        return Applied::Refused(Refusal::SHEET);
-    }
-    apply_few(table, at, sheet, named, places, out)
+    let words = walk.words;
+    apply_list(table, at, walk, sheet, &list[..words], places, out)
 }

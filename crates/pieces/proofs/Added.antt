@@ -266,6 +266,21 @@ behind-broken rowPlace.Broken p h k = refl
 behind-broken (rowPlace.Whole len end) p h k = let o : rowPlace.Broken ≡ rowPlace.Whole 0 end = rw h at k in let z : _≡_ {A = ℕ} 0 1 =
     cc in absurd (omega arith)
 
+-- the row of a piece of the table
+pub piece-row : {G : Type 0} (s t : List ℕ) (at other f v n e : ℕ) (p : Piece) → p ≡ pieceAt side.Kept s at t other → p ≡ piece.Whole f v n e
+    → ((len : ℕ) → rowOf at (rowName row.Tag (drop at s)) ≡ rowPlace.Whole len e → G) → G
+unfolding pieceAt keptAt
+piece-row s t at other f v n e p h k w =
+    behind-whole (rowOf at (rowName row.Tag (drop at s))) f v n e (keptRow at t other (rowOf at (rowName row.Tag (drop at s))))
+    (sym h ∙ k) (kept-behind at t other _) w
+
+pub piece-no-row : (s t : List ℕ) (at other : ℕ) (p : Piece) → p ≡ pieceAt side.Kept s at t other → p ≡ piece.Broken
+    → rowOf at (rowName row.Tag (drop at s)) ≡ rowPlace.Broken
+unfolding pieceAt keptAt
+piece-no-row s t at other p h k =
+    behind-broken (rowOf at (rowName row.Tag (drop at s))) (keptRow at t other (rowOf at (rowName row.Tag (drop at s)))) (sym h ∙ k)
+    (kept-behind at t other _)
+
 pub added-done : (x : Side) (s t others : List ℕ) (at i : ℕ) → length others ≤ i → addedBy x s t at (drop i others) ≡ []
 unfolding addedBy flatMap beside
 added-done side.Kept s t others at i h = rw (drop-of-length-le others {i = i} h)
@@ -274,9 +289,7 @@ added-done side.New s t others at i h = rw (drop-of-length-le others {i = i} h)
 pub added-stop : (x : Side) (s t others : List ℕ) (at i other : ℕ) (p : Piece) → p ≡ pieceAt x s at t other → p ≡ piece.Broken
     → addedBy x s t at (drop i others) ≡ []
 unfolding addedBy pieceAt keptAt newAt
-added-stop side.Kept s t others at i other p e f = rows-broken row.Tag tagWithName (keptBy t) s others at i
-    (behind-broken (rowOf at (rowName row.Tag (drop at s))) (keptRow at t other (rowOf at (rowName row.Tag (drop at s)))) (sym e ∙ f)
-    (kept-behind at t other _))
+added-stop side.Kept s t others at i other p e f = rows-broken row.Tag tagWithName (keptBy t) s others at i (piece-no-row s t at other p e f)
 added-stop side.New s t others at i other p e f = rows-broken row.Change changeWithName newBy t others at i
     (behind-broken (rowOf at (rowName row.Change (drop at t))) (newRow at t other (rowOf at (rowName row.Change (drop at t)))) (sym e ∙ f)
     (new-behind at t other _))
@@ -285,8 +298,7 @@ pub added-next : (x : Side) (s t others : List ℕ) (at i f v n e : ℕ) (p : Pi
     → p ≡ piece.Whole f v n e → addedBy x s t at (drop i others) ≡ rowAdds x s t at (getD others i 0) ++ addedBy x s t e (drop (i + 1) others)
 unfolding addedBy pieceAt keptAt newAt rowAdds
 added-next side.Kept s t others at i f v n e p h a b =
-    behind-whole (rowOf at (rowName row.Tag (drop at s))) f v n e (keptRow at t (getD others i 0) (rowOf at (rowName row.Tag (drop at s))))
-    (sym a ∙ b) (kept-behind at t (getD others i 0) _) (λ len c. rows-next row.Tag tagWithName (keptBy t) s others at i len e h c)
+    piece-row s t at (getD others i 0) f v n e p a b (λ len c. rows-next row.Tag tagWithName (keptBy t) s others at i len e h c)
 added-next side.New s t others at i f v n e p h a b =
     behind-whole (rowOf at (rowName row.Change (drop at t))) f v n e (newRow at t (getD others i 0) (rowOf at (rowName row.Change (drop at t))))
     (sym a ∙ b) (new-behind at t (getD others i 0) _) (λ len c. rows-next row.Change changeWithName newBy t others at i len e h c)

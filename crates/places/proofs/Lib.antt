@@ -1,4 +1,5 @@
 pub mod Finding
+pub mod Listed
 pub mod Walks
 pub mod Searches
 pub mod Outcomes

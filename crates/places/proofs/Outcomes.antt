@@ -1,6 +1,6 @@
 -- Each public call of this crate has one outcome.
 -- Assumes nothing.
-use mathlib.Core.Path.{refl, sym, _∙_}
+use mathlib.Core.Path.{sym, _∙_}
 use base.Logic.{SProp}
 use contract.Monad.{Fun}
 use ghost.Atoms.{Atoms}
@@ -14,4 +14,7 @@ use Rattle.places.proofs.place_tags
 module _ {M : Type 1} (𝓤 : URA M) (H : Heap 𝓤) (A : Atoms 𝓤) (mem : Memory → SProp 𝓤) (run : Routine → Fun 𝓤) where
   pub place-tags-one : Determines 𝓤 «place_tags».ended («place_tags».clauses 𝓤 H A mem run)
   place-tags-one κs a g x y v w =
-      agree 𝓤 (λ p q. let e = p ∙ sym q in (refl, λ i. (v .0, (v .1 .0, (v .1 .1 .0, (e i .named, (e i .places, v .1 .1 .1 .1 .1)))))))
+      agree 𝓤 (λ p q. let e = p ∙ sym q in (
+        λ i. e i .walk,
+        λ i. (v .0, (v .1 .0, (v .1 .1 .0, (v .1 .1 .1 .0, (e i .list, (e i .places, v .1 .1 .1 .1 .1 .1)))))),
+      ))

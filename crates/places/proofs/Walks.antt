@@ -1,12 +1,12 @@
 -- The walk of the table: the marks of the sheet's names, and what the walk lists.
 -- Assumes nothing.
-use Prim.Native.Nat.{ℕ, zero, suc, _+_, _-_, _^_, _<_, _≤_}
+use Prim.Native.Nat.{ℕ, zero, suc, _+_, _*_, _-_, _<_, _≤_}
 use native.Mathlib.Omega.{arith}
 use mathlib.Core.Path.{_≡_, refl, ap, sym, _∙_}
 use mathlib.Core.Bool.{Bool, true, false, not, cond}
 use mathlib.Core.List.{List, [], _∷_}
-use lib.ListN.{length, take, drop, getD, set, replicate, length-set}
-use lib.Seq.{set-out, getD-set-same, getD-set-other}
+use lib.ListN.{length, take, drop, getD, set, replicate, length-set, length-append}
+use lib.Seq.{set-out, getD-set-same, getD-set-other, sets, length-sets, sets-eq, take-append-seam}
 use lib.Dec.{eqb}
 use borrow.Author.Needs.{needs}
 use borrow.Author.Tests.{ne-eqb, lt-ltb, le-ltb}
@@ -15,8 +15,10 @@ use mir.Val.{Fits}
 use Rattle.number.proofs.Bytes.{and-true}
 use Rattle.marks.specs.Marks.{markFor, markOf, withMark, isMarked}
 use Rattle.marks.proofs.Laws.{of-there, mark-told, mark-stays}
-use Rattle.layout.specs.Recording.{same}
+use Rattle.layout.specs.Recording.{same, mostTags}
 use Rattle.layout.specs.Reading.{Parsed, bad, good}
+use Rattle.layout.specs.Saving.{mostChanges}
+use Rattle.layout.proofs.Outputs.{sets-append}
 use Rattle.rows.specs.Rows.{rowName, rowOf}
 use Rattle.names.specs.Names.{names, found, findName, distinctNames, covers}
 use Rattle.rows.specs.declared.Row.the-variants as row
@@ -29,8 +31,10 @@ use Rattle.names.proofs.Laws.{isFound, find-there, row-name-there, row-name-pla
 use Rattle.names.proofs.Laws as Names
 use Rattle.names.proofs.Marked.{unmarked}
 use Rattle.names.proofs.Finding.{same-sym}
-use Rattle.places.specs.Places.{placeFound, tagNamesAt, changeNamesAt, changeFound, changePlace, tagPlace, Lists, Named, Placed, allMarked, listed, noted, walked, Placing, placing, placedBy}
+use Rattle.places.specs.Places.{placeFound, tagNamesAt, changeNamesAt, changeFound, tagPlace, Placed, allMarked, Listed, listing, wordsFor, ahead, listedBy, listedIn, noted, walked, walkOf, Placing, placing, placedBy}
+use Rattle.places.specs.declared.Walk.{Walk}
 use Rattle.places.proofs.Finding.{found-more, found-none, no-found, names-few, names-done, names-stop, names-step, false-true, found-parts, found-only, names-whole, found-whole}
+use Rattle.places.proofs.Listed.{list-end, list-broken, list-more, list-tags, list-whole, list-few, words-short}
 
 -- ── The walk of the table ──
 
@@ -155,75 +159,97 @@ tags-walked table sheet ps at n k z l blank d =
         let x : b ≡ c = omega arith in
         false-true (sym f ∙ same-sym (getD (changeNamesAt sheet k) c []) v ∙ rw x at t))
 
--- ── The places of changes, tag by tag ──
-
-module _ (place : List ℕ → ℕ) where
-  listed-before : (ns : List (List ℕ)) (ps : List ℕ) (i j : ℕ) → j < i → getD (listed place ns ps i) j 0 ≡ getD ps j 0
-  unfolding listed
-  listed-before [] ps i j h = refl
-  listed-before (n ∷ ns) ps i j h = listed-before ns (set ps i (place n)) (i + 1) j (omega arith)
-      ∙ getD-set-other ps i j (place n) 0 (λ e. omega arith)
-
-  listed-length : (ns : List (List ℕ)) (ps : List ℕ) (i : ℕ) → length (listed place ns ps i) ≡ length ps
-  unfolding listed
-  listed-length [] ps i = refl
-  listed-length (n ∷ ns) ps i = listed-length ns (set ps i (place n)) (i + 1) ∙ length-set ps i (place n)
-
-  listed-lists : (ns : List (List ℕ)) (ps : List ℕ) (i : ℕ) → i + length ns ≤ length ps → Lists place (listed place ns ps i) i ns
-  unfolding listed
-  listed-lists [] ps i h = record { room = h; known = λ c l. absurd (omega arith) }
-  listed-lists (n ∷ ns) ps i h =
-      let l = length-set ps i (place n) in
-      go (listed-lists ns (set ps i (place n)) (i + 1) (omega arith))
-    where
-      go : Lists place (listed place ns (set ps i (place n)) (i + 1)) (i + 1) ns → Lists place (listed place (n ∷ ns) ps i) i (n ∷ ns)
-      go ih = record { room = let l = ih .room in omega arith; known = known }
-        where
-          known : (c : ℕ) → c < length (n ∷ ns) → getD (listed place ns (set ps i (place n)) (i + 1)) (i + c) 0 ≡ place (getD (n ∷ ns) c [])
-          known zero l =
-              let a : i + 0 ≡ i = omega arith in
-              rw a (listed-before ns (set ps i (place n)) (i + 1) i (omega arith) ∙ getD-set-same ps i (place n) 0 (omega arith))
-          known (suc c) l =
-              let a : i + suc c ≡ i + 1 + c = omega arith in
-              rw a (ih .known c (omega arith))
+-- the whole changes are all that are found
+pub changes-whole : (sheet : List ℕ) (k : ℕ) → changeFound sheet (length (changeNamesAt sheet k)) ≡ changeFound sheet k
+changes-whole sheet k i name = found-whole name k (rowName row.Change) sheet 0 1 i
 
 -- ── What the call gives ──
 
-module _ (table : List ℕ) (at : ℕ) (sheet ns₀ ps₀ ns ps : List ℕ) (few : length ps₀ ≤ 64) (e : placing ns ps ≡ placedBy table at sheet ns₀ ps₀) where
-  placed : placing ns ps ≡ placing (listed (changePlace sheet (length ps₀)) (tagNamesAt table at (length ns₀)) ns₀ 0)
-      (walked (changeFound sheet (length ps₀)) (length ns₀) table at ps₀)
+module _ (table : List ℕ) (at n : ℕ) (sheet ls₀ ps₀ ls ps : List ℕ) (w : Walk) (many : n ≤ 1000) (few : length ps₀ ≤ 64)
+    (e : placing w ls ps ≡ placedBy table at n sheet ls₀ ps₀) where
+  placed : placing w ls ps ≡ placing (walkOf (length (changeNamesAt sheet (length ps₀))) (listedIn table at n sheet (length ps₀)))
+      (sets ls₀ 0 (listedIn table at n sheet (length ps₀) .words)) (walked (changeFound sheet (length ps₀)) n table at ps₀)
   unfolding placedBy
-  placed = e ∙ rw (le-ltb 64 (length ps₀) few)
+  placed = e ∙ rw (le-ltb mostTags n many, le-ltb mostChanges (length ps₀) few)
 
-  pub named-long : length ns ≡ length ns₀
-  named-long = ap (λ (z : Placing). length (z .named)) placed
-      ∙ listed-length (changePlace sheet (length ps₀)) (tagNamesAt table at (length ns₀)) ns₀ 0
+  walk-is : w ≡ walkOf (length (changeNamesAt sheet (length ps₀))) (listedIn table at n sheet (length ps₀))
+  walk-is = ap (λ (z : Placing). z .walk) placed
 
   pub places-long : length ps ≡ length ps₀
-  places-long = ap (λ (z : Placing). length (z .places)) placed ∙ walked-length (changeFound sheet (length ps₀)) (length ns₀) table at ps₀
-
-  pub tags-named : Named table at (length ns₀) sheet (length ps₀) ns
-  tags-named =
-      let few : length (tagNamesAt table at (length ns₀)) ≤ length ns₀ = names-few (length ns₀) (rowName row.Tag) (drop at table) in
-      record {
-        lists = rw (ap (λ (z : Placing). z .named) placed)
-            (listed-lists (changePlace sheet (length ps₀)) (tagNamesAt table at (length ns₀)) ns₀ 0 (omega arith));
-      }
+  places-long = ap (λ (z : Placing). length (z .places)) placed ∙ walked-length (changeFound sheet (length ps₀)) n table at ps₀
 
   pub tags-placed : 0 < at → ((c : ℕ) → c < length ps₀ → getD ps₀ c 0 ≡ 0) → distinctNames sheet 1 (length ps₀) row.Change ≡ true
-      → Placed table at (length ns₀) sheet (length ps₀) ps
+      → Placed table at n sheet (length ps₀) ps
   tags-placed z blank d = rw (ap (λ (z : Placing). z .places) placed)
-      (tags-walked table sheet ps₀ at (length ns₀) (length ps₀) z (omega arith) blank d)
+      (tags-walked table sheet ps₀ at n (length ps₀) z (omega arith) blank d)
+
+  pub walk-changes : w .changes ≡ length (changeNamesAt sheet (length ps₀))
+  unfolding walkOf
+  walk-changes = ap (λ (z : Walk). z .changes) walk-is
+
+  pub walk-tags : w .tags ≡ length (tagNamesAt table at n)
+  unfolding walkOf
+  walk-tags = ap (λ (z : Walk). z .tags) walk-is ∙ list-tags (changeFound sheet (length ps₀)) n table at 0 ∙ omega arith
+
+  walk-words : w .words ≡ length (listedIn table at n sheet (length ps₀) .words)
+  unfolding walkOf
+  walk-words = ap (λ (z : Walk). z .words) walk-is
+
+  walk-end : w .end ≡ listedIn table at n sheet (length ps₀) .end
+  unfolding walkOf
+  walk-end = ap (λ (z : Walk). z .end) walk-is
+
+  -- where the list has room for the tags of all changes, it is there
+  module _ (room : 3 * length ps₀ ≤ length ls₀) (d : distinctNames table at n row.Tag ≡ true) where
+    list-room : length (listedIn table at n sheet (length ps₀) .words) ≤ length ls₀
+    unfolding distinctNames
+    list-room = let a = list-few sheet (length ps₀) n table at d in omega arith
+
+    pub list-there : w .words ≤ length ls
+    list-there =
+        let a = list-room in
+        let b = walk-words in
+        let c : length ls ≡ length ls₀ = ap (λ (z : Placing). length (z .list)) placed ∙ length-sets ls₀ 0 (listedIn table at n sheet (length ps₀) .words) in
+        omega arith
+
+    taken : take (w .words) ls ≡ listedIn table at n sheet (length ps₀) .words
+    taken =
+        let a = list-room in
+        rw (walk-words, ap (λ (z : Placing). z .list) placed, sets-eq (listedIn table at n sheet (length ps₀) .words) ls₀ 0 (omega arith))
+        (take-append-seam (listedIn table at n sheet (length ps₀) .words) (drop (0 + length (listedIn table at n sheet (length ps₀) .words)) ls₀))
+
+    pub tags-listed : listing (take (w .words) ls) (w .tags) (w .end) ≡ listedIn table at (w .tags) sheet (w .changes)
+    tags-listed =
+        rw (taken, walk-end, walk-changes, changes-whole sheet (length ps₀))
+        (ap (λ (t : ℕ). listing (listedIn table at n sheet (length ps₀) .words) t (listedIn table at n sheet (length ps₀) .end))
+        (walk-tags ∙ sym (list-tags (changeFound sheet (length ps₀)) n table at 0 ∙ omega arith))
+        ∙ sym (list-whole (changeFound sheet (length ps₀)) n table at 0)
+        ∙ ap (λ (t : ℕ). listedIn table at t sheet (length ps₀)) (sym walk-tags))
 
 -- ── The functions of the walk ──
 
-pub place-at : (f : NameFound) (i p : ℕ) → f ≡ found.At i p → p ≡ placeFound f
-unfolding placeFound
-place-at f i p e = rw e
+pub store-there : (ls : List ℕ) (at w : ℕ) → length ls ≤ at → ls ≡ set ls at w
+store-there ls at w h = sym (set-out ls at w h)
 
-pub place-nothing : (f : NameFound) → f ≡ found.Nothing → 0 ≡ placeFound f
-unfolding placeFound
-place-nothing f e = rw e
+pub none-end : (at i tag : ℕ) (f : NameFound) → f ≡ found.Nothing → at ≡ at + length (wordsFor f i tag)
+unfolding wordsFor
+none-end at i tag f e = rw e (omega arith)
+
+pub none-listed : (ls : List ℕ) (at i tag : ℕ) (f : NameFound) → f ≡ found.Nothing → ls ≡ sets ls at (wordsFor f i tag)
+unfolding wordsFor
+none-listed ls at i tag f e = rw e
+
+pub tag-end : (at i tag c p : ℕ) (f : NameFound) → f ≡ found.At c p → at + 3 ≡ at + length (wordsFor f i tag)
+unfolding wordsFor
+tag-end at i tag c p f e = rw e
+
+pub tag-listed : (ls l₁ l₂ l₃ : List ℕ) (at i tag c p : ℕ) (f : NameFound) → f ≡ found.At c p → l₁ ≡ set ls at i → l₂ ≡ set l₁ (at + 1) tag
+    → l₃ ≡ set l₂ (at + 2) p → l₃ ≡ sets ls at (wordsFor f i tag)
+unfolding wordsFor
+tag-listed ls l₁ l₂ l₃ at i tag c p f e a b d =
+    let x : at + 1 ≡ suc at = omega arith in
+    let y : at + 2 ≡ suc (suc at) = omega arith in
+    rw e (d ∙ rw (b, a, x, y))
 
 pub note-nothing : (ps : List ℕ) (f : NameFound) (tag : ℕ) → f ≡ found.Nothing → ps ≡ noted ps f tag
 unfolding noted
@@ -246,25 +272,6 @@ unfolding noted
 note-kept ps f tag i p e h = rw (e, ne-eqb (getD ps i 0) 0 h)
 
 module _ (table sheet : List ℕ) (k at left : ℕ) where
-  list-done : (ps all : List ℕ) (i : ℕ) → left ≤ 0 → listed (changePlace sheet k) (tagNamesAt table at left) ps i ≡ all → ps ≡ all
-  unfolding listed
-  list-done ps all i h e = sym (ap (λ ns. listed (changePlace sheet k) ns ps i) (names-done row.Tag table at left h)) ∙ e
-
-  list-stop : (ps all : List ℕ) (i : ℕ) (r : RowPlace) → r ≡ rowOf at (rowName row.Tag (drop at table)) → r ≡ rowPlace.Broken
-      → listed (changePlace sheet k) (tagNamesAt table at left) ps i ≡ all → ps ≡ all
-  unfolding listed
-  list-stop ps all i r f g e = sym (ap (λ ns. listed (changePlace sheet k) ns ps i) (names-stop row.Tag table at left r f g)) ∙ e
-
-  list-step : (ps all : List ℕ) (i len end p : ℕ) (r : RowPlace) (f : NameFound) → 0 < left → r ≡ rowOf at (rowName row.Tag (drop at table))
-      → r ≡ rowPlace.Whole len end → f ≡ findName table (at + 1) len sheet 1 k row.Change → p ≡ placeFound f
-      → listed (changePlace sheet k) (tagNamesAt table at left) ps i ≡ all
-      → listed (changePlace sheet k) (tagNamesAt table end (left - 1)) (set ps i p) (i + 1) ≡ all
-  unfolding listed changePlace
-  list-step ps all i len end p r f h a b c d e =
-      let y : p ≡ placeFound (changeFound sheet k (take len (drop (at + 1) table))) =
-      d ∙ ap placeFound (c ∙ find-there table sheet (at + 1) len 1 k row.Change (row-name-there row.Tag table at len end r a b)) in
-      rw y (sym (ap (λ ns. listed (changePlace sheet k) ns ps i) (names-step row.Tag table at left len end r h a b)) ∙ e)
-
   walk-done : (ps all : List ℕ) → left ≤ 0 → walked (changeFound sheet k) left table at ps ≡ all → ps ≡ all
   walk-done ps all h e = go left h refl
     where
@@ -312,22 +319,25 @@ pub marks-cover : (sheet ms : List ℕ) (k w : ℕ) → w ≡ length (changeName
     → covers ms (changeNamesAt sheet w) ≡ true
 marks-cover sheet ms k w f e = rw (f, names-whole k (rowName row.Change) (drop 1 sheet), e) (covers-all (changeNamesAt sheet k) (replicate 512 0))
 
--- many changes, or as many as the marks were made for
-pub place-many : (table sheet ns ps : List ℕ) (at : ℕ) → 64 < length ps → placing ns ps ≡ placedBy table at sheet ns ps
-unfolding placedBy
-place-many table sheet ns ps at h = rw (lt-ltb 64 (length ps) h)
+-- many tags, many changes, or as many as the marks were made for
+pub place-long : (table sheet ls ps : List ℕ) (at n : ℕ) → 1000 < n
+    → placing (record { changes = 0; words = 0; tags = 0; end = at }) ls ps ≡ placedBy table at n sheet ls ps
+unfolding placedBy walkOf
+place-long table sheet ls ps at n h = rw (lt-ltb mostTags n h)
 
-pub place-few : (table sheet ns₀ ps₀ ns ps : List ℕ) (at w : ℕ) → length ps₀ ≤ 64 → w ≡ length (changeNamesAt sheet (length ps₀))
-    → ns ≡ listed (changePlace sheet w) (tagNamesAt table at (length ns₀)) ns₀ 0 → ps ≡ walked (changeFound sheet w) (length ns₀) table at ps₀
-    → placing ns ps ≡ placedBy table at sheet ns₀ ps₀
-unfolding placedBy changePlace
-place-few table sheet ns₀ ps₀ ns ps at w h f a b =
-    let g : changeFound sheet w ≡ changeFound sheet (length ps₀) = rw f (λ i name. found-whole name (length ps₀) (rowName row.Change) sheet 0 1 i) in
-    let x : ns ≡ listed (changePlace sheet (length ps₀)) (tagNamesAt table at (length ns₀)) ns₀ 0 =
-    a ∙ ap (λ (c : List ℕ → NameFound). listed (λ name. placeFound (c name)) (tagNamesAt table at (length ns₀)) ns₀ 0) g in
-    let y : ps ≡ walked (changeFound sheet (length ps₀)) (length ns₀) table at ps₀ =
-    b ∙ ap (λ (c : List ℕ → NameFound). walked c (length ns₀) table at ps₀) g in
-    rw (le-ltb 64 (length ps₀) h, x, y)
+pub place-many : (table sheet ls ps : List ℕ) (at n : ℕ) → n ≤ 1000 → 64 < length ps
+    → placing (record { changes = 0; words = 0; tags = 0; end = at }) ls ps ≡ placedBy table at n sheet ls ps
+unfolding placedBy walkOf
+place-many table sheet ls ps at n l h = rw (le-ltb mostTags n l, lt-ltb mostChanges (length ps) h)
+
+pub place-few : (table sheet ls₀ ps₀ ls ps : List ℕ) (r : Walk) (at n w : ℕ) → n ≤ 1000 → length ps₀ ≤ 64
+    → w ≡ length (changeNamesAt sheet (length ps₀)) → r ≡ walkOf w (listedIn table at n sheet w) → ls ≡ sets ls₀ 0 (listedIn table at n sheet w .words)
+    → ps ≡ walked (changeFound sheet w) n table at ps₀ → placing r ls ps ≡ placedBy table at n sheet ls₀ ps₀
+unfolding placedBy
+place-few table sheet ls₀ ps₀ ls ps r at n w l h f a b c =
+    rw (le-ltb mostTags n l, le-ltb mostChanges (length ps₀) h, a, b, c, f) (ap (λ (change : List ℕ → NameFound). placing
+    (walkOf (length (changeNamesAt sheet (length ps₀))) (listedBy change n table at 0)) (sets ls₀ 0 (listedBy change n table at 0 .words))
+    (walked change n table at ps₀)) (changes-whole sheet (length ps₀)))
 
 module _ (sheet : List ℕ) (place left : ℕ) (ms all : List ℕ) (e : allMarked (names left (rowName row.Change) (drop place sheet)) ms ≡ all) where
   pub mark-done : left ≤ 0 → ms ≡ all
@@ -369,70 +379,128 @@ change-unmarked a sheet ms here len k m b h c e f z =
         (ap (λ (x : ℕ). isMarked ms x) (sym (of-there a here len h) ∙ sym e) ∙ sym f ∙ not-true b z)
 
 -- what the walk has listed, and what is left to do
-pub record Walking (table : List ℕ) (at n : ℕ) (sheet : List ℕ) (k : ℕ) (named₀ places₀ named places : List ℕ) (place passed left : ℕ) : Type 0 where
-  pub room : passed + left ≤ length named
-  pub long : length named ≡ length named₀
+pub record Walking (table : List ℕ) (at n : ℕ) (sheet : List ℕ) (k : ℕ) (list₀ places₀ list places : List ℕ) (place passed words left : ℕ) : Type 0 where
+  pub few : passed + left ≤ 1000
+  pub short : words ≤ 3 * passed
+  pub long : length list ≡ length list₀
   pub wide : length places ≡ length places₀
-  pub list : listed (changePlace sheet k) (tagNamesAt table place left) named passed ≡ listed (changePlace sheet k) (tagNamesAt table at n) named₀ 0
+  pub stored : sets list words (listedBy (changeFound sheet k) left table place passed .words) ≡ sets list₀ 0 (listedIn table at n sheet k .words)
+  pub count : words + length (listedBy (changeFound sheet k) left table place passed .words) ≡ length (listedIn table at n sheet k .words)
+  pub tags : listedBy (changeFound sheet k) left table place passed .tags ≡ listedIn table at n sheet k .tags
+  pub end : listedBy (changeFound sheet k) left table place passed .end ≡ listedIn table at n sheet k .end
   pub walk : walked (changeFound sheet k) left table place places ≡ walked (changeFound sheet k) n table at places₀
 
-module _ (table : List ℕ) (at n : ℕ) (sheet : List ℕ) (k : ℕ) (named₀ places₀ : List ℕ) where
-  pub walking-start : length named₀ ≡ n → Walking table at n sheet k named₀ places₀ named₀ places₀ at 0 n
-  walking-start h = record { room = omega arith; long = refl; wide = refl; list = refl; walk = refl }
+module _ (table : List ℕ) (at n : ℕ) (sheet : List ℕ) (k : ℕ) (list₀ places₀ : List ℕ) where
+  pub walking-start : n ≤ 1000 → Walking table at n sheet k list₀ places₀ list₀ places₀ at 0 0 n
+  walking-start h =
+      record { few = omega arith; short = omega arith; long = refl; wide = refl; stored = refl; count = omega arith; tags = refl; end = refl; walk = refl }
 
-  module _ (named places : List ℕ) (place passed left : ℕ) (w : Walking table at n sheet k named₀ places₀ named places place passed left) where
-    pub walking-room : 0 < left → passed < length named
-    walking-room h = let r = w .room in omega arith
+  module _ (list places : List ℕ) (place passed words left : ℕ) (w : Walking table at n sheet k list₀ places₀ list places place passed words left) where
+    pub walking-short : words ≤ 3000
+    walking-short = let a = w .few in let b = w .short in omega arith
 
-    pub walking-fits : length named < 2 ^ 64 → 0 < left → Fits w64 (passed + 1)
-    walking-fits l h = let r = w .room in record { fits = omega arith }
+    pub walking-fits : 0 < left → Fits w64 (passed + 1)
+    walking-fits h = let a = w .few in record { fits = omega arith }
 
-    pub named-done : left ≤ 0 → named ≡ listed (changePlace sheet k) (tagNamesAt table at n) named₀ 0
-    named-done h = list-done table sheet k place left named _ passed h (w .list)
+    -- nothing is left
+    told : listedBy (changeFound sheet k) left table place passed ≡ listing [] passed place
+        → record { changes = k; words = words; tags = passed; end = place } ≡ walkOf k (listedIn table at n sheet k)
+    unfolding walkOf
+    told e =
+        let a : words ≡ length (listedIn table at n sheet k .words) = let c = w .count in let d = ap (λ (z : Listed). length (z .words)) e in omega arith in
+        let b : passed ≡ listedIn table at n sheet k .tags = sym (ap (λ (z : Listed). z .tags) e) ∙ w .tags in
+        let c : place ≡ listedIn table at n sheet k .end = sym (ap (λ (z : Listed). z .end) e) ∙ w .end in
+        cc
+
+    listed : listedBy (changeFound sheet k) left table place passed ≡ listing [] passed place → list ≡ sets list₀ 0 (listedIn table at n sheet k .words)
+    listed e = sym (ap (λ (z : Listed). sets list words (z .words)) e) ∙ w .stored
+
+    none-left : left ≤ 0 → listedBy (changeFound sheet k) left table place passed ≡ listing [] passed place
+    none-left h = let a : left ≡ 0 = omega arith in rw a (list-end (changeFound sheet k) table place passed)
+
+    pub told-done : left ≤ 0 → record { changes = k; words = words; tags = passed; end = place } ≡ walkOf k (listedIn table at n sheet k)
+    told-done h = told (none-left h)
+
+    pub listed-done : left ≤ 0 → list ≡ sets list₀ 0 (listedIn table at n sheet k .words)
+    listed-done h = listed (none-left h)
 
     pub places-done : left ≤ 0 → places ≡ walked (changeFound sheet k) n table at places₀
     places-done h = walk-done table sheet k place left places _ h (w .walk)
 
-    pub named-stop : (r : RowPlace) → r ≡ rowOf place (rowName row.Tag (drop place table)) → r ≡ rowPlace.Broken
-        → named ≡ listed (changePlace sheet k) (tagNamesAt table at n) named₀ 0
-    named-stop r e f = list-stop table sheet k place left named _ passed r e f (w .list)
+    module _ (r : RowPlace) (e : r ≡ rowOf place (rowName row.Tag (drop place table))) (f : r ≡ rowPlace.Broken) where
+      none-whole : (l : ℕ) → listedBy (changeFound sheet k) l table place passed ≡ listing [] passed place
+      none-whole zero = list-end (changeFound sheet k) table place passed
+      none-whole (suc l) = list-broken (changeFound sheet k) l table place passed
+          (row-broken (rowName row.Tag (drop place table)) place (sym e ∙ f))
 
-    pub places-stop : (r : RowPlace) → r ≡ rowOf place (rowName row.Tag (drop place table)) → r ≡ rowPlace.Broken
-        → places ≡ walked (changeFound sheet k) n table at places₀
-    places-stop r e f = walk-stop table sheet k place left places _ r e f (w .walk)
+      pub told-stop : record { changes = k; words = words; tags = passed; end = place } ≡ walkOf k (listedIn table at n sheet k)
+      told-stop = told (none-whole left)
 
-    pub walking-step : (qs : List ℕ) (len end p : ℕ) (r : RowPlace) (f : NameFound) → 0 < left
+      pub listed-stop : list ≡ sets list₀ 0 (listedIn table at n sheet k .words)
+      listed-stop = listed (none-whole left)
+
+      pub places-stop : places ≡ walked (changeFound sheet k) n table at places₀
+      places-stop = walk-stop table sheet k place left places _ r e f (w .walk)
+
+    pub walking-step : (ls qs : List ℕ) (len end z : ℕ) (r : RowPlace) (f : NameFound) → 0 < left
         → r ≡ rowOf place (rowName row.Tag (drop place table)) → r ≡ rowPlace.Whole len end
-        → f ≡ findName table (place + 1) len sheet 1 k row.Change → p ≡ placeFound f → qs ≡ noted places f place
-        → Walking table at n sheet k named₀ places₀ (set named passed p) qs end (passed + 1) (left - 1)
-    walking-step qs len end p r f h a b c d e =
-        let o = w .room in
-        let l = length-set named passed p in
-        let i : length qs ≡ length places = ap length e ∙ noted-length places f place in
+        → f ≡ findName table (place + 1) len sheet 1 k row.Change → z ≡ words + length (wordsFor f passed place)
+        → ls ≡ sets list words (wordsFor f passed place) → qs ≡ noted places f place
+        → Walking table at n sheet k list₀ places₀ ls qs end (passed + 1) z (left - 1)
+    unfolding ahead
+    walking-step ls qs len end z r f h a b c d e g =
+        let (x, m, q, o) = row-parts row.Tag table place len end (sym a ∙ b) in
+        let v : f ≡ changeFound sheet k (take len (drop (place + 1) table)) = c ∙ find-there table sheet (place + 1) len 1 k row.Change x in
+        let rest : listedBy (changeFound sheet k) left table place passed ≡ ahead (wordsFor f passed place)
+        (listedBy (changeFound sheet k) (left - 1) table end (passed + 1)) =
+        rw (v, o) (more left h m (take len (drop (place + 1) table)) q) in
+        let i : length qs ≡ length places = ap length g ∙ noted-length places f place in
+        let j : length ls ≡ length list = ap length e ∙ length-sets list words (wordsFor f passed place) in
+        let s = words-short f passed place in
+        let t = w .few in
+        let u = w .short in
+        let y = w .count in
+        let l = ap (λ (z : Listed). length (z .words)) rest
+        ∙ length-append (wordsFor f passed place) (listedBy (changeFound sheet k) (left - 1) table end (passed + 1) .words) in
         record {
-          room = omega arith;
-          long = l ∙ w .long;
+          few = omega arith;
+          short = omega arith;
+          long = j ∙ w .long;
           wide = i ∙ w .wide;
-          list = list-step table sheet k place left named _ passed len end p r f h a b c d (w .list);
-          walk = walk-step table sheet k place left places qs _ len end r f h a b c e (w .walk);
+          stored = rw (e, d) (sym (sets-append list words (wordsFor f passed place) _) ∙ sym (ap (λ (z : Listed). sets list words (z .words)) rest) ∙ w .stored);
+          count = omega arith;
+          tags = sym (ap (λ (z : Listed). z .tags) rest) ∙ w .tags;
+          end = sym (ap (λ (z : Listed). z .end) rest) ∙ w .end;
+          walk = walk-step table sheet k place left places qs _ len end r f h a b c g (w .walk);
         }
+      where
+        more : (l : ℕ) → 0 < l → (m : ℕ) (v : List ℕ) → rowName row.Tag (drop place table) ≡ good v m
+            → listedBy (changeFound sheet k) l table place passed ≡ ahead (wordsFor (changeFound sheet k v) passed place)
+            (listedBy (changeFound sheet k) (l - 1) table (place + m) (passed + 1))
+        more zero h m v e = absurd (omega arith)
+        more (suc l) h m v e = let j : suc l - 1 ≡ l = omega arith in rw j (list-more (changeFound sheet k) l table place passed v m e)
 
 pub ruleset laws = (
   needs,
   row-name-there,
   row-name-place,
-  place-at,
-  place-nothing,
+  store-there,
+  none-end,
+  none-listed,
+  tag-end,
+  tag-listed,
   note-nothing,
   note-past,
   note-set,
   note-kept,
   walking-start,
-  walking-room,
+  walking-short,
   walking-fits,
-  named-done,
+  told-done,
+  listed-done,
   places-done,
-  named-stop,
+  told-stop,
+  listed-stop,
   places-stop,
   walking-step,
 )

@@ -2,10 +2,12 @@
 use Prim.Native.Nat.{ℕ, zero, suc, _+_, _<_, _≤_}
 use mathlib.Core.Path.{_≡_}
 use mathlib.Core.Bool.{cond}
-use mathlib.Core.List.{List, [], _∷_}
+use mathlib.Core.List.{List, [], _∷_, _++_, map}
 use lib.ListN.{length, drop, getD, set}
+use lib.Seq.{sets}
 use lib.Dec.{eqb, ltb}
 use Rattle.marks.specs.Marks.{markFor, withMark}
+use Rattle.layout.specs.Recording.{mostTags}
 use Rattle.layout.specs.Reading.{bad, good}
 use Rattle.layout.specs.Saving.{mostChanges}
 use Rattle.rows.specs.Rows.{rowName}
@@ -13,6 +15,7 @@ use Rattle.names.specs.Names.{names, found}
 use Rattle.rows.specs.declared.Row.the-variants as row
 use Rattle.names.specs.declared.NameFound.{NameFound}
 use Rattle.names.specs.declared.NameFound.the-variants as found
+use Rattle.places.specs.declared.Walk.{Walk}
 
 -- ── Places by names ──
 
@@ -36,14 +39,14 @@ changePlace sheet k name = placeFound (changeFound sheet k name)
 unfoldable pub tagPlace : (table : List ℕ) → (at n : ℕ) → (name : List ℕ) → ℕ
 tagPlace table at n name = placeFound (found name n (rowName row.Tag) table 0 at)
 
+-- for each of n tags, the place of its change
+unfoldable pub namedIn : (table : List ℕ) → (at n : ℕ) → (sheet : List ℕ) → (changes : ℕ) → List ℕ
+namedIn table at n sheet k = map (changePlace sheet k) (tagNamesAt table at n)
+
 -- the places from a number on are those of these names
 pub record Lists (place : List ℕ → ℕ) (ps : List ℕ) (i : ℕ) (ns : List (List ℕ)) : Type 0 where
   pub room : i + length ns ≤ length ps
   pub known : (c : ℕ) → c < length ns → getD ps (i + c) 0 ≡ place (getD ns c [])
-
--- for each tag, the place of its change
-pub record Named (table : List ℕ) (at n : ℕ) (sheet : List ℕ) (changes : ℕ) (ps : List ℕ) : Type 0 where
-  pub lists : Lists (changePlace sheet changes) ps 0 (tagNamesAt table at n)
 
 -- for each change, the place of its tag, which is not 0
 pub record Placed (table : List ℕ) (at n : ℕ) (sheet : List ℕ) (changes : ℕ) (ps : List ℕ) : Type 0 where
@@ -52,10 +55,31 @@ pub record Placed (table : List ℕ) (at n : ℕ) (sheet : List ℕ) (changes : 
 
 -- ── What the call leaves ──
 
--- the places of these names, stored from a number on
-unfoldable pub listed : (place : List ℕ → ℕ) → List (List ℕ) → (ps : List ℕ) → ℕ → List ℕ
-listed place [] ps i = ps
-listed place (n ∷ ns) ps i = listed place ns (set ps i (place n)) (i + 1)
+-- what a walk finds: for each tag that a change names three words, its number, its place and the place of the change; how many tags are whole; where they end
+pub record Listed : Type 0 where
+  pub words : List ℕ
+  pub tags : ℕ
+  pub end : ℕ
+
+abbrev pub listing : (words : List ℕ) → (tags end : ℕ) → Listed
+listing words tags end = record { words = words; tags = tags; end = end }
+
+-- the words of a tag for which a change was found, or not
+unfoldable pub wordsFor : NameFound → (number tag : ℕ) → List ℕ
+wordsFor (found.At c p) i tag = i ∷ tag ∷ p ∷ []
+wordsFor found.Nothing i tag = []
+
+unfoldable pub ahead : (words : List ℕ) → Listed → Listed
+ahead ws l = listing (ws ++ l .words) (l .tags) (l .end)
+
+-- n tags, the first of them having a number and a place
+unfoldable pub listedBy : (change : List ℕ → NameFound) → ℕ → (table : List ℕ) → (at number : ℕ) → Listed
+listedBy change zero t at i = listing [] i at
+listedBy change (suc n) t at i =
+    elim (rowName row.Tag (drop at t)) [ bad ↦ listing [] i at | good name m ↦ ahead (wordsFor (change name) i at) (listedBy change n t (at + m) (i + 1)) ]
+
+abbrev pub listedIn : (table : List ℕ) → (at n : ℕ) → (sheet : List ℕ) → (changes : ℕ) → Listed
+listedIn table at n sheet k = listedBy (changeFound sheet k) n table at 0
 
 -- a tag's place, stored for the change that was found for it, unless that has one
 unfoldable pub noted : (ps : List ℕ) → NameFound → (tag : ℕ) → List ℕ
@@ -68,20 +92,26 @@ walked change zero t at ps = ps
 walked change (suc n) t at ps =
     elim (rowName row.Tag (drop at t)) [ bad ↦ ps | good name m ↦ walked change n t (at + m) (noted ps (change name) at) ]
 
--- for each tag the place of its change, for each change the place of its tag, as the walk leaves them
+-- for how many changes a list is, how long it is, and what it says of the table
+unfoldable pub walkOf : (changes : ℕ) → Listed → Walk
+walkOf k l = record { changes = k; words = length (l .words); tags = l .tags; end = l .end }
+
+-- what the walk answers, the list of the tags that changes name, and for each change the place of its tag
 pub record Placing : Type 0 where
-  pub named : List ℕ
+  pub walk : Walk
+  pub list : List ℕ
   pub places : List ℕ
 
-abbrev pub placing : (named places : List ℕ) → Placing
-placing named places = record { named = named; places = places }
+abbrev pub placing : Walk → (list places : List ℕ) → Placing
+placing walk list places = record { walk = walk; list = list; places = places }
 
--- as many tags and changes as there are places for; of more than 64 changes nothing is stored
-unfoldable pub placedBy : (table : List ℕ) → (at : ℕ) → (sheet named places : List ℕ) → Placing
-placedBy table at sheet named places =
-    cond (ltb mostChanges (length places)) (placing named places)
-    (placing (listed (changePlace sheet (length places)) (tagNamesAt table at (length named)) named 0)
-    (walked (changeFound sheet (length places)) (length named) table at places))
+-- as much of the list as there is room for; of more than 1,000 tags or 64 changes nothing is stored
+unfoldable pub placedBy : (table : List ℕ) → (at n : ℕ) → (sheet list places : List ℕ) → Placing
+placedBy table at n sheet list places =
+    cond (ltb mostTags n) (placing (walkOf 0 (listing [] 0 at)) list places)
+    (cond (ltb mostChanges (length places)) (placing (walkOf 0 (listing [] 0 at)) list places)
+    (placing (walkOf (length (changeNamesAt sheet (length places))) (listedIn table at n sheet (length places))) (sets list 0 (listedIn table at n sheet (length places) .words))
+    (walked (changeFound sheet (length places)) n table at places)))
 
 -- ── As the code finds them ──
 

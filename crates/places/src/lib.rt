@@ -7,21 +7,47 @@ ghost use mathlib.Core.Path.{_≡_};
 ghost use mathlib.Core.Bool.{true};
 ghost use mathlib.Core.List.{[], _∷_, map};
 ghost use Prim.Native.Nat.{_+_, _≤_};
-ghost use lib.ListN.{length, take, drop};
+ghost use lib.ListN.{length, take, drop, set};
+ghost use lib.Seq.{sets};
 ghost use Rattle.marks.specs.Marks.{markFor, markOf};
 ghost use Rattle.layout.specs.Recording.{among};
 ghost use Rattle.rows.specs.Rows.{rowName};
 ghost use Rattle.names.specs.Names.{names, findName, covers};
-ghost use Rattle.places.specs.Places.{placeFound, noted, listed, walked, changePlace, changeFound, tagNamesAt, changeNamesAt, allMarked, changeMark, changeStart, stored, Known, placing, placedBy};
+ghost use Rattle.places.specs.Places.{noted, walked, changeFound, changeNamesAt, allMarked, changeMark, changeStart, stored, Known, wordsFor, listedIn, walkOf, placing, placedBy};
 
-// The place of a row that was found; 0, where none stands, for nothing.
-fn place_of(found: NameFound) -> usize
-    ensures { λ r. ⌜ r ≡ placeFound found ⌝ }
+// How many words a list has room for, so that it holds the tags of as many changes as a sheet has.
+pub const WORDS: usize = 192;
+
+// What the walk of a table finds: how many changes, which are whole, it looked for; how many words the list of the tags takes that they name; how many tags
+// are whole, and where they end.
+pub struct Walk {
+    pub changes: usize,
+    pub words: usize,
+    pub tags: usize,
+    pub end: usize,
+}
+
+// Stores a word, where there is room for it.
+fn store(list: &mut [usize], at: usize, word: usize)
+    ensures { λ r. ⌜ now (list .exit) ≡ set (now (list .entry)) at word ⌝ }
 {
-    match found {
-        NameFound::At(_, place) => place,
-        NameFound::Nothing => 0,
+    if at < list.len() {
+        list[at] = word;
     }
+}
+
+// Lists a tag for which a change was found: its number, its place, and the place of the change. Where the list ends then.
+fn list_tag(list: &mut [usize], at: usize, found: NameFound, number: usize, tag: usize) -> usize
+    requires { ⌜ at ≤ 3000 ⌝ }
+    ensures { λ r. ⌜ (r ≡ at + length (wordsFor found number tag)) × (now (list .exit) ≡ sets (now (list .entry)) at (wordsFor found number tag)) ⌝ }
+{
+    let NameFound::At(_, change) = found else {
+        return at;
+    };
+    store(list, at, number);
+    store(list, at + 1, tag);
+    store(list, at + 2, change);
+    at + 3
 }
 
 // Notes for the change that was found where its tag stands: the first one.
@@ -141,45 +167,78 @@ fn find_change(
     search_changes(table, here, len, mark, sheet, changes, marks, starts)
 }
 
-// Walks the table once for all changes: for each tag, where its change stands in the sheet; for each change, where its tag stands in the table.
+// Walks the table once for all changes: lists the tags that they name, and notes for each change where its tag stands.
 fn find_tags(
     table: &[u8],
     at: usize,
+    n: usize,
     sheet: &[u8],
     changes: usize,
     filter: &[u64],
     marks: &[usize],
     starts: &[usize],
-    named: &mut [usize],
+    list: &mut [usize],
     places: &mut [usize],
-)
-    requires { ⌜ (covers (now filter) (changeNamesAt (now sheet) changes) ≡ true) × Known (now sheet) 1 changes (now marks) (now starts) 0 ⌝ }
-    ensures { λ r. ⌜ (now (named .exit) ≡ listed (changePlace (now (sheet .entry)) changes) (tagNamesAt (now (table .entry)) at (length (now (named .entry)))) (now (named .entry)) 0) × (now (places .exit) ≡ walked (changeFound (now (sheet .entry)) changes) (length (now (named .entry))) (now (table .entry)) at (now (places .entry))) ⌝ }
+) -> Walk
+    requires { ⌜ (n ≤ 1000) × (covers (now filter) (changeNamesAt (now sheet) changes) ≡ true) × Known (now sheet) 1 changes (now marks) (now starts) 0 ⌝ }
+    ensures { λ r. ⌜ (r ≡ walkOf changes (listedIn (now (table .entry)) at n (now (sheet .entry)) changes)) × (now (list .exit) ≡ sets (now (list .entry)) 0 (listedIn (now (table .entry)) at n (now (sheet .entry)) changes .words)) × (now (places .exit) ≡ walked (changeFound (now (sheet .entry)) changes) n (now (table .entry)) at (now (places .entry))) ⌝ }
 {
     let mut place = at;
     let mut passed = 0;
-    let mut left = named.len();
+    let mut words = 0;
+    let mut left = n;
     while 0 < left {
         let row = rows::row_at(table, place, Row::Tag);
         let RowPlace::Whole(len, end) = row else {
-            return;
+            return Walk {
+                changes,
+                words,
+                tags: passed,
+                end: place,
+            };
         };
         let found = find_change(table, place + 1, len, sheet, changes, filter, marks, starts);
-        named[passed] = place_of(found);
-        passed += 1;
+        words = list_tag(list, words, found, passed, place);
         note(places, found, place);
         place = end;
+        passed += 1;
         left -= 1;
+    }
+    Walk {
+        changes,
+        words,
+        tags: passed,
+        end: place,
     }
 }
 
-// For as many tags of the table as `named` has places, from `at` on, where the change of each stands in the sheet; for as many changes as `places` has, where
-// the tag of each stands in the table; 0 for none.
-pub fn place_tags(table: &[u8], at: usize, sheet: &[u8], named: &mut [usize], places: &mut [usize])
-    ensures { λ r. ⌜ placing (now (named .exit)) (now (places .exit)) ≡ placedBy (now (table .entry)) at (now (sheet .entry)) (now (named .entry)) (now (places .entry)) ⌝ }
+// Of n tags of the table, from `at` on, lists those that changes name, in the table's order, as far as `list` has room; for as many changes as `places` has,
+// where the tag of each stands in the table; 0 for none.
+pub fn place_tags(
+    table: &[u8],
+    at: usize,
+    n: usize,
+    sheet: &[u8],
+    list: &mut [usize],
+    places: &mut [usize],
+) -> Walk
+    ensures { λ r. ⌜ placing r (now (list .exit)) (now (places .exit)) ≡ placedBy (now (table .entry)) at n (now (sheet .entry)) (now (list .entry)) (now (places .entry)) ⌝ }
 {
+    if Header::MOST_TAGS < n {
+        return Walk {
+            changes: 0,
+            words: 0,
+            tags: 0,
+            end: at,
+        };
+    }
     if Header::MOST_CHANGES < places.len() {
-        return;
+        return Walk {
+            changes: 0,
+            words: 0,
+            tags: 0,
+            end: at,
+        };
     }
     let mut filter = [0; marks::MARKS];
     let mut marks = [0; Header::MOST_CHANGES];
@@ -188,12 +247,13 @@ pub fn place_tags(table: &[u8], at: usize, sheet: &[u8], named: &mut [usize], pl
     find_tags(
         table,
         at,
+        n,
         sheet,
         whole,
         &filter,
         &marks,
         &starts,
-        named,
+        list,
         places,
-    );
+    )
 }

@@ -5,7 +5,7 @@ use native.Mathlib.Omega.{arith}
 use mathlib.Core.Path.{_≡_, refl, ap, sym, _∙_}
 use mathlib.Core.Bool.{Bool, true, false, cond, _||_}
 use mathlib.Core.List.{List, [], _∷_, map, flatMap}
-use lib.ListN.{length, drop, getD}
+use lib.ListN.{length, drop, getD, length-map}
 use lib.Seq.{drop-drop, drop-cons}
 use borrow.Author.Tests.{ne-eqb, lt-ltb}
 use Rattle.layout.specs.Recording.{Tag, same, among, tagNames}
@@ -26,9 +26,11 @@ use Rattle.sheet.proofs.Rows.{rows-more, rows-none, no-rows, beside-none}
 use lib.Dec.{eqb, ltb}
 use Rattle.names.proofs.Finding.{same-sym}
 use Rattle.pieces.specs.Added.{changedEntry, keptBy, newBy, addedBy}
-use Rattle.apply.specs.Applied.{tagsBy}
-use Rattle.places.specs.Places.{placeFound, changePlace, tagPlace, Lists, Named, Placed}
-use Rattle.places.proofs.Finding.{found-more, found-none, no-found, names-more, found-parts}
+use Rattle.apply.specs.Applied.{keptFrom, tagsBy}
+use Rattle.places.specs.Places.{placeFound, tagNamesAt, changeNamesAt, changePlace, tagPlace, namedIn, Lists, Placed}
+use Rattle.places.specs.declared.Walk.{Walk}
+use Rattle.places.proofs.Finding.{found-more, found-none, no-found, names-more, names-none, no-names, names-whole, found-parts}
+use Rattle.places.proofs.Walks.{changes-whole}
 
 -- ── Rows found by their name ──
 
@@ -186,11 +188,50 @@ module _ {A : Type 0} (k : Row) (make : List ℕ → List ℕ → A) (name : A �
             named v (drop (1 + length v) t),
           )
 
+-- the places that were made of names are theirs
+mapped-at : (place : List ℕ → ℕ) (ns : List (List ℕ)) (c : ℕ) → c < length ns → getD (map place ns) c 0 ≡ place (getD ns c [])
+mapped-at place [] c h = absurd (omega arith)
+mapped-at place (n ∷ ns) zero h = refl
+mapped-at place (n ∷ ns) (suc c) h = mapped-at place ns c (omega arith)
+
+mapped-lists : (place : List ℕ → ℕ) (ns : List (List ℕ)) → Lists place (map place ns) 0 ns
+mapped-lists place ns =
+    let l = length-map ns place in
+    record { room = omega arith; known = λ c h. let a : 0 + c ≡ c = omega arith in rw a (mapped-at place ns c h) }
+
+-- the whole rows are all
+rows-whole : {A : Type 0} (k : Row) (make : List ℕ → List ℕ → A) (n : ℕ) (t : List ℕ)
+    → rows (length (names n (rowName k) t)) (rowWith k make) t ≡ rows n (rowWith k make) t
+rows-whole k make zero t = rw (no-names (rowName k) t)
+rows-whole {A} k make (suc n) t = go (rowName k t) refl (rows-whole k make n)
+  where
+    go : (r : Parsed (List ℕ)) → rowName k t ≡ r
+        → ((t : List ℕ) → rows (length (names n (rowName k) t)) (rowWith k make) t ≡ rows n (rowWith k make) t)
+        → rows (length (names (suc n) (rowName k) t)) (rowWith k make) t ≡ rows (suc n) (rowWith k make) t
+    go bad e ih = rw (names-none n (rowName k) t e) (no-rows (rowWith k make) t ∙ sym (rows-none n (rowWith k make) t (row-makes-none k make t e)))
+    go (good v m) e ih =
+        let x = row-read k make t v m e in
+        rw (names-more n (rowName k) t v m e) (rows-more (length (names n (rowName k) (drop m t))) (rowWith k make) t _ m x
+        ∙ ap (λ (l : List A). make v (drop (1 + length v) t) ∷ l) (ih (drop m t)) ∙ sym (rows-more n (rowWith k make) t _ m x))
+
 kept-same : (sheet : List ℕ) (k : ℕ) (ts : List Tag) → flatMap (keptBy sheet) (map (λ t. pair (changePlace sheet k (t .name)) t) ts) ≡ keptTags
     (changesAt sheet 1 k) ts
 unfolding flatMap keptTags
 kept-same sheet k [] = refl
 kept-same sheet k (t ∷ ts) = rw (kept-by-place sheet k t, kept-same sheet k ts)
+
+-- what is kept of the tags that are whole, by the changes that are
+kept-all : (table : List ℕ) (at n : ℕ) (sheet : List ℕ) (k tags changes : ℕ) → tags ≡ length (tagNamesAt table at n)
+    → changes ≡ length (changeNamesAt sheet k) → keptFrom table at tags sheet changes ≡ keptTags (changesAt sheet 1 k) (tagsAt table at n)
+unfolding keptFrom addedBy namedIn tagWithName changePlace
+kept-all table at n sheet k tags changes a b =
+    let l = length-map (tagNamesAt table at n) (changePlace sheet k) in
+    let c : namedIn table at tags sheet changes ≡ namedIn table at n sheet k =
+    rw (a, names-whole n (rowName row.Tag) (drop at table), b) (ap (λ (f : List ℕ → NameFound). map (λ name. placeFound (f name)) (tagNamesAt table at n))
+    (changes-whole sheet k)) in
+    rw (c, l, rows-whole row.Tag tagWithName n (drop at table))
+    (ap (flatMap (keptBy sheet)) (beside-known row.Tag tagWithName (λ t. t .name) (λ v t. refl) (changePlace sheet k) (namedIn table at n sheet k) n
+    (drop at table) 0 (mapped-lists (changePlace sheet k) (tagNamesAt table at n))) ∙ kept-same sheet k (tagsAt table at n))
 
 module _ (table : List ℕ) (at n : ℕ) (z : 0 < at) where
   new-same : (cs : List Change) → flatMap newBy (map (λ c. pair (tagPlace table at n (c .name)) c) cs) ≡ newTags (tagsAt table at n) cs
@@ -204,20 +245,17 @@ module _ (table : List ℕ) (at n : ℕ) (z : 0 < at) where
   looks-same [] i = refl
   looks-same (c ∷ cs) i = rw (entry-by-place (c .name) table at n z, looks-same cs (i + 1))
 
-module _ (table : List ℕ) (at n : ℕ) (sheet : List ℕ) (k : ℕ) (ns ps : List ℕ) (v : Named table at n sheet k ns)
-    (w : Placed table at n sheet k ps) (l : length ns ≡ n) (m : length ps ≡ k) where
-  named-tags : beside ns (tagsAt table at n) ≡ map (λ t. pair (changePlace sheet k (t .name)) t) (tagsAt table at n)
-  unfolding tagWithName
-  named-tags = beside-known row.Tag tagWithName (λ t. t .name) (λ v t. refl) (changePlace sheet k) ns n (drop at table) 0 (v .lists)
-
+module _ (table : List ℕ) (at n : ℕ) (sheet : List ℕ) (k : ℕ) (ps : List ℕ) (w : Placed table at n sheet k ps) (m : length ps ≡ k) where
   placed-changes : beside ps (changesAt sheet 1 k) ≡ map (λ c. pair (tagPlace table at n (c .name)) c) (changesAt sheet 1 k)
   unfolding changeWithName
   placed-changes = beside-known row.Change changeWithName (λ c. c .name) (λ v t. refl) (tagPlace table at n) ps k (drop 1 sheet) 0 (w .lists)
 
   -- the new table by places is the new table
-  pub tags-by : tagsBy table at sheet ns ps ≡ applied (changesAt sheet 1 k) (tagsAt table at n)
+  pub tags-by : (walk : Walk) → walk .tags ≡ length (tagNamesAt table at n) → walk .changes ≡ length (changeNamesAt sheet k)
+      → tagsBy table at walk sheet ps ≡ applied (changesAt sheet 1 k) (tagsAt table at n)
   unfolding tagsBy addedBy applied
-  tags-by = rw (l, m, named-tags, placed-changes, kept-same sheet k (tagsAt table at n), new-same table at n (w .behind) (changesAt sheet 1 k))
+  tags-by walk a b =
+      rw (kept-all table at n sheet k (walk .tags) (walk .changes) a b, m, placed-changes, new-same table at n (w .behind) (changesAt sheet 1 k))
 
   -- the look by places is the look
   pub looks-by : lookOf table sheet ps ≡ lookedAt table at n sheet k

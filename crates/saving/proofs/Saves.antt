@@ -1,6 +1,6 @@
 -- The save's order: 1 to 7, 10, 11, 17, 9.
 -- Assumes nothing.
-use Prim.Native.Nat.{ℕ, zero, suc, _+_, _^_, _<_, _≤_}
+use Prim.Native.Nat.{ℕ, zero, suc, _+_, _-_, _^_, _<_, _≤_}
 use native.Mathlib.Omega.{arith}
 use mathlib.Core.Path.{_≡_, refl, ap, sym, _∙_}
 use mathlib.Core.Bool.{Bool, true, false, cond}
@@ -9,7 +9,7 @@ use lib.ListN.{length, take, drop, replicate, length-replicate, getD-replicate}
 use lib.Seq.{length-take-le, getD-take}
 use lib.Dec.{ltb, leb}
 use borrow.Author.Needs.{needs}
-use borrow.Author.Tests.{leb-true, ne-eqb, le-ltb}
+use borrow.Author.Tests.{leb-true, ne-eqb}
 use mir.Syntax.{w64}
 use mir.Val.{Fits}
 use Rattle.number.proofs.Bytes.{both-true}
@@ -22,9 +22,10 @@ use Rattle.layout.proofs.Readers.{exactly-good, number-good}
 use Rattle.layout.proofs.Lines.{line-pass, line-holds, opening-pass, opens-passes, lines-first}
 use Rattle.layout.proofs.Orders.{without, lines-other}
 use Rattle.names.specs.Names.{distinctNames}
+use Rattle.rows.specs.Rows.{rowName}
 use Rattle.rows.specs.declared.Row.the-variants as row
 use Rattle.parts.proofs.Taken.{then-parts, only-parts}
-use Rattle.names.proofs.Readers.{distinct-changes}
+use Rattle.names.proofs.Readers.{distinct-tags, distinct-changes}
 use Rattle.tables.proofs.Places.{table-read}
 use Rattle.parts.proofs.Times.{times-length}
 use Rattle.opening.specs.Opened.{openOf, openRefusal, heldOf}
@@ -36,10 +37,12 @@ use Rattle.sheet.specs.Sheet.{sheetOf}
 use Rattle.sheet.specs.Rows.{tagsAt, changesAt}
 use Rattle.refusal.specs.Refusal.{placed, plain}
 use Rattle.refusal.specs.declared.Refusal.{Refusal}
-use Rattle.saving.specs.Save.{lookedAt, outcome, answerOf, answered, appliedIn, afterLook, savedIn, savedBy, savedAs, saveOf, Begun}
-use Rattle.places.specs.Places.{Named, Placed, placing, placedBy}
+use Rattle.saving.specs.Save.{lookedAt, outcome, answerOf, answered, appliedIn, afterLook, savedIn, savedBy, savedAs, saveOf, Legal, Begun}
+use Rattle.places.specs.Places.{Placed, placing, placedBy}
+use Rattle.places.specs.declared.Walk.{Walk}
 use Rattle.look.specs.Look.{lookOf}
-use Rattle.apply.specs.Applied.{applying, appliedTo, applyOf}
+use Rattle.apply.specs.Applied.{applying, appliedTo, tagsBy}
+use Rattle.apply.specs.Runs.{Leads}
 use Rattle.apply.specs.declared.Applied.{Applied}
 use Rattle.apply.specs.declared.Applied.the-variants as applied
 use Rattle.layout.specs.Saving as Layout
@@ -50,7 +53,8 @@ use Rattle.look.specs.declared.Looked.the-variants as looked
 use Rattle.saving.specs.declared.Saved.{Saved}
 use Rattle.saving.specs.declared.Saved.the-variants as saved
 use Rattle.saving.proofs.ByPlaces.{looked-is, looks-by, tags-by}
-use Rattle.places.proofs.Walks.{tags-named, tags-placed, named-long, places-long}
+use Rattle.places.proofs.Finding.{names-few}
+use Rattle.places.proofs.Walks.{tags-placed, places-long, walk-tags, walk-changes, list-there, tags-listed}
 use Rattle.sheet.proofs.Legal.{tags-are, changes-are}
 
 -- ── A save's answer ──
@@ -173,19 +177,29 @@ table-few t ts m e =
     let o = times-length tag c (drop a t) ts k g in
     omega arith)
 
+table-apart : (t : List ℕ) (ts : List Tag) (m : ℕ) → table t ≡ good ts m → distinct (tagNames ts) ≡ true
+unfolding table
+table-apart t ts m e = only-parts (λ ts. distinct (tagNames ts)) (only (within 0 mostTags) (number 4) then λ n. times n tag) t ts m e .1
+
 module _ (f : List ℕ) (o : Opening) (held : Held) (e : o ≡ openOf f) (g : o ≡ openingAs.Opened held) where
   opens : (refusal f ≡ 0) × (held ≡ heldOf f)
   opens = open-opens f held (sym e ∙ g)
 
   tags-found : (held .user + 4 ≤ length f) × (held .«user_tags» ≤ 1000) × (tagsAt f (held .user + 4) (held .«user_tags») ≡ userTags f)
+      × (distinctNames f (held .user + 4) (held .«user_tags») row.Tag ≡ true)
   unfolding heldOf userTags
   tags-found =
       let (m, p) = user-table f (opens .0) in
       let u : held .user ≡ userOffset f = ap (λ (z : Held). z .user) (opens .1) in
       let n : held .«user_tags» ≡ length (userTags f) = ap (λ (z : Held). z .«user_tags») (opens .1) in
       let l = table-few (drop (userOffset f) f) (userTags f) m p in
-      table-read f (userOffset f) m (userTags f) p (λ k a b c d.
-      (omega arith, omega arith, rw (u, n) (tags-are f (userOffset f + 4) (length (userTags f)) k (userTags f) c)))
+      let q = table-apart (drop (userOffset f) f) (userTags f) m p in
+      table-read f (userOffset f) m (userTags f) p (λ k a b c d. (
+        omega arith,
+        omega arith,
+        rw (u, n) (tags-are f (userOffset f + 4) (length (userTags f)) k (userTags f) c),
+        rw (u, n) (distinct-tags f (userOffset f + 4) (length (userTags f)) k (userTags f) c ∙ q),
+      ))
 
   pub user-fits : length f < 2 ^ 64 → Fits w64 (held .user + 4)
   user-fits h = let l = tags-found .0 in record { fits = omega arith }
@@ -204,17 +218,16 @@ module _ (f : List ℕ) (o : Opening) (held : Held) (e : o ≡ openOf f) (g : o 
       ∙ answer-refused 10 _ _ out (λ z. omega arith) (λ z. omega arith))
 
   module _ (bytes : List ℕ) (s : Sheet) (k : ℕ) (h : s ≡ sheetOf (exactly sheet bytes)) (i : s ≡ sheet.Whole k) where
-    pub save-few : held .«user_tags» ≤ 1000
-    save-few = tags-found .1
-
-    pub save-behind : 0 < held .user + 4
-    save-behind = omega arith
-
-    pub save-changes : k ≤ 64
-    save-changes = sheet-known bytes s k h i .1
-
-    pub save-apart : distinctNames bytes 1 k row.Change ≡ true
-    save-apart = sheet-known bytes s k h i .3
+    pub save-legal : Legal f (held .user + 4) (held .«user_tags») bytes k
+    save-legal =
+        record {
+          tags = tags-found .1;
+          few = sheet-known bytes s k h i .1;
+          behind = omega arith;
+          there = tags-found .0;
+          apart = tags-found .3;
+          differ = sheet-known bytes s k h i .3;
+        }
 
     look-is : lookedAt f (held .user + 4) (held .«user_tags») bytes k ≡ cond (someConflict (userTags f) (changesOf bytes))
         (looked.Conflict (0 + conflictPlace (userTags f) (changesOf bytes))) looked.Agrees
@@ -258,89 +271,88 @@ pub answer-of-refused : (a : Applied) (n : Refusal) → a ≡ applied.Refused n 
 unfolding answerOf
 answer-of-refused a n e = rw e
 
-module _ (table : List ℕ) (at : ℕ) (sheet ns₀ ps₀ ns ps : List ℕ) (l : Looked) (b : Begun at sheet ns₀ ps₀)
-    (e : placing ns ps ≡ placedBy table at sheet ns₀ ps₀) (f : l ≡ lookOf table sheet ps) where
-  named : Named table at (length ns₀) sheet (length ps₀) ns
-  named = tags-named table at sheet ns₀ ps₀ ns ps (b .changes) e
+module _ (table : List ℕ) (at n : ℕ) (sheet ls₀ ps₀ ls ps : List ℕ) (w : Walk) (b : Begun table at n sheet ls₀ ps₀)
+    (e : placing w ls ps ≡ placedBy table at n sheet ls₀ ps₀) where
+  tagsPlaced : Placed table at n sheet (length ps₀) ps
+  tagsPlaced = tags-placed table at n sheet ls₀ ps₀ ls ps w (b .legal .tags) (b .legal .few) e (b .legal .behind) (b .blank) (b .legal .differ)
 
-  tagsPlaced : Placed table at (length ns₀) sheet (length ps₀) ps
-  tagsPlaced = tags-placed table at sheet ns₀ ps₀ ns ps (b .changes) e (b .behind) (b .blank) (b .apart)
+  long : length ps ≡ length ps₀
+  long = places-long table at n sheet ls₀ ps₀ ls ps w (b .legal .tags) (b .legal .few) e
 
-  look-by : l ≡ lookedAt table at (length ns₀) sheet (length ps₀)
-  look-by = f ∙ looks-by table at (length ns₀) sheet (length ps₀) ns ps named tagsPlaced (named-long table at sheet ns₀ ps₀ ns ps (b .changes) e)
-      (places-long table at sheet ns₀ ps₀ ns ps (b .changes) e)
+  pub placed-few : length ps ≤ 64
+  placed-few = let a = long in let c = b .legal .few in omega arith
 
-  pub placed-conflict : (out : List ℕ) (p : ℕ) (q : Refusal) → l ≡ looked.Conflict p → q ≡ placed 11 p
-      → outcome (saved.Refused q) out ≡ savedIn table at (length ns₀) sheet (length ps₀) out
-  unfolding savedIn afterLook
-  placed-conflict out p q g e = rw e (sym (rw (← look-by, g)))
+  pub placed-words : w .words ≤ length ls
+  placed-words = list-there table at n sheet ls₀ ps₀ ls ps w (b .legal .tags) (b .legal .few) e (b .room) (b .legal .apart)
 
-  applied-by : (out : List ℕ) → applyOf table at sheet ns ps out ≡ appliedTo
-      (Layout.applied (changesAt sheet 1 (length ps₀)) (tagsAt table at (length ns₀))) out
-  unfolding applyOf
-  applied-by out =
-      let x = named-long table at sheet ns₀ ps₀ ns ps (b .changes) e in
-      let y = places-long table at sheet ns₀ ps₀ ns ps (b .changes) e in
-      let i = b .tags in
-      let j = b .changes in
-      rw (
-        le-ltb mostTags (length ns) (omega arith),
-        le-ltb mostChanges (length ps) (omega arith),
-        tags-by table at (length ns₀) sheet (length ps₀) ns ps named tagsPlaced x y,
-      )
+  pub placed-leads : Leads table at 0 w sheet (take (w .words) ls) 0
+  placed-leads =
+      let a = walk-tags table at n sheet ls₀ ps₀ ls ps w (b .legal .tags) (b .legal .few) e in
+      let c = names-few n (rowName row.Tag) (drop at table) in
+      let d = b .legal .tags in
+      let z : w .tags - 0 ≡ w .tags = omega arith in
+      record {
+        there = b .legal .there;
+        few = omega arith;
+        within = omega arith;
+        listed = rw z (tags-listed table at n sheet ls₀ ps₀ ls ps w (b .legal .tags) (b .legal .few) e (b .room) (b .legal .apart));
+      }
 
-  pub placed-applied : (out o : List ℕ) (a : Applied) (r : Saved) → l ≡ looked.Agrees → applying a o ≡ applyOf table at sheet ns ps out
-      → r ≡ answerOf a → outcome r o ≡ savedIn table at (length ns₀) sheet (length ps₀) out
-  unfolding savedIn afterLook appliedIn answered
-  placed-applied out o a r g h k = rw (← look-by, g, k) (ap answered (h ∙ applied-by out))
+  module _ (l : Looked) (f : l ≡ lookOf table sheet ps) where
+    look-by : l ≡ lookedAt table at n sheet (length ps₀)
+    look-by = f ∙ looks-by table at n sheet (length ps₀) ps tagsPlaced long
 
--- places of no tag and of no change, as many as there are
-tags-long : (n : ℕ) → n ≤ 1000 → length (take n (replicate {A = ℕ} 1000 0)) ≡ n
-tags-long n h = length-take-le n (replicate 1000 0) (rw (length-replicate {A = ℕ} 1000 0) h)
+    pub placed-conflict : (out : List ℕ) (p : ℕ) (q : Refusal) → l ≡ looked.Conflict p → q ≡ placed 11 p
+        → outcome (saved.Refused q) out ≡ savedIn table at n sheet (length ps₀) out
+    unfolding savedIn afterLook
+    placed-conflict out p q g e = rw e (sym (rw (← look-by, g)))
 
+    pub placed-applied : (out o : List ℕ) (a : Applied) (r : Saved) → l ≡ looked.Agrees → applying a o ≡ appliedTo (tagsBy table at w sheet ps) out
+        → r ≡ answerOf a → outcome r o ≡ savedIn table at n sheet (length ps₀) out
+    unfolding savedIn afterLook appliedIn answered
+    placed-applied out o a r g h k =
+        rw (← look-by, g, k) (ap answered (h ∙ ap (λ (ts : List Tag). appliedTo ts out) (tags-by table at n sheet (length ps₀) ps tagsPlaced long w
+        (walk-tags table at n sheet ls₀ ps₀ ls ps w (b .legal .tags) (b .legal .few) e)
+        (walk-changes table at n sheet ls₀ ps₀ ls ps w (b .legal .tags) (b .legal .few) e))))
+
+-- places of no tag, as many as there are changes
 changes-long : (k : ℕ) → k ≤ 64 → length (take k (replicate {A = ℕ} 64 0)) ≡ k
 changes-long k h = length-take-le k (replicate 64 0) (rw (length-replicate {A = ℕ} 64 0) h)
 
-pub tags-count : (n : ℕ) → n ≤ 1000 → n ≡ length (take n (replicate {A = ℕ} 1000 0))
-tags-count n h = sym (tags-long n h)
+module _ (table : List ℕ) (at n : ℕ) (sheet : List ℕ) (k : ℕ) (g : Legal table at n sheet k) where
+  pub changes-count : k ≡ length (take k (replicate {A = ℕ} 64 0))
+  changes-count = sym (changes-long k (g .few))
 
-pub changes-count : (k : ℕ) → k ≤ 64 → k ≡ length (take k (replicate {A = ℕ} 64 0))
-changes-count k h = sym (changes-long k h)
+  pub begun : Begun table at n sheet (replicate 192 0) (take k (replicate 64 0))
+  begun =
+      let a = changes-long k (g .few) in
+      let b = length-replicate {A = ℕ} 192 0 in
+      let c = g .few in
+      record {
+        legal = rw a g;
+        room = omega arith;
+        blank = λ c l. getD-take k (replicate 64 0) c 0 (omega arith) ∙ getD-replicate {A = ℕ} 64 c 0 0 (omega arith);
+      }
 
-pub begun : (at n : ℕ) (sheet : List ℕ) (k : ℕ) → n ≤ 1000 → k ≤ 64 → 0 < at → distinctNames sheet 1 k row.Change ≡ true
-    → Begun at sheet (take n (replicate 1000 0)) (take k (replicate 64 0))
-begun at n sheet k h j z d =
-    let a = tags-long n h in
-    let b = changes-long k j in
-    record {
-      tags = omega arith;
-      changes = omega arith;
-      behind = z;
-      apart = rw b d;
-      blank = λ c l. getD-take k (replicate 64 0) c 0 (omega arith) ∙ getD-replicate {A = ℕ} 64 c 0 0 (omega arith);
-    }
-
-pub saved-all : (table : List ℕ) (at n : ℕ) (sheet : List ℕ) (k : ℕ) (out o : List ℕ) (r : Saved) → n ≤ 1000 → k ≤ 64
-    → outcome r o ≡ savedIn table at (length (take n (replicate {A = ℕ} 1000 0))) sheet (length (take k (replicate {A = ℕ} 64 0))) out
-    → outcome r o ≡ savedIn table at n sheet k out
-saved-all table at n sheet k out o r h j e = rw (tags-long n h, changes-long k j) at e
+  pub saved-all : (out o : List ℕ) (r : Saved) → outcome r o ≡ savedIn table at n sheet (length (take k (replicate {A = ℕ} 64 0))) out
+      → outcome r o ≡ savedIn table at n sheet k out
+  saved-all out o r e = rw (changes-long k (g .few)) at e
 
 pub ruleset laws = (
   needs,
   answer-of-table,
   answer-of-refused,
+  placed-few,
+  placed-words,
+  placed-leads,
   placed-conflict,
   placed-applied,
-  tags-count,
   changes-count,
   begun,
   saved-all,
   save-refused,
   user-fits,
   save-bad-sheet,
-  save-few,
-  save-behind,
-  save-changes,
-  save-apart,
+  save-legal,
   save-saved,
 )

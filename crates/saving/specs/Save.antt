@@ -1,5 +1,5 @@
 -- What a save answers, and what it leaves in the lent output.
-use Prim.Native.Nat.{ℕ, zero, suc, _+_, _<_, _≤_}
+use Prim.Native.Nat.{ℕ, zero, suc, _+_, _*_, _<_, _≤_}
 use mathlib.Core.Path.{_≡_}
 use mathlib.Core.Bool.{true, cond}
 use mathlib.Core.List.{List, [], _∷_}
@@ -71,10 +71,17 @@ savedAs s out = outcome (savedBy (s .refused) s) (filled out (s .table))
 unfoldable pub saveOf : (file sheet out : List ℕ) → Outcome
 saveOf file sheet out = savedAs (save file sheet (length out)) out
 
--- what a save begins with: a table behind the file's start, a sheet whose names differ, and places of which none is known
-pub record Begun (at : ℕ) (sheet named places : List ℕ) : Type 0 where
-  pub tags : length named ≤ 1000
-  pub changes : length places ≤ 64
+-- what a save begins with: a table behind the file's start, and a sheet, in each of which the names differ
+pub record Legal (table : List ℕ) (at n : ℕ) (sheet : List ℕ) (changes : ℕ) : Type 0 where
+  pub tags : n ≤ 1000
+  pub few : changes ≤ 64
   pub behind : 0 < at
-  pub apart : distinctNames sheet 1 (length places) row.Change ≡ true
+  pub there : at ≤ length table
+  pub apart : distinctNames table at n row.Tag ≡ true
+  pub differ : distinctNames sheet 1 changes row.Change ≡ true
+
+-- with room for a list of the tags that changes name, and places of which none is known
+pub record Begun (table : List ℕ) (at n : ℕ) (sheet list places : List ℕ) : Type 0 where
+  pub legal : Legal table at n sheet (length places)
+  pub room : 3 * length places ≤ length list
   pub blank : (c : ℕ) → c < length places → getD places c 0 ≡ 0

@@ -4,14 +4,10 @@ use header::Header;
 use look::Looked;
 use opening::Opening;
 use refusal::Refusal;
-use rows::Row;
 use sheet::Sheet;
 ghost use mathlib.Core.Path.{_≡_};
-ghost use mathlib.Core.Bool.{true};
-ghost use Prim.Native.Nat.{_<_, _≤_};
 ghost use lib.ListN.{length};
-ghost use Rattle.names.specs.Names.{distinctNames};
-ghost use Rattle.saving.specs.Save.{outcome, answerOf, savedIn, saveOf, Begun};
+ghost use Rattle.saving.specs.Save.{outcome, answerOf, savedIn, saveOf, Legal, Begun};
 
 // What a save answers: the length of the new table, or the refusal, where 11 has the place of the change.
 pub enum Saved {
@@ -29,28 +25,29 @@ fn answer_of(applied: Applied) -> Saved
     }
 }
 
-// The look, and the new table where all seen entries agree. `named` has a place for each tag, `places` for each change.
+// The look, and the new table where all seen entries agree. `list` has room for the tags of all changes, `places` has a place for each change.
 fn look_and_apply(
     table: &[u8],
     at: usize,
+    n: usize,
     sheet: &[u8],
-    named: &mut [usize],
+    list: &mut [usize],
     places: &mut [usize],
     out: &mut [u8],
 ) -> Saved
-    requires { ⌜ Begun at (now sheet) (now named) (now places) ⌝ }
-    ensures { λ r. ⌜ outcome r (now (out .exit)) ≡ savedIn (now (table .entry)) at (length (now (named .entry))) (now (sheet .entry)) (length (now (places .entry))) (now (out .entry)) ⌝ }
+    requires { ⌜ Begun (now table) at n (now sheet) (now list) (now places) ⌝ }
+    ensures { λ r. ⌜ outcome r (now (out .exit)) ≡ savedIn (now (table .entry)) at n (now (sheet .entry)) (length (now (places .entry))) (now (out .entry)) ⌝ }
 {
-    places::place_tags(table, at, sheet, named, places);
+    let walk = places::place_tags(table, at, n, sheet, list, places);
     let looked = look::compare(table, sheet, places);
     if let Looked::Conflict(place) = looked {
         let conflict = Refusal::CONFLICT;
         return Saved::Refused(conflict.at(place));
     }
-    answer_of(apply::apply(table, at, sheet, named, places, out))
+    answer_of(apply::apply(table, at, walk, sheet, list, places, out))
 }
 
-// The same with places for the tags and the changes.
+// The same with places for the changes, and a list for their tags.
 fn save_changes(
     table: &[u8],
     at: usize,
@@ -59,19 +56,12 @@ fn save_changes(
     changes: usize,
     out: &mut [u8],
 ) -> Saved
-    requires { ⌜ (n ≤ 1000) × (changes ≤ 64) × (0 < at) × (distinctNames (now sheet) 1 changes Row.Change ≡ true) ⌝ }
+    requires { ⌜ Legal (now table) at n (now sheet) changes ⌝ }
     ensures { λ r. ⌜ outcome r (now (out .exit)) ≡ savedIn (now (table .entry)) at n (now (sheet .entry)) changes (now (out .entry)) ⌝ }
 {
-    let mut named = [0; Header::MOST_TAGS];
+    let mut list = [0; places::WORDS];
     let mut places = [0; Header::MOST_CHANGES];
-    look_and_apply(
-        table,
-        at,
-        sheet,
-        &mut named[..n],
-        &mut places[..changes],
-        out,
-    )
+    look_and_apply(table, at, n, sheet, &mut list, &mut places[..changes], out)
 }
 
 // "A save: 1 to 7, 10, 11, 17, 9." The answer is the new user table.

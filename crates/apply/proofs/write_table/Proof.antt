@@ -1,20 +1,21 @@
-use Rattle.apply.proofs.Applies.{laws}
 use borrow.Author.Needs.{needs}
+use Rattle.apply.proofs.Applies.{laws}
 use Rattle.apply.proofs.write_table.Statement.{statement}
 use Rattle.apply.proofs.write_table.Tie as tie
 use Rattle.apply.proofs.write_table.Reads as reads
 use Rattle.apply.proofs.write_table.Lts as lts
-use Rattle.apply.proofs.write_rows.Reads as write-rows-reads
+use Rattle.apply.proofs.write_kept.Reads as write-kept-reads
+use Rattle.apply.proofs.write_new.Reads as write-new-reads
 use Rattle.number.proofs.write.Reads as write-reads
 
 write-requires : tie.Need-write-requires
 write-requires c κs = search needs
 
-write-rows-requires : tie.Need-write-rows-requires
-write-rows-requires c κs = search laws
+write-kept-requires : tie.Need-write-kept-requires
+write-kept-requires c κs = search needs
 
-write-rows-requires-2 : tie.Need-write-rows-requires-2
-write-rows-requires-2 c κs = search laws
+write-new-requires : tie.Need-write-new-requires
+write-new-requires c κs = search needs
 
 same-length : tie.Need-same-length
 same-length c = search needs
@@ -24,5 +25,4 @@ returns c = search laws
 
 pub write-table-spec : {M : Type 1} → statement M
 write-table-spec =
-    tie.close
-    (tie.spec write-requires write-rows-requires write-rows-requires-2 same-length returns)
+    tie.close (tie.spec write-requires write-kept-requires write-new-requires same-length returns)

@@ -1,7 +1,7 @@
 use borrow.Author.Needs.{needs}
+use Prim.Native.Nat.{_≤_}
 use mathlib.Core.Path.{_≡_}
 use mathlib.Core.Bool.{true}
-use lib.ListN.{length}
 use Rattle.names.specs.Names.{covers}
 use Rattle.places.specs.Places.{changeNamesAt, Known}
 use Rattle.places.proofs.Walks.{Walking, laws}
@@ -10,17 +10,17 @@ use Rattle.places.proofs.find_tags.Tie as tie
 use Rattle.places.proofs.find_tags.Reads as reads
 use Rattle.places.proofs.find_tags.Lts as lts
 use Rattle.places.proofs.find_change.Reads as find-change-reads
+use Rattle.places.proofs.list_tag.Reads as list-tag-reads
 use Rattle.places.proofs.note.Reads as note-reads
-use Rattle.places.proofs.place_of.Reads as place-of-reads
 use Rattle.rows.proofs.row_at.Reads as row-at-reads
 
 abbrev Inv-loop : tie.InvT-loop
-Inv-loop table at sheet changes filter marks starts named₀ places₀ place₀ passed₀ left₀ named places place passed left =
-    (covers filter (changeNamesAt sheet changes) ≡ true) × Known sheet 1 changes marks starts 0
-    × Walking table at (length named₀) sheet changes named₀ places₀ named places place passed left
+Inv-loop table at n sheet changes filter marks starts list₀ places₀ place₀ passed₀ words₀ left₀ list places place passed words left =
+    (n ≤ 1000) × (covers filter (changeNamesAt sheet changes) ≡ true) × Known sheet 1 changes marks starts 0
+    × Walking table at n sheet changes list₀ places₀ list places place passed words left
 
 abbrev μ-loop : tie.MeasureT-loop
-μ-loop table at sheet changes filter marks starts named₀ places₀ place₀ passed₀ left₀ named places place passed left = left
+μ-loop table at n sheet changes filter marks starts list₀ places₀ place₀ passed₀ words₀ left₀ list places place passed words left = left
 
 loop-holds : tie.Need-loop-holds Inv-loop μ-loop
 loop-holds c = search laws
@@ -49,20 +49,14 @@ add-find-change c = search laws
 find-change-requires : tie.Need-find-change-requires Inv-loop μ-loop
 find-change-requires c κs = search laws
 
-place-of-requires : tie.Need-place-of-requires Inv-loop μ-loop
-place-of-requires c κs = search needs
-
-mul-named : tie.Need-mul-named Inv-loop μ-loop
-mul-named c = search needs
-
-slice-write-named : tie.Need-slice-write-named Inv-loop μ-loop
-slice-write-named c = search needs
-
-add-passed : tie.Need-add-passed Inv-loop μ-loop
-add-passed c = search needs
+list-tag-requires : tie.Need-list-tag-requires Inv-loop μ-loop
+list-tag-requires c κs = search laws
 
 note-requires : tie.Need-note-requires Inv-loop μ-loop
 note-requires c κs = search needs
+
+add-passed : tie.Need-add-passed Inv-loop μ-loop
+add-passed c = search laws
 
 sub-left : tie.Need-sub-left Inv-loop μ-loop
 sub-left c = search needs
@@ -97,11 +91,9 @@ find-tags-spec =
     returns
     add-find-change
     find-change-requires
-    place-of-requires
-    mul-named
-    slice-write-named
-    add-passed
+    list-tag-requires
     note-requires
+    add-passed
     sub-left
     loop-less
     loop-again

@@ -1,7 +1,14 @@
-use Rattle.saving.proofs.Saves.{laws}
 use borrow.Author.Needs.{needs}
+use Rattle.saving.proofs.Saves.{laws, placed-few, placed-words, placed-leads}
 use Rattle.saving.proofs.look_and_apply.Statement.{statement}
 use Rattle.saving.proofs.look_and_apply.Tie as tie
+use Rattle.saving.proofs.look_and_apply.Reads as reads
+use Rattle.saving.proofs.look_and_apply.Lts as lts
+use Rattle.apply.proofs.apply.Reads as apply-reads
+use Rattle.look.proofs.compare.Reads as compare-reads
+use Rattle.places.proofs.place_tags.Reads as place-tags-reads
+use Rattle.refusal.proofs.Refusal.at.Reads as at-reads
+use Rattle.saving.proofs.answer_of.Reads as answer-of-reads
 
 place-tags-requires : tie.Need-place-tags-requires
 place-tags-requires c κs = search needs
@@ -28,7 +35,7 @@ enum-told : tie.Need-enum-told
 enum-told c = search needs
 
 apply-requires : tie.Need-apply-requires
-apply-requires c κs = search needs
+apply-requires c κs = (search (needs, placed-few), search (needs, placed-words), search (needs, placed-leads))
 
 answer-of-requires : tie.Need-answer-of-requires
 answer-of-requires c κs = search needs

@@ -1,13 +1,13 @@
-use Rattle.saving.proofs.Saves.{laws}
 use borrow.Author.Needs.{needs}
+use Rattle.saving.proofs.Saves.{laws}
 use Rattle.saving.proofs.save.Statement.{statement}
 use Rattle.saving.proofs.save.Tie as tie
 use Rattle.saving.proofs.save.Reads as reads
 use Rattle.saving.proofs.save.Lts as lts
 use Rattle.opening.proofs.open.Reads as open-reads
 use Rattle.opening.proofs.open_refusal.Reads as open-refusal-reads
-use Rattle.sheet.proofs.changes_of.Reads as changes-of-reads
 use Rattle.saving.proofs.save_changes.Reads as save-changes-reads
+use Rattle.sheet.proofs.changes_of.Reads as changes-of-reads
 
 open-requires : tie.Need-open-requires
 open-requires c κs = search needs
@@ -30,6 +30,7 @@ changes-of-requires c κs = search needs
 enum-known-listed : tie.Need-enum-known-listed
 enum-known-listed c = search needs
 
+-- /work/h/saves/target/rlib/refusal.rlib/interface/lang/src/lib.rt:13:29
 enum-told-2 : tie.Need-enum-told-2
 enum-told-2 c = search needs
 

@@ -1,16 +1,13 @@
-use Rattle.saving.proofs.Saves.{laws}
 use borrow.Author.Needs.{needs}
+use Rattle.saving.proofs.Saves.{laws}
 use Rattle.saving.proofs.save_changes.Statement.{statement}
 use Rattle.saving.proofs.save_changes.Tie as tie
 use Rattle.saving.proofs.save_changes.Reads as reads
 use Rattle.saving.proofs.save_changes.Lts as lts
 use Rattle.saving.proofs.look_and_apply.Reads as look-and-apply-reads
 
-array-borrow-prefix-named : tie.Need-array-borrow-prefix-named
-array-borrow-prefix-named c = search needs
-
 slice-aggregate-look-and-apply : tie.Need-slice-aggregate-look-and-apply
-slice-aggregate-look-and-apply c = search laws
+slice-aggregate-look-and-apply c = search needs
 
 array-borrow-prefix-places : tie.Need-array-borrow-prefix-places
 array-borrow-prefix-places c = search needs
@@ -31,7 +28,6 @@ pub save-changes-spec : {M : Type 1} → statement M
 save-changes-spec =
     tie.close
     (tie.spec
-    array-borrow-prefix-named
     slice-aggregate-look-and-apply
     array-borrow-prefix-places
     slice-aggregate-look-and-apply-2

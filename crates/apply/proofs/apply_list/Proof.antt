@@ -1,17 +1,18 @@
-use Rattle.apply.proofs.Applies.{laws}
 use borrow.Author.Needs.{needs}
-use Rattle.apply.proofs.apply_few.Statement.{statement}
-use Rattle.apply.proofs.apply_few.Tie as tie
-use Rattle.apply.proofs.apply_few.Reads as reads
-use Rattle.apply.proofs.apply_few.Lts as lts
-use Rattle.apply.proofs.rows_size.Reads as rows-size-reads
+use Rattle.apply.proofs.Applies.{laws}
+use Rattle.apply.proofs.apply_list.Statement.{statement}
+use Rattle.apply.proofs.apply_list.Tie as tie
+use Rattle.apply.proofs.apply_list.Reads as reads
+use Rattle.apply.proofs.apply_list.Lts as lts
+use Rattle.apply.proofs.kept_size.Reads as kept-size-reads
+use Rattle.apply.proofs.new_size.Reads as new-size-reads
 use Rattle.apply.proofs.write_table.Reads as write-table-reads
 
-rows-size-requires : tie.Need-rows-size-requires
-rows-size-requires c κs = search needs
+kept-size-requires : tie.Need-kept-size-requires
+kept-size-requires c κs = search needs
 
-rows-size-requires-2 : tie.Need-rows-size-requires-2
-rows-size-requires-2 c κs = search needs
+new-size-requires : tie.Need-new-size-requires
+new-size-requires c κs = search needs
 
 add-tags : tie.Need-add-tags
 add-tags c = search needs
@@ -37,12 +38,12 @@ same-length c = search needs
 returns-3 : tie.Need-returns-3
 returns-3 c = search laws
 
-pub apply-few-spec : {M : Type 1} → statement M
-apply-few-spec =
+pub apply-list-spec : {M : Type 1} → statement M
+apply-list-spec =
     tie.close
     (tie.spec
-    rows-size-requires
-    rows-size-requires-2
+    kept-size-requires
+    new-size-requires
     add-tags
     returns
     add-bytes
