@@ -14,7 +14,7 @@ use Rattle.layout.specs.Recording.{Tag, mostTags, tagBytes, tableBytes}
 use Rattle.layout.specs.Recorder.{filled}
 use Rattle.layout.proofs.Lists.{flatMap-append}
 use Rattle.parts.proofs.Laws.{there}
-use Rattle.places.specs.declared.Walk.{Walk}
+use Rattle.apply.specs.declared.Walk.{Walk}
 use Rattle.pieces.specs.Added.{addedBy}
 use Rattle.pieces.specs.declared.Side.the-variants as side
 use Rattle.refusal.specs.Refusal.{plain}

@@ -18,7 +18,7 @@ use Rattle.rows.proofs.Laws.{row-broken}
 use Rattle.names.specs.declared.NameFound.{NameFound}
 use Rattle.names.specs.declared.NameFound.the-variants as found
 use Rattle.places.specs.Places.{placeFound, tagNamesAt, changeFound, changePlace, namedIn, Listed, listing, wordsFor, ahead, listedBy}
-use Rattle.places.specs.declared.Walk.{Walk}
+use Rattle.apply.specs.declared.Walk.{Walk}
 use Rattle.places.proofs.Finding.{no-names, names-next}
 use Rattle.places.proofs.Listed.{list-end, list-broken, list-more}
 use Rattle.sheet.proofs.Values.{tag-row-parts}

@@ -17,7 +17,7 @@ use Rattle.pieces.specs.declared.Side.{Side}
 use Rattle.pieces.specs.declared.Piece.{Piece}
 use Rattle.pieces.specs.declared.Piece.the-variants as piece
 use Rattle.pieces.proofs.Added.{tags-none, tags-one, piece-makes, added-done, added-stop, added-next}
-use Rattle.places.specs.declared.Walk.{Walk}
+use Rattle.apply.specs.declared.Walk.{Walk}
 use Rattle.apply.specs.Applied.{keptFrom, sizeOf, plus}
 use Rattle.apply.specs.Runs.{Leads, Keeps}
 use Rattle.apply.specs.declared.Part.{Part}

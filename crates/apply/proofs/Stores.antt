@@ -14,7 +14,7 @@ use Rattle.layout.proofs.Lists.{flatMap-append}
 use Rattle.layout.proofs.Outputs
 use Rattle.parts.specs.Parts.{copied}
 use Rattle.parts.proofs.Laws.{copied-there}
-use Rattle.places.specs.declared.Walk.{Walk}
+use Rattle.apply.specs.declared.Walk.{Walk}
 use Rattle.pieces.specs.Pieces.{pieceAt}
 use Rattle.pieces.specs.Added.{addedBy, walkedIn, rowAdds, pieceBytes, Makes}
 use Rattle.pieces.specs.declared.Side.the-variants as side

@@ -9,7 +9,7 @@ use lib.Dec.{ltb}
 use Rattle.layout.specs.Recording.{Tag, mostTags, tagBytes, tableBytes}
 use Rattle.layout.specs.Recorder.{filled, noRoom}
 use Rattle.places.specs.Places.{namedIn}
-use Rattle.places.specs.declared.Walk.{Walk}
+use Rattle.apply.specs.declared.Walk.{Walk}
 use Rattle.pieces.specs.Added.{addedBy}
 use Rattle.pieces.specs.declared.Side.the-variants as side
 use Rattle.refusal.specs.Refusal.{plain}

@@ -5,7 +5,7 @@ use mathlib.Core.List.{List, _++_, flatMap}
 use lib.ListN.{length, drop, getD}
 use Rattle.layout.specs.Recording.{Tag, tagBytes}
 use Rattle.places.specs.Places.{changeFound, listing, listedBy}
-use Rattle.places.specs.declared.Walk.{Walk}
+use Rattle.apply.specs.declared.Walk.{Walk}
 use Rattle.pieces.specs.Added.{pieceBytes}
 use Rattle.apply.specs.Applied.{keptFrom}
 use Rattle.apply.specs.declared.Part.{Part}

@@ -2,7 +2,6 @@
 use header::Header;
 use pieces::Piece;
 use pieces::Side;
-use places::Walk;
 use refusal::Refusal;
 ghost use mathlib.Core.Path.{_≡_};
 ghost use mathlib.Core.List.{_++_, flatMap};
@@ -15,6 +14,15 @@ ghost use Rattle.pieces.specs.Added.{addedBy, tagsIn, pieceBytes};
 ghost use Rattle.pieces.specs.declared.Side.the-variants as side;
 ghost use Rattle.apply.specs.Applied.{applying, appliedTo, keptFrom, tagsBy, sizeOf, Written, Room};
 ghost use Rattle.apply.specs.Runs.{Leads, Keeps};
+
+// The tags of a table, as the list of those that changes name leads through them: for how many changes it is, and how many words it takes; how many tags there
+// are, which are whole, and where they end.
+pub struct Walk {
+    pub changes: usize,
+    pub words: usize,
+    pub tags: usize,
+    pub end: usize,
+}
 
 // What applying a sheet answers: the length of the new table, or the refusal.
 pub enum Applied {

@@ -1,23 +1,25 @@
 -- The list of the tags that changes name: word by word, and that in a table without equal names it has three words at most for each change.
 -- Assumes nothing.
-use Prim.Native.Nat.{ℕ, zero, suc, _+_, _*_, _≤_}
+use Prim.Native.Nat.{ℕ, zero, suc, _+_, _*_, _-_, _<_, _≤_}
 use native.Mathlib.Omega.{arith}
 use mathlib.Core.Path.{_≡_, refl, ap, sym, _∙_}
 use mathlib.Core.Bool.{Bool, true, false, cond, not, _||_}
 use mathlib.Core.List.{List, [], _∷_, _++_}
 use lib.ListN.{length, drop, length-append}
+use lib.Seq.{drop-drop}
 use Rattle.number.proofs.Bytes.{both-true}
 use Rattle.layout.specs.Recording.{same, among, distinct}
-use Rattle.layout.specs.Reading.{Parsed, bad, good}
+use Rattle.layout.specs.Reading.{Parsed, bad, good, times}
 use Rattle.layout.proofs.Lists.{same-true}
+use Rattle.parts.proofs.Times.{times-parts}
 use Rattle.rows.specs.Rows.{rowName}
 use Rattle.rows.specs.declared.Row.the-variants as row
 use Rattle.names.specs.declared.NameFound.{NameFound}
 use Rattle.names.specs.declared.NameFound.the-variants as found
 use Rattle.names.proofs.Laws.{isFound, among-found}
 use Rattle.names.proofs.Finding.{same-sym}
-use Rattle.places.specs.Places.{tagNamesAt, changeNamesAt, changeFound, listing, wordsFor, ahead, listedBy, listedIn}
-use Rattle.places.proofs.Finding.{names-none, no-names, names-next, names-few, false-true}
+use Rattle.places.specs.Places.{tagNamesAt, changeNamesAt, changeFound, Listed, listing, wordsFor, ahead, listedBy, listedIn, leftAfter, listedTo}
+use Rattle.places.proofs.Finding.{names-none, no-names, names-next, false-true}
 
 -- ── Tag by tag ──
 
@@ -35,33 +37,17 @@ pub list-more : (change : List ℕ → NameFound) (n : ℕ) (t : List ℕ) (at i
 unfolding listedBy
 list-more change n t at i v m e = rw (e, listedBy)
 
--- ── The whole tags say all ──
-
-pub list-tags : (change : List ℕ → NameFound) (n : ℕ) (t : List ℕ) (at i : ℕ) → listedBy change n t at i .tags ≡ i + length (tagNamesAt t at n)
-unfolding ahead
-list-tags change zero t at i = rw (list-end change t at i, no-names (rowName row.Tag) (drop at t)) (omega arith)
-list-tags change (suc n) t at i = go (rowName row.Tag (drop at t)) refl (list-tags change n t)
-  where
-    go : (r : Parsed (List ℕ)) → rowName row.Tag (drop at t) ≡ r
-        → ((at i : ℕ) → listedBy change n t at i .tags ≡ i + length (tagNamesAt t at n))
-        → listedBy change (suc n) t at i .tags ≡ i + length (tagNamesAt t at (suc n))
-    go bad e ih = rw (list-broken change n t at i e, names-none n (rowName row.Tag) (drop at t) e) (omega arith)
-    go (good v m) e ih =
-        let a = ih (at + m) (i + 1) in
-        rw (list-more change n t at i v m e, names-next n (rowName row.Tag) t at v m e) (omega arith)
-
-pub list-whole : (change : List ℕ → NameFound) (n : ℕ) (t : List ℕ) (at i : ℕ)
-    → listedBy change (length (tagNamesAt t at n)) t at i ≡ listedBy change n t at i
-list-whole change zero t at i = rw (no-names (rowName row.Tag) (drop at t))
-list-whole change (suc n) t at i = go (rowName row.Tag (drop at t)) refl (list-whole change n t)
-  where
-    go : (r : Parsed (List ℕ)) → rowName row.Tag (drop at t) ≡ r
-        → ((at i : ℕ) → listedBy change (length (tagNamesAt t at n)) t at i ≡ listedBy change n t at i)
-        → listedBy change (length (tagNamesAt t at (suc n))) t at i ≡ listedBy change (suc n) t at i
-    go bad e ih = rw (names-none n (rowName row.Tag) (drop at t) e) (list-end change t at i ∙ sym (list-broken change n t at i e))
-    go (good v m) e ih =
-        rw (names-next n (rowName row.Tag) t at v m e) (list-more change (length (tagNamesAt t (at + m) n)) t at i v m e
-        ∙ ap (ahead (wordsFor (change v) i at)) (ih (at + m) (i + 1)) ∙ sym (list-more change n t at i v m e))
+-- where n tags were read, they are all whole, and end there
+pub list-read : (change : List ℕ → NameFound) (n : ℕ) (t : List ℕ) (at i : ℕ) (vs : List (List ℕ)) (m : ℕ)
+    → times n (rowName row.Tag) (drop at t) ≡ good vs m → (listedBy change n t at i .tags ≡ i + n) × (listedBy change n t at i .end ≡ at + m)
+unfolding ahead times
+list-read change zero t at i vs m e =
+    let a : _≡_ {A = ℕ} 0 m = cc in
+    rw (list-end change t at i) (omega arith, omega arith)
+list-read change (suc n) t at i vs m e =
+    times-parts (rowName row.Tag) n (drop at t) vs m e (λ v j us k f g h o.
+    let (a, b) = list-read change n t (at + j) (i + 1) us k (rw (← drop-drop j at t) g) in
+    rw (list-more change n t at i v j f) (omega arith, omega arith))
 
 -- ── No more than there are changes ──
 
@@ -126,11 +112,6 @@ unfolding wordsFor
 words-length (found.At c p) i tag = refl
 words-length found.Nothing i tag = refl
 
-pub words-short : (f : NameFound) (i tag : ℕ) → length (wordsFor f i tag) ≤ 3
-unfolding wordsFor
-words-short (found.At c p) i tag = omega arith
-words-short found.Nothing i tag = omega arith
-
 list-shared : (sheet : List ℕ) (k n : ℕ) (t : List ℕ) (at i : ℕ)
     → length (listedBy (changeFound sheet k) n t at i .words) ≡ 3 * shared (changeNamesAt sheet k) (tagNamesAt t at n)
 unfolding ahead shared
@@ -152,9 +133,64 @@ list-shared sheet k (suc n) t at i = go (rowName row.Tag (drop at t)) refl (list
         ) (omega arith)
 
 pub list-few : (sheet : List ℕ) (k n : ℕ) (t : List ℕ) (at : ℕ) → distinct (tagNamesAt t at n) ≡ true
-    → length (listedIn t at n sheet k .words) ≤ 3 * k
+    → length (listedIn t at n sheet k .words) ≤ 3 * length (changeNamesAt sheet k)
 list-few sheet k n t at d =
     let a = list-shared sheet k n t at 0 in
     let b = shared-few (changeNamesAt sheet k) (tagNamesAt t at n) d in
-    let c : length (changeNamesAt sheet k) ≤ k = names-few k (rowName row.Change) (drop 1 sheet) in
     omega arith
+
+-- ── Up to as many as there are changes ──
+
+pub to-end : (change : List ℕ → NameFound) (k : ℕ) (t : List ℕ) (at i : ℕ) → listedTo change k 0 t at i ≡ []
+unfolding listedTo
+to-end change k t at i = refl
+
+pub to-all : (change : List ℕ → NameFound) (n : ℕ) (t : List ℕ) (at i : ℕ) → listedTo change 0 n t at i ≡ []
+unfolding listedTo
+to-all change zero t at i = refl
+to-all change (suc n) t at i = refl
+
+pub to-broken : (change : List ℕ → NameFound) (k n : ℕ) (t : List ℕ) (at i : ℕ) → rowName row.Tag (drop at t) ≡ bad → listedTo change k n t at i ≡ []
+unfolding listedTo
+to-broken change k zero t at i e = refl
+to-broken change zero (suc n) t at i e = refl
+to-broken change (suc k) (suc n) t at i e = rw (e, listedTo)
+
+pub to-more : (change : List ℕ → NameFound) (k n : ℕ) (t : List ℕ) (at i : ℕ) (v : List ℕ) (m : ℕ) → rowName row.Tag (drop at t) ≡ good v m
+    → listedTo change (suc k) (suc n) t at i ≡ wordsFor (change v) i at ++ listedTo change (leftAfter (change v) (suc k)) n t (at + m) (i + 1)
+unfolding listedTo
+to-more change k n t at i v m e = rw (e, listedTo)
+
+-- three words for each change that finds its tag
+pub after-words : (f : NameFound) (i tag k : ℕ) → 0 < k → length (wordsFor f i tag) + 3 * leftAfter f k ≡ 3 * k
+unfolding wordsFor leftAfter
+after-words (found.At c p) i tag k h = omega arith
+after-words found.Nothing i tag k h = omega arith
+
+no-words : (l : List ℕ) → length l ≤ 0 → [] ≡ l
+no-words [] h = refl
+no-words (x ∷ l) h = absurd (omega arith)
+
+-- where there are no more of them, these are all
+pub to-whole : (change : List ℕ → NameFound) (n k : ℕ) (t : List ℕ) (at i : ℕ) → length (listedBy change n t at i .words) ≤ 3 * k
+    → listedTo change k n t at i ≡ listedBy change n t at i .words
+unfolding ahead wordsFor leftAfter
+to-whole change zero k t at i h = to-end change k t at i ∙ sym (ap (λ (z : Listed). z .words) (list-end change t at i))
+to-whole change (suc n) zero t at i h = to-all change (suc n) t at i ∙ no-words _ (omega arith)
+to-whole change (suc n) (suc k) t at i h = go (rowName row.Tag (drop at t)) refl (to-whole change n)
+  where
+    go : (r : Parsed (List ℕ)) → rowName row.Tag (drop at t) ≡ r
+        → ((k : ℕ) (t : List ℕ) (at i : ℕ) → length (listedBy change n t at i .words) ≤ 3 * k → listedTo change k n t at i ≡ listedBy change n t at i .words)
+        → listedTo change (suc k) (suc n) t at i ≡ listedBy change (suc n) t at i .words
+    go bad e ih = to-broken change (suc k) (suc n) t at i e ∙ sym (ap (λ (z : Listed). z .words) (list-broken change n t at i e))
+    go (good v m) e ih =
+        to-more change k n t at i v m e ∙ pick (change v) (rw (list-more change n t at i v m e) at h)
+        ∙ sym (ap (λ (z : Listed). z .words) (list-more change n t at i v m e))
+      where
+        pick : (f : NameFound) → length (ahead (wordsFor f i at) (listedBy change n t (at + m) (i + 1)) .words) ≤ 3 * suc k
+            → wordsFor f i at ++ listedTo change (leftAfter f (suc k)) n t (at + m) (i + 1) ≡ ahead (wordsFor f i at)
+            (listedBy change n t (at + m) (i + 1)) .words
+        pick found.Nothing l = ih (suc k) t (at + m) (i + 1) l
+        pick (found.At c q) l =
+            let j : suc k - 1 ≡ k = omega arith in
+            rw j (ap (λ (z : List ℕ). i ∷ at ∷ q ∷ z) (ih k t (at + m) (i + 1) (omega arith)))

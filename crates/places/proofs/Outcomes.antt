@@ -15,6 +15,6 @@ module _ {M : Type 1} (𝓤 : URA M) (H : Heap 𝓤) (A : Atoms 𝓤) (mem : Mem
   pub place-tags-one : Determines 𝓤 «place_tags».ended («place_tags».clauses 𝓤 H A mem run)
   place-tags-one κs a g x y v w =
       agree 𝓤 (λ p q. let e = p ∙ sym q in (
-        λ i. e i .walk,
+        λ i. e i .words,
         λ i. (v .0, (v .1 .0, (v .1 .1 .0, (v .1 .1 .1 .0, (e i .list, (e i .places, v .1 .1 .1 .1 .1 .1)))))),
       ))

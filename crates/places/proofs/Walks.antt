@@ -1,10 +1,10 @@
 -- The walk of the table: the marks of the sheet's names, and what the walk lists.
 -- Assumes nothing.
-use Prim.Native.Nat.{ℕ, zero, suc, _+_, _*_, _-_, _<_, _≤_}
+use Prim.Native.Nat.{ℕ, zero, suc, _+_, _*_, _-_, _^_, _<_, _≤_}
 use native.Mathlib.Omega.{arith}
 use mathlib.Core.Path.{_≡_, refl, ap, sym, _∙_}
 use mathlib.Core.Bool.{Bool, true, false, not, cond}
-use mathlib.Core.List.{List, [], _∷_}
+use mathlib.Core.List.{List, [], _∷_, _++_}
 use lib.ListN.{length, take, drop, getD, set, replicate, length-set, length-append}
 use lib.Seq.{set-out, getD-set-same, getD-set-other, sets, length-sets, sets-eq, take-append-seam}
 use lib.Dec.{eqb}
@@ -15,7 +15,7 @@ use mir.Val.{Fits}
 use Rattle.number.proofs.Bytes.{and-true}
 use Rattle.marks.specs.Marks.{markFor, markOf, withMark, isMarked}
 use Rattle.marks.proofs.Laws.{of-there, mark-told, mark-stays}
-use Rattle.layout.specs.Recording.{same, mostTags}
+use Rattle.layout.specs.Recording.{same}
 use Rattle.layout.specs.Reading.{Parsed, bad, good}
 use Rattle.layout.specs.Saving.{mostChanges}
 use Rattle.layout.proofs.Outputs.{sets-append}
@@ -31,10 +31,10 @@ use Rattle.names.proofs.Laws.{isFound, find-there, row-name-there, row-name-pla
 use Rattle.names.proofs.Laws as Names
 use Rattle.names.proofs.Marked.{unmarked}
 use Rattle.names.proofs.Finding.{same-sym}
-use Rattle.places.specs.Places.{placeFound, tagNamesAt, changeNamesAt, changeFound, tagPlace, Placed, allMarked, Listed, listing, wordsFor, ahead, listedBy, listedIn, noted, walked, walkOf, Placing, placing, placedBy}
-use Rattle.places.specs.declared.Walk.{Walk}
+use Rattle.places.specs.Places.{placeFound, tagNamesAt, changeNamesAt, changeFound, tagPlace, Placed, allMarked, wordsFor, ahead, listedBy, listedIn, leftAfter, listedTo, noted, walkedTo, Placing, placing, placedFor, placedBy}
 use Rattle.places.proofs.Finding.{found-more, found-none, no-found, names-few, names-done, names-stop, names-step, false-true, found-parts, found-only, names-whole, found-whole}
-use Rattle.places.proofs.Listed.{list-end, list-broken, list-more, list-tags, list-whole, list-few, words-short}
+use Rattle.places.proofs.Listed.{list-more, list-few, after-words}
+use Rattle.places.proofs.Listed as Listed
 
 -- ── The walk of the table ──
 
@@ -57,6 +57,12 @@ noted-length ps (found.At i p) tag = go (eqb (getD ps i 0) 0)
     go : (b : Bool) → length (cond b (set ps i tag) ps) ≡ length ps
     go true = length-set ps i tag
     go false = refl
+
+-- the places of all tags, each stored for its change
+unfoldable walked : (change : List ℕ → NameFound) → ℕ → (table : List ℕ) → (at : ℕ) → (ps : List ℕ) → List ℕ
+walked change zero t at ps = ps
+walked change (suc n) t at ps =
+    elim (rowName row.Tag (drop at t)) [ bad ↦ ps | good name m ↦ walked change n t (at + m) (noted ps (change name) at) ]
 
 walked-more : (change : List ℕ → NameFound) (n : ℕ) (t : List ℕ) (at : ℕ) (ps v : List ℕ) (m : ℕ) → rowName row.Tag (drop at t) ≡ good v m
     → walked change (suc n) t at ps ≡ walked change n t (at + m) (noted ps (change v) at)
@@ -159,72 +165,119 @@ tags-walked table sheet ps at n k z l blank d =
         let x : b ≡ c = omega arith in
         false-true (sym f ∙ same-sym (getD (changeNamesAt sheet k) c []) v ∙ rw x at t))
 
--- the whole changes are all that are found
-pub changes-whole : (sheet : List ℕ) (k : ℕ) → changeFound sheet (length (changeNamesAt sheet k)) ≡ changeFound sheet k
-changes-whole sheet k i name = found-whole name k (rowName row.Change) sheet 0 1 i
+-- ── As many tags as there are changes ──
+
+to-end : (change : List ℕ → NameFound) (k : ℕ) (t : List ℕ) (at : ℕ) (ps : List ℕ) → walkedTo change k 0 t at ps ≡ ps
+unfolding walkedTo
+to-end change k t at ps = refl
+
+to-all : (change : List ℕ → NameFound) (n : ℕ) (t : List ℕ) (at : ℕ) (ps : List ℕ) → walkedTo change 0 n t at ps ≡ ps
+unfolding walkedTo
+to-all change zero t at ps = refl
+to-all change (suc n) t at ps = refl
+
+to-broken : (change : List ℕ → NameFound) (k n : ℕ) (t : List ℕ) (at : ℕ) (ps : List ℕ) → rowName row.Tag (drop at t) ≡ bad
+    → walkedTo change k n t at ps ≡ ps
+unfolding walkedTo
+to-broken change k zero t at ps e = refl
+to-broken change zero (suc n) t at ps e = refl
+to-broken change (suc k) (suc n) t at ps e = rw (e, walkedTo)
+
+to-more : (change : List ℕ → NameFound) (k n : ℕ) (t : List ℕ) (at : ℕ) (ps v : List ℕ) (m : ℕ) → rowName row.Tag (drop at t) ≡ good v m
+    → walkedTo change (suc k) (suc n) t at ps ≡ walkedTo change (leftAfter (change v) (suc k)) n t (at + m) (noted ps (change v) at)
+unfolding walkedTo
+to-more change k n t at ps v m e = rw (e, walkedTo)
+
+-- where none is named, nothing is noted
+none-noted : (change : List ℕ → NameFound) (n : ℕ) (t : List ℕ) (at i : ℕ) (ps : List ℕ) → length (listedBy change n t at i .words) ≤ 0
+    → ps ≡ walked change n t at ps
+unfolding ahead wordsFor noted
+none-noted change zero t at i ps h = sym (not-walked change t at ps)
+none-noted change (suc n) t at i ps h = go (rowName row.Tag (drop at t)) refl (none-noted change n t)
+  where
+    go : (r : Parsed (List ℕ)) → rowName row.Tag (drop at t) ≡ r
+        → ((at i : ℕ) (ps : List ℕ) → length (listedBy change n t at i .words) ≤ 0 → ps ≡ walked change n t at ps)
+        → ps ≡ walked change (suc n) t at ps
+    go bad e ih = sym (walked-none change n t at ps e)
+    go (good v m) e ih = pick (change v) (rw (list-more change n t at i v m e) at h) ∙ sym (walked-more change n t at ps v m e)
+      where
+        pick : (f : NameFound) → length (ahead (wordsFor f i at) (listedBy change n t (at + m) (i + 1)) .words) ≤ 0
+            → ps ≡ walked change n t (at + m) (noted ps f at)
+        pick found.Nothing l = ih (at + m) (i + 1) ps l
+        pick (found.At c q) l = absurd (omega arith)
+
+-- where there are no more of them, these are all
+walk-whole : (change : List ℕ → NameFound) (n k : ℕ) (t : List ℕ) (at i : ℕ) (ps : List ℕ) → length (listedBy change n t at i .words) ≤ 3 * k
+    → walkedTo change k n t at ps ≡ walked change n t at ps
+unfolding ahead wordsFor leftAfter
+walk-whole change zero k t at i ps h = to-end change k t at ps ∙ sym (not-walked change t at ps)
+walk-whole change (suc n) zero t at i ps h = to-all change (suc n) t at ps ∙ none-noted change (suc n) t at i ps (omega arith)
+walk-whole change (suc n) (suc k) t at i ps h = go (rowName row.Tag (drop at t)) refl (walk-whole change n)
+  where
+    go : (r : Parsed (List ℕ)) → rowName row.Tag (drop at t) ≡ r
+        → ((k : ℕ) (t : List ℕ) (at i : ℕ) (ps : List ℕ) → length (listedBy change n t at i .words) ≤ 3 * k
+        → walkedTo change k n t at ps ≡ walked change n t at ps) → walkedTo change (suc k) (suc n) t at ps ≡ walked change (suc n) t at ps
+    go bad e ih = to-broken change (suc k) (suc n) t at ps e ∙ sym (walked-none change n t at ps e)
+    go (good v m) e ih =
+        to-more change k n t at ps v m e ∙ pick (change v) (rw (list-more change n t at i v m e) at h) ∙ sym (walked-more change n t at ps v m e)
+      where
+        pick : (f : NameFound) → length (ahead (wordsFor f i at) (listedBy change n t (at + m) (i + 1)) .words) ≤ 3 * suc k
+            → walkedTo change (leftAfter f (suc k)) n t (at + m) (noted ps f at) ≡ walked change n t (at + m) (noted ps f at)
+        pick found.Nothing l = ih (suc k) t (at + m) (i + 1) _ l
+        pick (found.At c q) l = let j : suc k - 1 ≡ k = omega arith in rw j (ih k t (at + m) (i + 1) _ (omega arith))
 
 -- ── What the call gives ──
 
-module _ (table : List ℕ) (at n : ℕ) (sheet ls₀ ps₀ ls ps : List ℕ) (w : Walk) (many : n ≤ 1000) (few : length ps₀ ≤ 64)
-    (e : placing w ls ps ≡ placedBy table at n sheet ls₀ ps₀) where
-  placed : placing w ls ps ≡ placing (walkOf (length (changeNamesAt sheet (length ps₀))) (listedIn table at n sheet (length ps₀)))
-      (sets ls₀ 0 (listedIn table at n sheet (length ps₀) .words)) (walked (changeFound sheet (length ps₀)) n table at ps₀)
-  unfolding placedBy
-  placed = e ∙ rw (le-ltb mostTags n many, le-ltb mostChanges (length ps₀) few)
+-- the whole changes are all that are found
+changes-whole : (sheet : List ℕ) (k : ℕ) → changeFound sheet (length (changeNamesAt sheet k)) ≡ changeFound sheet k
+changes-whole sheet k i name = found-whole name k (rowName row.Change) sheet 0 1 i
 
-  walk-is : w ≡ walkOf (length (changeNamesAt sheet (length ps₀))) (listedIn table at n sheet (length ps₀))
-  walk-is = ap (λ (z : Placing). z .walk) placed
+-- where no two tags have one name, the walk finds all that changes name
+module _ (table : List ℕ) (at n : ℕ) (sheet ls₀ ps₀ ls ps : List ℕ) (words : ℕ) (few : length ps₀ ≤ 64)
+    (d : distinctNames table at n row.Tag ≡ true) (e : placing words ls ps ≡ placedBy table at n sheet ls₀ ps₀) where
+  abbrev all-words : List ℕ
+  all-words = listedIn table at n sheet (length ps₀) .words
+
+  all-few : length all-words ≤ 3 * length (changeNamesAt sheet (length ps₀))
+  unfolding distinctNames
+  all-few = list-few sheet (length ps₀) n table at d
+
+  placed : placing words ls ps ≡ placing (length all-words) (sets ls₀ 0 all-words) (walked (changeFound sheet (length ps₀)) n table at ps₀)
+  unfolding placedBy placedFor
+  placed =
+      e ∙ rw (le-ltb mostChanges (length ps₀) few) (rw (
+        changes-whole sheet (length ps₀),
+        Listed.to-whole (changeFound sheet (length ps₀)) n (length (changeNamesAt sheet (length ps₀))) table at 0 all-few,
+        walk-whole (changeFound sheet (length ps₀)) n (length (changeNamesAt sheet (length ps₀))) table at 0 ps₀ all-few,
+      ))
 
   pub places-long : length ps ≡ length ps₀
   places-long = ap (λ (z : Placing). length (z .places)) placed ∙ walked-length (changeFound sheet (length ps₀)) n table at ps₀
 
   pub tags-placed : 0 < at → ((c : ℕ) → c < length ps₀ → getD ps₀ c 0 ≡ 0) → distinctNames sheet 1 (length ps₀) row.Change ≡ true
       → Placed table at n sheet (length ps₀) ps
-  tags-placed z blank d = rw (ap (λ (z : Placing). z .places) placed)
-      (tags-walked table sheet ps₀ at n (length ps₀) z (omega arith) blank d)
-
-  pub walk-changes : w .changes ≡ length (changeNamesAt sheet (length ps₀))
-  unfolding walkOf
-  walk-changes = ap (λ (z : Walk). z .changes) walk-is
-
-  pub walk-tags : w .tags ≡ length (tagNamesAt table at n)
-  unfolding walkOf
-  walk-tags = ap (λ (z : Walk). z .tags) walk-is ∙ list-tags (changeFound sheet (length ps₀)) n table at 0 ∙ omega arith
-
-  walk-words : w .words ≡ length (listedIn table at n sheet (length ps₀) .words)
-  unfolding walkOf
-  walk-words = ap (λ (z : Walk). z .words) walk-is
-
-  walk-end : w .end ≡ listedIn table at n sheet (length ps₀) .end
-  unfolding walkOf
-  walk-end = ap (λ (z : Walk). z .end) walk-is
+  tags-placed z blank f = rw (ap (λ (z : Placing). z .places) placed) (tags-walked table sheet ps₀ at n (length ps₀) z (omega arith) blank f)
 
   -- where the list has room for the tags of all changes, it is there
-  module _ (room : 3 * length ps₀ ≤ length ls₀) (d : distinctNames table at n row.Tag ≡ true) where
-    list-room : length (listedIn table at n sheet (length ps₀) .words) ≤ length ls₀
-    unfolding distinctNames
-    list-room = let a = list-few sheet (length ps₀) n table at d in omega arith
-
-    pub list-there : w .words ≤ length ls
-    list-there =
-        let a = list-room in
-        let b = walk-words in
-        let c : length ls ≡ length ls₀ = ap (λ (z : Placing). length (z .list)) placed ∙ length-sets ls₀ 0 (listedIn table at n sheet (length ps₀) .words) in
+  module _ (room : 3 * length ps₀ ≤ length ls₀) where
+    list-room : length all-words ≤ length ls₀
+    list-room =
+        let a = all-few in
+        let b : length (changeNamesAt sheet (length ps₀)) ≤ length ps₀ = names-few (length ps₀) (rowName row.Change) (drop 1 sheet) in
         omega arith
 
-    taken : take (w .words) ls ≡ listedIn table at n sheet (length ps₀) .words
-    taken =
+    pub list-there : words ≤ length ls
+    list-there =
         let a = list-room in
-        rw (walk-words, ap (λ (z : Placing). z .list) placed, sets-eq (listedIn table at n sheet (length ps₀) .words) ls₀ 0 (omega arith))
-        (take-append-seam (listedIn table at n sheet (length ps₀) .words) (drop (0 + length (listedIn table at n sheet (length ps₀) .words)) ls₀))
+        let b : words ≡ length all-words = ap (λ (z : Placing). z .words) placed in
+        let c : length ls ≡ length ls₀ = ap (λ (z : Placing). length (z .list)) placed ∙ length-sets ls₀ 0 all-words in
+        omega arith
 
-    pub tags-listed : listing (take (w .words) ls) (w .tags) (w .end) ≡ listedIn table at (w .tags) sheet (w .changes)
+    pub tags-listed : take words ls ≡ all-words
     tags-listed =
-        rw (taken, walk-end, walk-changes, changes-whole sheet (length ps₀))
-        (ap (λ (t : ℕ). listing (listedIn table at n sheet (length ps₀) .words) t (listedIn table at n sheet (length ps₀) .end))
-        (walk-tags ∙ sym (list-tags (changeFound sheet (length ps₀)) n table at 0 ∙ omega arith))
-        ∙ sym (list-whole (changeFound sheet (length ps₀)) n table at 0)
-        ∙ ap (λ (t : ℕ). listedIn table at t sheet (length ps₀)) (sym walk-tags))
+        let a = list-room in
+        rw (ap (λ (z : Placing). z .words) placed, ap (λ (z : Placing). z .list) placed, sets-eq all-words ls₀ 0 (omega arith))
+        (take-append-seam all-words (drop (0 + length all-words) ls₀))
 
 -- ── The functions of the walk ──
 
@@ -271,36 +324,6 @@ pub note-kept : (ps : List ℕ) (f : NameFound) (tag i p : ℕ) → f ≡ found.
 unfolding noted
 note-kept ps f tag i p e h = rw (e, ne-eqb (getD ps i 0) 0 h)
 
-module _ (table sheet : List ℕ) (k at left : ℕ) where
-  walk-done : (ps all : List ℕ) → left ≤ 0 → walked (changeFound sheet k) left table at ps ≡ all → ps ≡ all
-  walk-done ps all h e = go left h refl
-    where
-      go : (l : ℕ) → l ≤ 0 → left ≡ l → ps ≡ all
-      go zero h o = sym (rw o (not-walked (changeFound sheet k) table at ps)) ∙ e
-      go (suc l) h o = absurd (omega arith)
-
-  walk-stop : (ps all : List ℕ) (r : RowPlace) → r ≡ rowOf at (rowName row.Tag (drop at table)) → r ≡ rowPlace.Broken
-      → walked (changeFound sheet k) left table at ps ≡ all → ps ≡ all
-  walk-stop ps all r f g e = go left refl
-    where
-      go : (l : ℕ) → left ≡ l → ps ≡ all
-      go zero o = sym (rw o (not-walked (changeFound sheet k) table at ps)) ∙ e
-      go (suc l) o = sym (rw o (walked-none (changeFound sheet k) l table at ps (row-broken (rowName row.Tag (drop at table)) at (sym f ∙ g)))) ∙ e
-
-  walk-step : (ps qs all : List ℕ) (len end : ℕ) (r : RowPlace) (f : NameFound) → 0 < left → r ≡ rowOf at (rowName row.Tag (drop at table))
-      → r ≡ rowPlace.Whole len end → f ≡ findName table (at + 1) len sheet 1 k row.Change → qs ≡ noted ps f at
-      → walked (changeFound sheet k) left table at ps ≡ all → walked (changeFound sheet k) (left - 1) table end qs ≡ all
-  walk-step ps qs all len end r f h a b c d e = go left refl
-    where
-      go : (l : ℕ) → left ≡ l → walked (changeFound sheet k) (left - 1) table end qs ≡ all
-      go zero o = absurd (omega arith)
-      go (suc l) o =
-          let (x, m, q, w) = row-parts row.Tag table at len end (sym a ∙ b) in
-          let j : suc l - 1 ≡ l = omega arith in
-          let y : qs ≡ noted ps (changeFound sheet k (take len (drop (at + 1) table))) at =
-          d ∙ ap (λ (z : NameFound). noted ps z at) (c ∙ find-there table sheet (at + 1) len 1 k row.Change x) in
-          rw (o, j, w, y) (sym (rw o (walked-more (changeFound sheet k) l table at ps (take len (drop (at + 1) table)) m q)) ∙ e)
-
 -- ── Marks of the sheet's names ──
 
 all-stay : (ns : List (List ℕ)) (ms : List ℕ) (m : ℕ) → isMarked ms m ≡ true → isMarked (allMarked ns ms) m ≡ true
@@ -319,25 +342,21 @@ pub marks-cover : (sheet ms : List ℕ) (k w : ℕ) → w ≡ length (changeName
     → covers ms (changeNamesAt sheet w) ≡ true
 marks-cover sheet ms k w f e = rw (f, names-whole k (rowName row.Change) (drop 1 sheet), e) (covers-all (changeNamesAt sheet k) (replicate 512 0))
 
--- many tags, many changes, or as many as the marks were made for
-pub place-long : (table sheet ls ps : List ℕ) (at n : ℕ) → 1000 < n
-    → placing (record { changes = 0; words = 0; tags = 0; end = at }) ls ps ≡ placedBy table at n sheet ls ps
-unfolding placedBy walkOf
-place-long table sheet ls ps at n h = rw (lt-ltb mostTags n h)
-
-pub place-many : (table sheet ls ps : List ℕ) (at n : ℕ) → n ≤ 1000 → 64 < length ps
-    → placing (record { changes = 0; words = 0; tags = 0; end = at }) ls ps ≡ placedBy table at n sheet ls ps
-unfolding placedBy walkOf
-place-many table sheet ls ps at n l h = rw (le-ltb mostTags n l, lt-ltb mostChanges (length ps) h)
-
-pub place-few : (table sheet ls₀ ps₀ ls ps : List ℕ) (r : Walk) (at n w : ℕ) → n ≤ 1000 → length ps₀ ≤ 64
-    → w ≡ length (changeNamesAt sheet (length ps₀)) → r ≡ walkOf w (listedIn table at n sheet w) → ls ≡ sets ls₀ 0 (listedIn table at n sheet w .words)
-    → ps ≡ walked (changeFound sheet w) n table at ps₀ → placing r ls ps ≡ placedBy table at n sheet ls₀ ps₀
+-- many changes, or as many as the marks were made for
+pub place-many : (table sheet ls ps : List ℕ) (at n : ℕ) → 64 < length ps → placing 0 ls ps ≡ placedBy table at n sheet ls ps
 unfolding placedBy
-place-few table sheet ls₀ ps₀ ls ps r at n w l h f a b c =
-    rw (le-ltb mostTags n l, le-ltb mostChanges (length ps₀) h, a, b, c, f) (ap (λ (change : List ℕ → NameFound). placing
-    (walkOf (length (changeNamesAt sheet (length ps₀))) (listedBy change n table at 0)) (sets ls₀ 0 (listedBy change n table at 0 .words))
-    (walked change n table at ps₀)) (changes-whole sheet (length ps₀)))
+place-many table sheet ls ps at n h = rw (lt-ltb mostChanges (length ps) h)
+
+pub place-few : (table sheet ls₀ ps₀ ls ps : List ℕ) (r at n w : ℕ) → length ps₀ ≤ 64 → w ≡ length (changeNamesAt sheet (length ps₀))
+    → r ≡ length (listedTo (changeFound sheet w) w n table at 0) → ls ≡ sets ls₀ 0 (listedTo (changeFound sheet w) w n table at 0)
+    → ps ≡ walkedTo (changeFound sheet w) w n table at ps₀ → placing r ls ps ≡ placedBy table at n sheet ls₀ ps₀
+unfolding placedBy placedFor
+place-few table sheet ls₀ ps₀ ls ps r at n w h f a b c = rw (le-ltb mostChanges (length ps₀) h, a, b, c, f)
+
+pub place-whole : (sheet : List ℕ) (k w : ℕ) → k ≤ 64 → w ≡ length (changeNamesAt sheet k) → w ≤ 64
+place-whole sheet k w h e =
+    let a : length (changeNamesAt sheet k) ≤ k = names-few k (rowName row.Change) (drop 1 sheet) in
+    omega arith
 
 module _ (sheet : List ℕ) (place left : ℕ) (ms all : List ℕ) (e : allMarked (names left (rowName row.Change) (drop place sheet)) ms ≡ all) where
   pub mark-done : left ≤ 0 → ms ≡ all
@@ -378,107 +397,164 @@ change-unmarked a sheet ms here len k m b h c e f z =
         ∙ unmarked ms (take len (drop here a)) (changeNamesAt sheet k) c
         (ap (λ (x : ℕ). isMarked ms x) (sym (of-there a here len h) ∙ sym e) ∙ sym f ∙ not-true b z)
 
--- what the walk has listed, and what is left to do
+-- what the walk has listed, and what is left to do: some changes have no tag yet
 pub record Walking (table : List ℕ) (at n : ℕ) (sheet : List ℕ) (k : ℕ) (list₀ places₀ list places : List ℕ) (place passed words left : ℕ) : Type 0 where
-  pub few : passed + left ≤ 1000
-  pub short : words ≤ 3 * passed
+  pub more : ℕ
+  pub room : words + 3 * more ≡ 3 * k
+  pub few : k ≤ 64
+  pub number : passed + left ≡ n
   pub long : length list ≡ length list₀
   pub wide : length places ≡ length places₀
-  pub stored : sets list words (listedBy (changeFound sheet k) left table place passed .words) ≡ sets list₀ 0 (listedIn table at n sheet k .words)
-  pub count : words + length (listedBy (changeFound sheet k) left table place passed .words) ≡ length (listedIn table at n sheet k .words)
-  pub tags : listedBy (changeFound sheet k) left table place passed .tags ≡ listedIn table at n sheet k .tags
-  pub end : listedBy (changeFound sheet k) left table place passed .end ≡ listedIn table at n sheet k .end
-  pub walk : walked (changeFound sheet k) left table place places ≡ walked (changeFound sheet k) n table at places₀
+  pub stored : sets list words (listedTo (changeFound sheet k) more left table place passed) ≡ sets list₀ 0
+      (listedTo (changeFound sheet k) k n table at 0)
+  pub count : words + length (listedTo (changeFound sheet k) more left table place passed) ≡ length (listedTo (changeFound sheet k) k n table at 0)
+  pub walk : walkedTo (changeFound sheet k) more left table place places ≡ walkedTo (changeFound sheet k) k n table at places₀
 
 module _ (table : List ℕ) (at n : ℕ) (sheet : List ℕ) (k : ℕ) (list₀ places₀ : List ℕ) where
-  pub walking-start : n ≤ 1000 → Walking table at n sheet k list₀ places₀ list₀ places₀ at 0 0 n
-  walking-start h =
-      record { few = omega arith; short = omega arith; long = refl; wide = refl; stored = refl; count = omega arith; tags = refl; end = refl; walk = refl }
+  pub walking-start : k ≤ 64 → Walking table at n sheet k list₀ places₀ list₀ places₀ at 0 0 n
+  walking-start h = record {
+    more = k;
+    room = omega arith;
+    few = h;
+    number = omega arith;
+    long = refl;
+    wide = refl;
+    stored = refl;
+    count = omega arith;
+    walk = refl;
+  }
 
   module _ (list places : List ℕ) (place passed words left : ℕ) (w : Walking table at n sheet k list₀ places₀ list places place passed words left) where
-    pub walking-short : words ≤ 3000
-    walking-short = let a = w .few in let b = w .short in omega arith
+    pub walking-short : words ≤ 192
+    walking-short = let a = w .room in let b = w .few in omega arith
 
-    pub walking-fits : 0 < left → Fits w64 (passed + 1)
-    walking-fits h = let a = w .few in record { fits = omega arith }
+    pub walking-fits : n < 2 ^ 64 → 0 < left → Fits w64 (passed + 1)
+    walking-fits l h = let a = w .number in record { fits = omega arith }
 
     -- nothing is left
-    told : listedBy (changeFound sheet k) left table place passed ≡ listing [] passed place
-        → record { changes = k; words = words; tags = passed; end = place } ≡ walkOf k (listedIn table at n sheet k)
-    unfolding walkOf
-    told e =
-        let a : words ≡ length (listedIn table at n sheet k .words) = let c = w .count in let d = ap (λ (z : Listed). length (z .words)) e in omega arith in
-        let b : passed ≡ listedIn table at n sheet k .tags = sym (ap (λ (z : Listed). z .tags) e) ∙ w .tags in
-        let c : place ≡ listedIn table at n sheet k .end = sym (ap (λ (z : Listed). z .end) e) ∙ w .end in
-        cc
+    module _ (e : listedTo (changeFound sheet k) (w .more) left table place passed ≡ [])
+        (f : walkedTo (changeFound sheet k) (w .more) left table place places ≡ places) where
+      told : words ≡ length (listedTo (changeFound sheet k) k n table at 0)
+      told = let a = w .count in let b = ap length e in omega arith
 
-    listed : listedBy (changeFound sheet k) left table place passed ≡ listing [] passed place → list ≡ sets list₀ 0 (listedIn table at n sheet k .words)
-    listed e = sym (ap (λ (z : Listed). sets list words (z .words)) e) ∙ w .stored
+      listed : list ≡ sets list₀ 0 (listedTo (changeFound sheet k) k n table at 0)
+      listed = sym (ap (λ (l : List ℕ). sets list words l) e) ∙ w .stored
 
-    none-left : left ≤ 0 → listedBy (changeFound sheet k) left table place passed ≡ listing [] passed place
-    none-left h = let a : left ≡ 0 = omega arith in rw a (list-end (changeFound sheet k) table place passed)
+      noted-all : places ≡ walkedTo (changeFound sheet k) k n table at places₀
+      noted-all = sym f ∙ w .walk
 
-    pub told-done : left ≤ 0 → record { changes = k; words = words; tags = passed; end = place } ≡ walkOf k (listedIn table at n sheet k)
-    told-done h = told (none-left h)
+    module _ (h : left ≤ 0) where
+      no-left : left ≡ 0
+      no-left = omega arith
 
-    pub listed-done : left ≤ 0 → list ≡ sets list₀ 0 (listedIn table at n sheet k .words)
-    listed-done h = listed (none-left h)
+      done-list : listedTo (changeFound sheet k) (w .more) left table place passed ≡ []
+      done-list = rw no-left (Listed.to-end (changeFound sheet k) (w .more) table place passed)
 
-    pub places-done : left ≤ 0 → places ≡ walked (changeFound sheet k) n table at places₀
-    places-done h = walk-done table sheet k place left places _ h (w .walk)
+      done-walk : walkedTo (changeFound sheet k) (w .more) left table place places ≡ places
+      done-walk = rw no-left (to-end (changeFound sheet k) (w .more) table place places)
+
+      pub told-done : words ≡ length (listedTo (changeFound sheet k) k n table at 0)
+      told-done = told done-list done-walk
+
+      pub listed-done : list ≡ sets list₀ 0 (listedTo (changeFound sheet k) k n table at 0)
+      listed-done = listed done-list done-walk
+
+      pub places-done : places ≡ walkedTo (changeFound sheet k) k n table at places₀
+      places-done = noted-all done-list done-walk
+
+    module _ (h : words ≡ 3 * k) where
+      no-more : w .more ≡ 0
+      no-more = let a = w .room in omega arith
+
+      full-list : listedTo (changeFound sheet k) (w .more) left table place passed ≡ []
+      full-list = rw no-more (Listed.to-all (changeFound sheet k) left table place passed)
+
+      full-walk : walkedTo (changeFound sheet k) (w .more) left table place places ≡ places
+      full-walk = rw no-more (to-all (changeFound sheet k) left table place places)
+
+      pub told-full : words ≡ length (listedTo (changeFound sheet k) k n table at 0)
+      told-full = told full-list full-walk
+
+      pub listed-full : list ≡ sets list₀ 0 (listedTo (changeFound sheet k) k n table at 0)
+      listed-full = listed full-list full-walk
+
+      pub places-full : places ≡ walkedTo (changeFound sheet k) k n table at places₀
+      places-full = noted-all full-list full-walk
 
     module _ (r : RowPlace) (e : r ≡ rowOf place (rowName row.Tag (drop place table))) (f : r ≡ rowPlace.Broken) where
-      none-whole : (l : ℕ) → listedBy (changeFound sheet k) l table place passed ≡ listing [] passed place
-      none-whole zero = list-end (changeFound sheet k) table place passed
-      none-whole (suc l) = list-broken (changeFound sheet k) l table place passed
-          (row-broken (rowName row.Tag (drop place table)) place (sym e ∙ f))
+      broken : rowName row.Tag (drop place table) ≡ bad
+      broken = row-broken (rowName row.Tag (drop place table)) place (sym e ∙ f)
 
-      pub told-stop : record { changes = k; words = words; tags = passed; end = place } ≡ walkOf k (listedIn table at n sheet k)
-      told-stop = told (none-whole left)
+      stop-list : listedTo (changeFound sheet k) (w .more) left table place passed ≡ []
+      stop-list = Listed.to-broken (changeFound sheet k) (w .more) left table place passed broken
 
-      pub listed-stop : list ≡ sets list₀ 0 (listedIn table at n sheet k .words)
-      listed-stop = listed (none-whole left)
+      stop-walk : walkedTo (changeFound sheet k) (w .more) left table place places ≡ places
+      stop-walk = to-broken (changeFound sheet k) (w .more) left table place places broken
 
-      pub places-stop : places ≡ walked (changeFound sheet k) n table at places₀
-      places-stop = walk-stop table sheet k place left places _ r e f (w .walk)
+      pub told-stop : words ≡ length (listedTo (changeFound sheet k) k n table at 0)
+      told-stop = told stop-list stop-walk
 
-    pub walking-step : (ls qs : List ℕ) (len end z : ℕ) (r : RowPlace) (f : NameFound) → 0 < left
+      pub listed-stop : list ≡ sets list₀ 0 (listedTo (changeFound sheet k) k n table at 0)
+      listed-stop = listed stop-list stop-walk
+
+      pub places-stop : places ≡ walkedTo (changeFound sheet k) k n table at places₀
+      places-stop = noted-all stop-list stop-walk
+
+    pub walking-step : (ls qs : List ℕ) (len end z : ℕ) (r : RowPlace) (f : NameFound) → 0 < left → (words ≡ 3 * k → ⊥)
         → r ≡ rowOf place (rowName row.Tag (drop place table)) → r ≡ rowPlace.Whole len end
         → f ≡ findName table (place + 1) len sheet 1 k row.Change → z ≡ words + length (wordsFor f passed place)
         → ls ≡ sets list words (wordsFor f passed place) → qs ≡ noted places f place
         → Walking table at n sheet k list₀ places₀ ls qs end (passed + 1) z (left - 1)
-    unfolding ahead
-    walking-step ls qs len end z r f h a b c d e g =
+    walking-step ls qs len end z r f h u a b c d e g =
         let (x, m, q, o) = row-parts row.Tag table place len end (sym a ∙ b) in
         let v : f ≡ changeFound sheet k (take len (drop (place + 1) table)) = c ∙ find-there table sheet (place + 1) len 1 k row.Change x in
-        let rest : listedBy (changeFound sheet k) left table place passed ≡ ahead (wordsFor f passed place)
-        (listedBy (changeFound sheet k) (left - 1) table end (passed + 1)) =
-        rw (v, o) (more left h m (take len (drop (place + 1) table)) q) in
+        let some : 0 < w .more = more-left (w .more) (w .room) in
+        let rest : listedTo (changeFound sheet k) (w .more) left table place passed ≡ wordsFor f passed place
+        ++ listedTo (changeFound sheet k) (leftAfter f (w .more)) (left - 1) table end (passed + 1) =
+        rw (v, o) (more-listed (w .more) left some h m (take len (drop (place + 1) table)) q) in
+        let walks : walkedTo (changeFound sheet k) (w .more) left table place places ≡ walkedTo (changeFound sheet k) (leftAfter f (w .more)) (left - 1)
+        table end (noted places f place) = rw (v, o) (more-walked (w .more) left some h m (take len (drop (place + 1) table)) q) in
         let i : length qs ≡ length places = ap length g ∙ noted-length places f place in
         let j : length ls ≡ length list = ap length e ∙ length-sets list words (wordsFor f passed place) in
-        let s = words-short f passed place in
-        let t = w .few in
-        let u = w .short in
+        let s = after-words f passed place (w .more) some in
+        let t = w .room in
         let y = w .count in
-        let l = ap (λ (z : Listed). length (z .words)) rest
-        ∙ length-append (wordsFor f passed place) (listedBy (changeFound sheet k) (left - 1) table end (passed + 1) .words) in
+        let p = w .number in
+        let l = ap length rest ∙ length-append (wordsFor f passed place) (listedTo (changeFound sheet k) (leftAfter f (w .more)) (left - 1) table end
+        (passed + 1)) in
         record {
-          few = omega arith;
-          short = omega arith;
+          more = leftAfter f (w .more);
+          room = omega arith;
+          few = w .few;
+          number = omega arith;
           long = j ∙ w .long;
           wide = i ∙ w .wide;
-          stored = rw (e, d) (sym (sets-append list words (wordsFor f passed place) _) ∙ sym (ap (λ (z : Listed). sets list words (z .words)) rest) ∙ w .stored);
+          stored = rw (e, d) (sym (sets-append list words (wordsFor f passed place) _) ∙ sym (ap (λ (l : List ℕ). sets list words l) rest) ∙ w .stored);
           count = omega arith;
-          tags = sym (ap (λ (z : Listed). z .tags) rest) ∙ w .tags;
-          end = sym (ap (λ (z : Listed). z .end) rest) ∙ w .end;
-          walk = walk-step table sheet k place left places qs _ len end r f h a b c g (w .walk);
+          walk = rw g (sym walks ∙ w .walk);
         }
       where
-        more : (l : ℕ) → 0 < l → (m : ℕ) (v : List ℕ) → rowName row.Tag (drop place table) ≡ good v m
-            → listedBy (changeFound sheet k) l table place passed ≡ ahead (wordsFor (changeFound sheet k v) passed place)
-            (listedBy (changeFound sheet k) (l - 1) table (place + m) (passed + 1))
-        more zero h m v e = absurd (omega arith)
-        more (suc l) h m v e = let j : suc l - 1 ≡ l = omega arith in rw j (list-more (changeFound sheet k) l table place passed v m e)
+        more-left : (j : ℕ) → words + 3 * j ≡ 3 * k → 0 < j
+        more-left zero o = absurd (u (omega arith))
+        more-left (suc j) o = omega arith
+
+        more-listed : (j l : ℕ) → 0 < j → 0 < l → (m : ℕ) (v : List ℕ) → rowName row.Tag (drop place table) ≡ good v m
+            → listedTo (changeFound sheet k) j l table place passed ≡ wordsFor (changeFound sheet k v) passed place
+            ++ listedTo (changeFound sheet k) (leftAfter (changeFound sheet k v) j) (l - 1) table (place + m) (passed + 1)
+        more-listed zero l h i m v e = absurd (omega arith)
+        more-listed (suc j) zero h i m v e = absurd (omega arith)
+        more-listed (suc j) (suc l) h i m v e =
+            let o : suc l - 1 ≡ l = omega arith in
+            rw o (Listed.to-more (changeFound sheet k) j l table place passed v m e)
+
+        more-walked : (j l : ℕ) → 0 < j → 0 < l → (m : ℕ) (v : List ℕ) → rowName row.Tag (drop place table) ≡ good v m
+            → walkedTo (changeFound sheet k) j l table place places ≡ walkedTo (changeFound sheet k) (leftAfter (changeFound sheet k v) j) (l - 1)
+            table (place + m) (noted places (changeFound sheet k v) place)
+        more-walked zero l h i m v e = absurd (omega arith)
+        more-walked (suc j) zero h i m v e = absurd (omega arith)
+        more-walked (suc j) (suc l) h i m v e =
+            let o : suc l - 1 ≡ l = omega arith in
+            rw o (to-more (changeFound sheet k) j l table place places v m e)
 
 pub ruleset laws = (
   needs,
@@ -499,6 +575,9 @@ pub ruleset laws = (
   told-done,
   listed-done,
   places-done,
+  told-full,
+  listed-full,
+  places-full,
   told-stop,
   listed-stop,
   places-stop,

@@ -1,5 +1,5 @@
 -- Where the tags that a sheet names stand in the table, and where the changes that name a tag stand in the sheet.
-use Prim.Native.Nat.{ℕ, zero, suc, _+_, _<_, _≤_}
+use Prim.Native.Nat.{ℕ, zero, suc, _+_, _-_, _<_, _≤_}
 use mathlib.Core.Path.{_≡_}
 use mathlib.Core.Bool.{cond}
 use mathlib.Core.List.{List, [], _∷_, _++_, map}
@@ -7,7 +7,6 @@ use lib.ListN.{length, drop, getD, set}
 use lib.Seq.{sets}
 use lib.Dec.{eqb, ltb}
 use Rattle.marks.specs.Marks.{markFor, withMark}
-use Rattle.layout.specs.Recording.{mostTags}
 use Rattle.layout.specs.Reading.{bad, good}
 use Rattle.layout.specs.Saving.{mostChanges}
 use Rattle.rows.specs.Rows.{rowName}
@@ -15,7 +14,6 @@ use Rattle.names.specs.Names.{names, found}
 use Rattle.rows.specs.declared.Row.the-variants as row
 use Rattle.names.specs.declared.NameFound.{NameFound}
 use Rattle.names.specs.declared.NameFound.the-variants as found
-use Rattle.places.specs.declared.Walk.{Walk}
 
 -- ── Places by names ──
 
@@ -81,37 +79,57 @@ listedBy change (suc n) t at i =
 abbrev pub listedIn : (table : List ℕ) → (at n : ℕ) → (sheet : List ℕ) → (changes : ℕ) → Listed
 listedIn table at n sheet k = listedBy (changeFound sheet k) n table at 0
 
+-- how many changes have no tag yet
+unfoldable pub leftAfter : NameFound → (changes : ℕ) → ℕ
+leftAfter (found.At c p) k = k - 1
+leftAfter found.Nothing k = k
+
+-- the words of the first tags that changes name, as many tags as there are changes
+unfoldable pub listedTo : (change : List ℕ → NameFound) → (changes : ℕ) → ℕ → (table : List ℕ) → (at number : ℕ) → List ℕ
+listedTo change k zero t at i = []
+listedTo change zero (suc n) t at i = []
+listedTo change (suc k) (suc n) t at i =
+    elim (rowName row.Tag (drop at t)) [
+      | bad ↦ []
+      | good name m ↦ wordsFor (change name) i at
+          ++ listedTo change (leftAfter (change name) (suc k)) n t (at + m) (i + 1)
+    ]
+
 -- a tag's place, stored for the change that was found for it, unless that has one
 unfoldable pub noted : (ps : List ℕ) → NameFound → (tag : ℕ) → List ℕ
 noted ps (found.At i p) tag = cond (eqb (getD ps i 0) 0) (set ps i tag) ps
 noted ps found.Nothing tag = ps
 
--- the places of all tags, each stored for its change
-unfoldable pub walked : (change : List ℕ → NameFound) → ℕ → (table : List ℕ) → (at : ℕ) → (ps : List ℕ) → List ℕ
-walked change zero t at ps = ps
-walked change (suc n) t at ps =
-    elim (rowName row.Tag (drop at t)) [ bad ↦ ps | good name m ↦ walked change n t (at + m) (noted ps (change name) at) ]
+-- the places of these tags, each stored for its change
+unfoldable pub walkedTo : (change : List ℕ → NameFound) → (changes : ℕ) → ℕ → (table : List ℕ) → (at : ℕ) → (ps : List ℕ) → List ℕ
+walkedTo change k zero t at ps = ps
+walkedTo change zero (suc n) t at ps = ps
+walkedTo change (suc k) (suc n) t at ps =
+    elim (rowName row.Tag (drop at t)) [
+      | bad ↦ ps
+      | good name m ↦ walkedTo change (leftAfter (change name) (suc k)) n t (at + m)
+          (noted ps (change name) at)
+    ]
 
--- for how many changes a list is, how long it is, and what it says of the table
-unfoldable pub walkOf : (changes : ℕ) → Listed → Walk
-walkOf k l = record { changes = k; words = length (l .words); tags = l .tags; end = l .end }
-
--- what the walk answers, the list of the tags that changes name, and for each change the place of its tag
+-- how many words are listed, the list, and for each change the place of its tag
 pub record Placing : Type 0 where
-  pub walk : Walk
+  pub words : ℕ
   pub list : List ℕ
   pub places : List ℕ
 
-abbrev pub placing : Walk → (list places : List ℕ) → Placing
-placing walk list places = record { walk = walk; list = list; places = places }
+abbrev pub placing : (words : ℕ) → (list places : List ℕ) → Placing
+placing words list places = record { words = words; list = list; places = places }
 
--- as much of the list as there is room for; of more than 1,000 tags or 64 changes nothing is stored
+-- the tags of the changes that are whole; of the list as much as there is room for; of more than 64 changes nothing is stored
+unfoldable pub placedFor : (changes : ℕ) → (table : List ℕ) → (at n : ℕ) → (sheet list places : List ℕ) → Placing
+placedFor k table at n sheet list places =
+    placing (length (listedTo (changeFound sheet k) k n table at 0)) (sets list 0 (listedTo (changeFound sheet k) k n table at 0))
+    (walkedTo (changeFound sheet k) k n table at places)
+
 unfoldable pub placedBy : (table : List ℕ) → (at n : ℕ) → (sheet list places : List ℕ) → Placing
 placedBy table at n sheet list places =
-    cond (ltb mostTags n) (placing (walkOf 0 (listing [] 0 at)) list places)
-    (cond (ltb mostChanges (length places)) (placing (walkOf 0 (listing [] 0 at)) list places)
-    (placing (walkOf (length (changeNamesAt sheet (length places))) (listedIn table at n sheet (length places))) (sets list 0 (listedIn table at n sheet (length places) .words))
-    (walked (changeFound sheet (length places)) n table at places)))
+    cond (ltb mostChanges (length places)) (placing 0 list places)
+    (placedFor (length (changeNamesAt sheet (length places))) table at n sheet list places)
 
 -- ── As the code finds them ──
 

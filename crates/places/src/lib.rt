@@ -13,19 +13,10 @@ ghost use Rattle.marks.specs.Marks.{markFor, markOf};
 ghost use Rattle.layout.specs.Recording.{among};
 ghost use Rattle.rows.specs.Rows.{rowName};
 ghost use Rattle.names.specs.Names.{names, findName, covers};
-ghost use Rattle.places.specs.Places.{noted, walked, changeFound, changeNamesAt, allMarked, changeMark, changeStart, stored, Known, wordsFor, listedIn, walkOf, placing, placedBy};
+ghost use Rattle.places.specs.Places.{noted, walkedTo, changeFound, changeNamesAt, allMarked, changeMark, changeStart, stored, Known, wordsFor, listedTo, placing, placedBy};
 
 // How many words a list has room for, so that it holds the tags of as many changes as a sheet has.
 pub const WORDS: usize = 192;
-
-// What the walk of a table finds: how many changes, which are whole, it looked for; how many words the list of the tags takes that they name; how many tags
-// are whole, and where they end.
-pub struct Walk {
-    pub changes: usize,
-    pub words: usize,
-    pub tags: usize,
-    pub end: usize,
-}
 
 // Stores a word, where there is room for it.
 fn store(list: &mut [usize], at: usize, word: usize)
@@ -38,7 +29,7 @@ fn store(list: &mut [usize], at: usize, word: usize)
 
 // Lists a tag for which a change was found: its number, its place, and the place of the change. Where the list ends then.
 fn list_tag(list: &mut [usize], at: usize, found: NameFound, number: usize, tag: usize) -> usize
-    requires { ⌜ at ≤ 3000 ⌝ }
+    requires { ⌜ at ≤ 192 ⌝ }
     ensures { λ r. ⌜ (r ≡ at + length (wordsFor found number tag)) × (now (list .exit) ≡ sets (now (list .entry)) at (wordsFor found number tag)) ⌝ }
 {
     let NameFound::At(_, change) = found else {
@@ -167,7 +158,8 @@ fn find_change(
     search_changes(table, here, len, mark, sheet, changes, marks, starts)
 }
 
-// Walks the table once for all changes: lists the tags that they name, and notes for each change where its tag stands.
+// Walks the table once for all changes, until each has its tag: lists the tags that they name, and notes for each change where its tag stands. How many words
+// are listed.
 fn find_tags(
     table: &[u8],
     at: usize,
@@ -179,23 +171,21 @@ fn find_tags(
     starts: &[usize],
     list: &mut [usize],
     places: &mut [usize],
-) -> Walk
-    requires { ⌜ (n ≤ 1000) × (covers (now filter) (changeNamesAt (now sheet) changes) ≡ true) × Known (now sheet) 1 changes (now marks) (now starts) 0 ⌝ }
-    ensures { λ r. ⌜ (r ≡ walkOf changes (listedIn (now (table .entry)) at n (now (sheet .entry)) changes)) × (now (list .exit) ≡ sets (now (list .entry)) 0 (listedIn (now (table .entry)) at n (now (sheet .entry)) changes .words)) × (now (places .exit) ≡ walked (changeFound (now (sheet .entry)) changes) n (now (table .entry)) at (now (places .entry))) ⌝ }
+) -> usize
+    requires { ⌜ (changes ≤ 64) × (covers (now filter) (changeNamesAt (now sheet) changes) ≡ true) × Known (now sheet) 1 changes (now marks) (now starts) 0 ⌝ }
+    ensures { λ r. ⌜ (r ≡ length (listedTo (changeFound (now (sheet .entry)) changes) changes n (now (table .entry)) at 0)) × (now (list .exit) ≡ sets (now (list .entry)) 0 (listedTo (changeFound (now (sheet .entry)) changes) changes n (now (table .entry)) at 0)) × (now (places .exit) ≡ walkedTo (changeFound (now (sheet .entry)) changes) changes n (now (table .entry)) at (now (places .entry))) ⌝ }
 {
     let mut place = at;
     let mut passed = 0;
     let mut words = 0;
     let mut left = n;
     while 0 < left {
+        if words == 3 * changes {
+            return words;
+        }
         let row = rows::row_at(table, place, Row::Tag);
         let RowPlace::Whole(len, end) = row else {
-            return Walk {
-                changes,
-                words,
-                tags: passed,
-                end: place,
-            };
+            return words;
         };
         let found = find_change(table, place + 1, len, sheet, changes, filter, marks, starts);
         words = list_tag(list, words, found, passed, place);
@@ -204,16 +194,12 @@ fn find_tags(
         passed += 1;
         left -= 1;
     }
-    Walk {
-        changes,
-        words,
-        tags: passed,
-        end: place,
-    }
+    words
 }
 
 // Of n tags of the table, from `at` on, lists those that changes name, in the table's order, as far as `list` has room; for as many changes as `places` has,
-// where the tag of each stands in the table; 0 for none.
+// where the tag of each stands in the table; 0 for none. It ends with as many tags as there are changes: no two tags of a table have one name. How many words
+// are listed.
 pub fn place_tags(
     table: &[u8],
     at: usize,
@@ -221,24 +207,11 @@ pub fn place_tags(
     sheet: &[u8],
     list: &mut [usize],
     places: &mut [usize],
-) -> Walk
+) -> usize
     ensures { λ r. ⌜ placing r (now (list .exit)) (now (places .exit)) ≡ placedBy (now (table .entry)) at n (now (sheet .entry)) (now (list .entry)) (now (places .entry)) ⌝ }
 {
-    if Header::MOST_TAGS < n {
-        return Walk {
-            changes: 0,
-            words: 0,
-            tags: 0,
-            end: at,
-        };
-    }
     if Header::MOST_CHANGES < places.len() {
-        return Walk {
-            changes: 0,
-            words: 0,
-            tags: 0,
-            end: at,
-        };
+        return 0;
     }
     let mut filter = [0; marks::MARKS];
     let mut marks = [0; Header::MOST_CHANGES];

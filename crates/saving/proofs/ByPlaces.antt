@@ -27,10 +27,9 @@ use lib.Dec.{eqb, ltb}
 use Rattle.names.proofs.Finding.{same-sym}
 use Rattle.pieces.specs.Added.{changedEntry, keptBy, newBy, addedBy}
 use Rattle.apply.specs.Applied.{keptFrom, tagsBy}
-use Rattle.places.specs.Places.{placeFound, tagNamesAt, changeNamesAt, changePlace, tagPlace, namedIn, Lists, Placed}
-use Rattle.places.specs.declared.Walk.{Walk}
-use Rattle.places.proofs.Finding.{found-more, found-none, no-found, names-more, names-none, no-names, names-whole, found-parts}
-use Rattle.places.proofs.Walks.{changes-whole}
+use Rattle.places.specs.Places.{placeFound, tagNamesAt, changePlace, tagPlace, namedIn, Lists, Placed}
+use Rattle.apply.specs.declared.Walk.{Walk}
+use Rattle.places.proofs.Finding.{found-more, found-none, no-found, names-more, names-none, no-names, found-parts}
 
 -- ── Rows found by their name ──
 
@@ -220,16 +219,10 @@ unfolding flatMap keptTags
 kept-same sheet k [] = refl
 kept-same sheet k (t ∷ ts) = rw (kept-by-place sheet k t, kept-same sheet k ts)
 
--- what is kept of the tags that are whole, by the changes that are
-kept-all : (table : List ℕ) (at n : ℕ) (sheet : List ℕ) (k tags changes : ℕ) → tags ≡ length (tagNamesAt table at n)
-    → changes ≡ length (changeNamesAt sheet k) → keptFrom table at tags sheet changes ≡ keptTags (changesAt sheet 1 k) (tagsAt table at n)
-unfolding keptFrom addedBy namedIn tagWithName changePlace
-kept-all table at n sheet k tags changes a b =
-    let l = length-map (tagNamesAt table at n) (changePlace sheet k) in
-    let c : namedIn table at tags sheet changes ≡ namedIn table at n sheet k =
-    rw (a, names-whole n (rowName row.Tag) (drop at table), b) (ap (λ (f : List ℕ → NameFound). map (λ name. placeFound (f name)) (tagNamesAt table at n))
-    (changes-whole sheet k)) in
-    rw (c, l, rows-whole row.Tag tagWithName n (drop at table))
+kept-all : (table : List ℕ) (at n : ℕ) (sheet : List ℕ) (k : ℕ) → keptFrom table at n sheet k ≡ keptTags (changesAt sheet 1 k) (tagsAt table at n)
+unfolding keptFrom addedBy namedIn tagWithName
+kept-all table at n sheet k =
+    rw (length-map (tagNamesAt table at n) (changePlace sheet k), rows-whole row.Tag tagWithName n (drop at table))
     (ap (flatMap (keptBy sheet)) (beside-known row.Tag tagWithName (λ t. t .name) (λ v t. refl) (changePlace sheet k) (namedIn table at n sheet k) n
     (drop at table) 0 (mapped-lists (changePlace sheet k) (tagNamesAt table at n))) ∙ kept-same sheet k (tagsAt table at n))
 
@@ -251,11 +244,9 @@ module _ (table : List ℕ) (at n : ℕ) (sheet : List ℕ) (k : ℕ) (ps : List
   placed-changes = beside-known row.Change changeWithName (λ c. c .name) (λ v t. refl) (tagPlace table at n) ps k (drop 1 sheet) 0 (w .lists)
 
   -- the new table by places is the new table
-  pub tags-by : (walk : Walk) → walk .tags ≡ length (tagNamesAt table at n) → walk .changes ≡ length (changeNamesAt sheet k)
-      → tagsBy table at walk sheet ps ≡ applied (changesAt sheet 1 k) (tagsAt table at n)
+  pub tags-by : (walk : Walk) → walk .tags ≡ n → walk .changes ≡ k → tagsBy table at walk sheet ps ≡ applied (changesAt sheet 1 k) (tagsAt table at n)
   unfolding tagsBy addedBy applied
-  tags-by walk a b =
-      rw (kept-all table at n sheet k (walk .tags) (walk .changes) a b, m, placed-changes, new-same table at n (w .behind) (changesAt sheet 1 k))
+  tags-by walk a b = rw (a, b, kept-all table at n sheet k, m, placed-changes, new-same table at n (w .behind) (changesAt sheet 1 k))
 
   -- the look by places is the look
   pub looks-by : lookOf table sheet ps ≡ lookedAt table at n sheet k

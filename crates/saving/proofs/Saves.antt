@@ -5,7 +5,7 @@ use native.Mathlib.Omega.{arith}
 use mathlib.Core.Path.{_≡_, refl, ap, sym, _∙_}
 use mathlib.Core.Bool.{Bool, true, false, cond}
 use mathlib.Core.List.{List, [], _∷_, append-nil}
-use lib.ListN.{length, take, drop, replicate, length-replicate, getD-replicate}
+use lib.ListN.{length, take, drop, replicate, length-drop, length-replicate, getD-replicate}
 use lib.Seq.{length-take-le, getD-take}
 use lib.Dec.{ltb, leb}
 use borrow.Author.Needs.{needs}
@@ -25,9 +25,9 @@ use Rattle.names.specs.Names.{distinctNames}
 use Rattle.rows.specs.Rows.{rowName}
 use Rattle.rows.specs.declared.Row.the-variants as row
 use Rattle.parts.proofs.Taken.{then-parts, only-parts}
-use Rattle.names.proofs.Readers.{distinct-tags, distinct-changes}
+use Rattle.names.proofs.Readers.{tag-row, distinct-tags, distinct-changes}
 use Rattle.tables.proofs.Places.{table-read}
-use Rattle.parts.proofs.Times.{times-length}
+use Rattle.parts.proofs.Times.{times-length, times-led}
 use Rattle.opening.specs.Opened.{openOf, openRefusal, heldOf}
 use Rattle.opening.specs.declared.Held.{Held}
 use Rattle.opening.specs.declared.Opening.{Opening}
@@ -38,8 +38,7 @@ use Rattle.sheet.specs.Rows.{tagsAt, changesAt}
 use Rattle.refusal.specs.Refusal.{placed, plain}
 use Rattle.refusal.specs.declared.Refusal.{Refusal}
 use Rattle.saving.specs.Save.{lookedAt, outcome, answerOf, answered, appliedIn, afterLook, savedIn, savedBy, savedAs, saveOf, Legal, Begun}
-use Rattle.places.specs.Places.{Placed, placing, placedBy}
-use Rattle.places.specs.declared.Walk.{Walk}
+use Rattle.places.specs.Places.{changeFound, listing, listedIn, Placed, placing, placedBy}
 use Rattle.look.specs.Look.{lookOf}
 use Rattle.apply.specs.Applied.{applying, appliedTo, tagsBy}
 use Rattle.apply.specs.Runs.{Leads}
@@ -53,8 +52,8 @@ use Rattle.look.specs.declared.Looked.the-variants as looked
 use Rattle.saving.specs.declared.Saved.{Saved}
 use Rattle.saving.specs.declared.Saved.the-variants as saved
 use Rattle.saving.proofs.ByPlaces.{looked-is, looks-by, tags-by}
-use Rattle.places.proofs.Finding.{names-few}
-use Rattle.places.proofs.Walks.{tags-placed, places-long, walk-tags, walk-changes, list-there, tags-listed}
+use Rattle.places.proofs.Listed.{list-read}
+use Rattle.places.proofs.Walks.{tags-placed, places-long, list-there, tags-listed}
 use Rattle.sheet.proofs.Legal.{tags-are, changes-are}
 
 -- ── A save's answer ──
@@ -159,14 +158,14 @@ conflict-some false p q e = let z : _≡_ {A = ℕ} 0 1 = cc in absurd (omega ar
 -- ── A file that opens ──
 
 -- its user table
-user-table : (f : List ℕ) → refusal f ≡ 0 → (m : ℕ) × (table (drop (userOffset f) f) ≡ good (userTags f) m)
+user-table : (f : List ℕ) → refusal f ≡ 0 → (m : ℕ) × (table (drop (userOffset f) f) ≡ good (userTags f) m) × (m ≡ length (drop (userOffset f) f))
 unfolding userTags shown badUser readUser valueOr
 user-table f o = go (exactly table (drop (userOffset f) f)) refl (opens-passes f o .user)
   where
     go : (p : Parsed (List Tag)) → exactly table (drop (userOffset f) f) ≡ p → isBad p ≡ false
-        → (m : ℕ) × (table (drop (userOffset f) f) ≡ good (valueOr [] p) m)
+        → (m : ℕ) × (table (drop (userOffset f) f) ≡ good (valueOr [] p) m) × (m ≡ length (drop (userOffset f) f))
     go bad e b = let z : _≡_ {A = ℕ} 0 1 = cc in absurd (omega arith)
-    go (good ts n) e b = (n, exactly-good table (drop (userOffset f) f) ts n e .0)
+    go (good ts n) e b = let (x, y) = exactly-good table (drop (userOffset f) f) ts n e in (n, x, y)
 
 table-few : (t : List ℕ) (ts : List Tag) (m : ℕ) → table t ≡ good ts m → length ts ≤ 1000
 unfolding table
@@ -186,10 +185,12 @@ module _ (f : List ℕ) (o : Opening) (held : Held) (e : o ≡ openOf f) (g : o 
   opens = open-opens f held (sym e ∙ g)
 
   tags-found : (held .user + 4 ≤ length f) × (held .«user_tags» ≤ 1000) × (tagsAt f (held .user + 4) (held .«user_tags») ≡ userTags f)
-      × (distinctNames f (held .user + 4) (held .«user_tags») row.Tag ≡ true)
-  unfolding heldOf userTags
+      × (distinctNames f (held .user + 4) (held .«user_tags») row.Tag ≡ true) × (m : ℕ)
+      × (times (held .«user_tags») (rowName row.Tag) (drop (held .user + 4) f) ≡ good (tagNames (userTags f)) m) × (held .user + 4 + m ≡ length f)
+  unfolding heldOf userTags tagNames
   tags-found =
-      let (m, p) = user-table f (opens .0) in
+      let (m, p, g) = user-table f (opens .0) in
+      let h = length-drop (userOffset f) f in
       let u : held .user ≡ userOffset f = ap (λ (z : Held). z .user) (opens .1) in
       let n : held .«user_tags» ≡ length (userTags f) = ap (λ (z : Held). z .«user_tags») (opens .1) in
       let l = table-few (drop (userOffset f) f) (userTags f) m p in
@@ -199,6 +200,9 @@ module _ (f : List ℕ) (o : Opening) (held : Held) (e : o ≡ openOf f) (g : o 
         omega arith,
         rw (u, n) (tags-are f (userOffset f + 4) (length (userTags f)) k (userTags f) c),
         rw (u, n) (distinct-tags f (userOffset f + 4) (length (userTags f)) k (userTags f) c ∙ q),
+        k,
+        rw (u, n) (times-led tag (rowName row.Tag) (λ t. t .name) tag-row (length (userTags f)) (drop (userOffset f + 4) f) (userTags f) k c),
+        omega arith,
       ))
 
   pub user-fits : length f < 2 ^ 64 → Fits w64 (held .user + 4)
@@ -224,7 +228,10 @@ module _ (f : List ℕ) (o : Opening) (held : Held) (e : o ≡ openOf f) (g : o 
           tags = tags-found .1;
           few = sheet-known bytes s k h i .1;
           behind = omega arith;
-          there = tags-found .0;
+          names = tagNames (userTags f);
+          size = tags-found .4;
+          read = tags-found .5;
+          end = tags-found .6;
           apart = tags-found .3;
           differ = sheet-known bytes s k h i .3;
         }
@@ -271,31 +278,35 @@ pub answer-of-refused : (a : Applied) (n : Refusal) → a ≡ applied.Refused n 
 unfolding answerOf
 answer-of-refused a n e = rw e
 
-module _ (table : List ℕ) (at n : ℕ) (sheet ls₀ ps₀ ls ps : List ℕ) (w : Walk) (b : Begun table at n sheet ls₀ ps₀)
-    (e : placing w ls ps ≡ placedBy table at n sheet ls₀ ps₀) where
+module _ (table : List ℕ) (at n : ℕ) (sheet ls₀ ps₀ ls ps : List ℕ) (words : ℕ) (b : Begun table at n sheet ls₀ ps₀)
+    (e : placing words ls ps ≡ placedBy table at n sheet ls₀ ps₀) where
   tagsPlaced : Placed table at n sheet (length ps₀) ps
-  tagsPlaced = tags-placed table at n sheet ls₀ ps₀ ls ps w (b .legal .tags) (b .legal .few) e (b .legal .behind) (b .blank) (b .legal .differ)
+  tagsPlaced = tags-placed table at n sheet ls₀ ps₀ ls ps words (b .legal .few) (b .legal .apart) e (b .legal .behind) (b .blank) (b .legal .differ)
 
   long : length ps ≡ length ps₀
-  long = places-long table at n sheet ls₀ ps₀ ls ps w (b .legal .tags) (b .legal .few) e
+  long = places-long table at n sheet ls₀ ps₀ ls ps words (b .legal .few) (b .legal .apart) e
 
   pub placed-few : length ps ≤ 64
   placed-few = let a = long in let c = b .legal .few in omega arith
 
-  pub placed-words : w .words ≤ length ls
-  placed-words = list-there table at n sheet ls₀ ps₀ ls ps w (b .legal .tags) (b .legal .few) e (b .room) (b .legal .apart)
+  pub placed-words : words ≤ length ls
+  placed-words = list-there table at n sheet ls₀ ps₀ ls ps words (b .legal .few) (b .legal .apart) e (b .room)
 
-  pub placed-leads : Leads table at 0 w sheet (take (w .words) ls) 0
+  -- the list leads through the table to its end
+  pub placed-leads : Leads table at 0 (record { changes = length ps; words = words; tags = n; end = length table }) sheet (take words ls) 0
   placed-leads =
-      let a = walk-tags table at n sheet ls₀ ps₀ ls ps w (b .legal .tags) (b .legal .few) e in
-      let c = names-few n (rowName row.Tag) (drop at table) in
-      let d = b .legal .tags in
-      let z : w .tags - 0 ≡ w .tags = omega arith in
+      let (a, c) = list-read (changeFound sheet (length ps₀)) n table at 0 (b .legal .names) (b .legal .size) (b .legal .read) in
+      let d = b .legal .end in
+      let z : n - 0 ≡ n = omega arith in
+      let x : listedIn table at n sheet (length ps₀) .tags ≡ n = omega arith in
+      let y : listedIn table at n sheet (length ps₀) .end ≡ length table = omega arith in
       record {
-        there = b .legal .there;
-        few = omega arith;
+        there = omega arith;
+        few = b .legal .tags;
         within = omega arith;
-        listed = rw z (tags-listed table at n sheet ls₀ ps₀ ls ps w (b .legal .tags) (b .legal .few) e (b .room) (b .legal .apart));
+        listed = rw (z, long, tags-listed table at n sheet ls₀ ps₀ ls ps words (b .legal .few) (b .legal .apart) e (b .room))
+            (ap (λ (i : ℕ). listing (listedIn table at n sheet (length ps₀) .words) i (length table)) (sym x)
+            ∙ ap (listing (listedIn table at n sheet (length ps₀) .words) (listedIn table at n sheet (length ps₀) .tags)) (sym y));
       }
 
   module _ (l : Looked) (f : l ≡ lookOf table sheet ps) where
@@ -307,13 +318,13 @@ module _ (table : List ℕ) (at n : ℕ) (sheet ls₀ ps₀ ls ps : List ℕ) (w
     unfolding savedIn afterLook
     placed-conflict out p q g e = rw e (sym (rw (← look-by, g)))
 
-    pub placed-applied : (out o : List ℕ) (a : Applied) (r : Saved) → l ≡ looked.Agrees → applying a o ≡ appliedTo (tagsBy table at w sheet ps) out
+    pub placed-applied : (out o : List ℕ) (a : Applied) (r : Saved) → l ≡ looked.Agrees
+        → applying a o ≡ appliedTo (tagsBy table at (record { changes = length ps; words = words; tags = n; end = length table }) sheet ps) out
         → r ≡ answerOf a → outcome r o ≡ savedIn table at n sheet (length ps₀) out
     unfolding savedIn afterLook appliedIn answered
     placed-applied out o a r g h k =
-        rw (← look-by, g, k) (ap answered (h ∙ ap (λ (ts : List Tag). appliedTo ts out) (tags-by table at n sheet (length ps₀) ps tagsPlaced long w
-        (walk-tags table at n sheet ls₀ ps₀ ls ps w (b .legal .tags) (b .legal .few) e)
-        (walk-changes table at n sheet ls₀ ps₀ ls ps w (b .legal .tags) (b .legal .few) e))))
+        rw (← look-by, g, k) (ap answered (h ∙ ap (λ (ts : List Tag). appliedTo ts out) (tags-by table at n sheet (length ps₀) ps tagsPlaced long
+        (record { changes = length ps; words = words; tags = n; end = length table }) refl long)))
 
 -- places of no tag, as many as there are changes
 changes-long : (k : ℕ) → k ≤ 64 → length (take k (replicate {A = ℕ} 64 0)) ≡ k

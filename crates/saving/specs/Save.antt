@@ -3,11 +3,13 @@ use Prim.Native.Nat.{ℕ, zero, suc, _+_, _*_, _<_, _≤_}
 use mathlib.Core.Path.{_≡_}
 use mathlib.Core.Bool.{true, cond}
 use mathlib.Core.List.{List, [], _∷_}
-use lib.ListN.{length, getD}
+use lib.ListN.{length, drop, getD}
 use lib.Dec.{eqb}
 use Rattle.layout.specs.Recording.{Tag}
+use Rattle.layout.specs.Reading.{good, times}
 use Rattle.layout.specs.Saving.{Change, conflicts, Save, save}
 use Rattle.layout.specs.Saving as Layout
+use Rattle.rows.specs.Rows.{rowName}
 use Rattle.names.specs.Names.{distinctNames}
 use Rattle.rows.specs.declared.Row.the-variants as row
 use Rattle.look.specs.declared.Looked.{Looked}
@@ -71,12 +73,15 @@ savedAs s out = outcome (savedBy (s .refused) s) (filled out (s .table))
 unfoldable pub saveOf : (file sheet out : List ℕ) → Outcome
 saveOf file sheet out = savedAs (save file sheet (length out)) out
 
--- what a save begins with: a table behind the file's start, and a sheet, in each of which the names differ
+-- what a save begins with: a table behind the file's start, whose tags go to the end, and a sheet, in each of which the names differ
 pub record Legal (table : List ℕ) (at n : ℕ) (sheet : List ℕ) (changes : ℕ) : Type 0 where
   pub tags : n ≤ 1000
   pub few : changes ≤ 64
   pub behind : 0 < at
-  pub there : at ≤ length table
+  pub names : List (List ℕ)
+  pub size : ℕ
+  pub read : times n (rowName row.Tag) (drop at table) ≡ good names size
+  pub end : at + size ≡ length table
   pub apart : distinctNames table at n row.Tag ≡ true
   pub differ : distinctNames sheet 1 changes row.Change ≡ true
 

@@ -1,5 +1,6 @@
 // Saving tags: the change sheet, the look at what was seen, and the new user table.
 use apply::Applied;
+use apply::Walk;
 use header::Header;
 use look::Looked;
 use opening::Opening;
@@ -38,12 +39,18 @@ fn look_and_apply(
     requires { ⌜ Begun (now table) at n (now sheet) (now list) (now places) ⌝ }
     ensures { λ r. ⌜ outcome r (now (out .exit)) ≡ savedIn (now (table .entry)) at n (now (sheet .entry)) (length (now (places .entry))) (now (out .entry)) ⌝ }
 {
-    let walk = places::place_tags(table, at, n, sheet, list, places);
+    let words = places::place_tags(table, at, n, sheet, list, places);
     let looked = look::compare(table, sheet, places);
     if let Looked::Conflict(place) = looked {
         let conflict = Refusal::CONFLICT;
         return Saved::Refused(conflict.at(place));
     }
+    let walk = Walk {
+        changes: places.len(),
+        words,
+        tags: n,
+        end: table.len(),
+    };
     answer_of(apply::apply(table, at, walk, sheet, list, places, out))
 }
 

@@ -1,5 +1,5 @@
 use borrow.Author.Needs.{needs}
-use Rattle.places.proofs.Walks.{marks-cover, place-long, place-many, place-few}
+use Rattle.places.proofs.Walks.{marks-cover, place-many, place-few, place-whole}
 use Rattle.places.proofs.Searches.{known-start}
 use Rattle.places.proofs.place_tags.Statement.{statement}
 use Rattle.places.proofs.place_tags.Tie as tie
@@ -9,10 +9,7 @@ use Rattle.places.proofs.find_tags.Reads as find-tags-reads
 use Rattle.places.proofs.mark_names.Reads as mark-names-reads
 
 returns : tie.Need-returns
-returns c = search (needs, place-long)
-
-returns-2 : tie.Need-returns-2
-returns-2 c = search (needs, place-many)
+returns c = search (needs, place-many)
 
 slice-aggregate-mark-names : tie.Need-slice-aggregate-mark-names
 slice-aggregate-mark-names c = search needs
@@ -36,7 +33,7 @@ slice-aggregate-find-tags-3 : tie.Need-slice-aggregate-find-tags-3
 slice-aggregate-find-tags-3 c = search needs
 
 find-tags-requires : tie.Need-find-tags-requires
-find-tags-requires c κs = (search needs, search (needs, marks-cover), search (needs, known-start))
+find-tags-requires c κs = (search (needs, place-whole), search (needs, marks-cover), search (needs, known-start))
 
 same-length : tie.Need-same-length
 same-length c = search needs
@@ -44,15 +41,14 @@ same-length c = search needs
 same-length-2 : tie.Need-same-length-2
 same-length-2 c = search needs
 
-returns-3 : tie.Need-returns-3
-returns-3 c = search (needs, place-few)
+returns-2 : tie.Need-returns-2
+returns-2 c = search (needs, place-few)
 
 pub place-tags-spec : {M : Type 1} → statement M
 place-tags-spec =
     tie.close
     (tie.spec
     returns
-    returns-2
     slice-aggregate-mark-names
     slice-aggregate-mark-names-2
     slice-aggregate-mark-names-3
@@ -63,4 +59,4 @@ place-tags-spec =
     find-tags-requires
     same-length
     same-length-2
-    returns-3)
+    returns-2)
