@@ -13,6 +13,9 @@ ghost use Rattle.layout.specs.Recording.{same, among};
 ghost use Rattle.rows.specs.Rows.{rowName};
 ghost use Rattle.names.specs.Names.{names, findName, distinctNames, covers};
 
+// From so many rows on their names are marked.
+pub const MARKED: usize = 12;
+
 // How many names are looked for in vain: of a thousand usual ones, on average, not one.
 const MOST_SEARCHES: usize = 2;
 
@@ -189,7 +192,7 @@ fn differ_by_marks(s: &[u8], at: usize, n: usize, row: Row) -> bool
 fn few(rows: usize) -> bool
     ensures { λ r. ⌜ r ≡ ltb rows 12 ⌝ }
 {
-    rows < 12
+    rows < MARKED
 }
 
 // "no two are equal"

@@ -83,11 +83,11 @@ fn marked_tags_end(s: &[u8], at: usize, n: usize) -> TagsEnd
     TagsEnd::End(place, apart)
 }
 
-// Where n tags end. Few are not marked: to clear the marks costs more than to compare their names.
+// Where n tags end. The names of few are not marked.
 fn seen_tags_end(s: &[u8], at: usize, n: usize) -> TagsEnd
     ensures { λ r. ⌜ Ends (now (s .entry)) at n r ⌝ }
 {
-    if 11 < n {
+    if names::MARKED <= n {
         return marked_tags_end(s, at, n);
     }
     let tags = tags_end(s, at, n);
