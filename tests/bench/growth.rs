@@ -86,11 +86,11 @@ fn of_tags(report: &mut Report) {
     });
     line(report, "a save of 1 change by tags", "tag", &TAGS, |count| {
         let tags = named(count);
-        (count, saving(&QUICK, &file_with(tags.clone()), &sheet_of(tags[count / 2..].iter().take(1))))
+        (count, saving(&QUICK, &file_with(tags.clone()), &sheet_of(tags[count - 1..].iter())))
     });
     line(report, "a save to 64 tags by changes", "change", &[1, 8, 64], |changes| {
         let tags = named(64);
-        (changes, saving(&QUICK, &file_with(tags.clone()), &sheet_of(tags.iter().take(changes))))
+        (changes, saving(&QUICK, &file_with(tags.clone()), &sheet_of(tags[tags.len() - changes..].iter())))
     });
     line(report, "a begin call by system tags", "tag", &TAGS, |count| (count, beginning(&QUICK, &named(count))));
     line(report, "listing a table by tags", "tag", &TAGS, |count| {

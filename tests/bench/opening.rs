@@ -4,6 +4,7 @@ use crate::build::*;
 use crate::calls;
 use crate::inputs::*;
 use crate::measure::*;
+use crate::random::Random;
 use crate::verdict::*;
 
 pub fn opening(effort: &Effort, file: &[u8]) -> Times {
@@ -73,6 +74,16 @@ pub fn rows_of_frames(report: &mut Report) -> Times {
     beside
 }
 
+/// Of these 1,000 names one has a mark that the others have set: the library walks the table a second time, as every second table of such names.
+fn drawn_name(i: usize) -> String {
+    let mut random = Random::new(114, 0, 0);
+    let mut name = String::new();
+    for _ in 0..=i {
+        name = (0..8).map(|_| (b'A' + random.below(26) as u8) as char).collect();
+    }
+    name
+}
+
 pub fn rows_of_tags(report: &mut Report) {
     let mut row = |names: &str, name: &dyn Fn(usize) -> String| {
         let file = file_with(named_tags(1000, name));
@@ -83,6 +94,7 @@ pub fn rows_of_tags(report: &mut Report) {
     row("OBS0000 to OBS0999", &|i| format!("OBS{:04}", i));
     row("of two letters", &two_letters);
     row("of 255 bytes alike but for the end", &long_name);
+    row("of 8 letters drawn at random", &drawn_name);
 }
 
 /// A table of its own: its other side is no rival.
