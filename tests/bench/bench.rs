@@ -10,6 +10,8 @@ mod calls;
 mod clock;
 mod growth;
 mod inputs;
+#[path = "../compare/marks.rs"]
+mod marks;
 mod measure;
 mod opening;
 #[path = "../compare/random.rs"]

@@ -4,6 +4,7 @@
 use crate::build::*;
 use crate::calls;
 use crate::inputs::*;
+use crate::marks::*;
 use crate::measure::*;
 use crate::random::Random;
 use crate::verdict::*;
@@ -29,34 +30,6 @@ const ATTACKED: [&str; 9] = [
     "second m = m / 2 ^ 19 % 64",
     "third m = m / 2 ^ 13 % 64",
 ];
-
-const FACTOR: u64 = 11_400_715;
-const MARKS: u64 = 1 << 40;
-
-fn mix(mark: u64, word: u64) -> u64 {
-    (mark * FACTOR + word) % MARKS
-}
-
-fn mark(name: &[u8]) -> u64 {
-    let length = name.len();
-    let mixed = if length < 4 {
-        name.iter().fold(0, |so_far, byte| mix(so_far, u64::from(*byte)))
-    } else {
-        let words = name.chunks_exact(4).fold(0, |so_far, word| mix(so_far, number(word, 0, 4)));
-        mix(words, number(name, length - 4, 4))
-    };
-    mix(mix(mixed, length as u64 % 256), 0)
-}
-
-/// Which of the 512 words of the marks a mark stands in.
-fn place(mark: u64) -> usize {
-    (mark >> 31) as usize
-}
-
-/// Its three bits there.
-fn bits(mark: u64) -> u64 {
-    1 << (mark >> 25 & 63) | 1 << (mark >> 19 & 63) | 1 << (mark >> 13 & 63)
-}
 
 fn is_text(bytes: &[u8]) -> bool {
     bytes.iter().all(|byte| matches!(byte, 32..=126))

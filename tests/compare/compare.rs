@@ -9,6 +9,8 @@ mod build;
 mod calls;
 mod files;
 mod limits;
+#[allow(dead_code)]
+mod marks;
 mod random;
 #[path = "../../rust/src/raw.rs"]
 #[allow(dead_code)]
@@ -24,16 +26,17 @@ use std::process::exit;
 
 type Case = fn(&mut Sides, &mut Random);
 
-const ONCE: [(&str, Case); 5] = [
+const ONCE: [(&str, Case); 6] = [
     ("each-byte", files::each_byte),
     ("large-sections", limits::large_sections),
     ("full-tables", limits::full_tables),
     ("large-configurations", limits::large_configurations),
     ("many-frames", limits::many_frames),
+    ("long-recordings", limits::long_recordings),
 ];
 
 /// Each with how many cases it has at a turn: those of few inputs have many.
-const TURNS: [(&str, Case, u64); 24] = [
+const TURNS: [(&str, Case, u64); 25] = [
     ("legal", files::legal, 4),
     ("damaged", files::damaged, 4),
     ("numbers-nudged", files::numbers_nudged, 8),
@@ -56,6 +59,7 @@ const TURNS: [(&str, Case, u64); 24] = [
     ("sheets", tags::sheets, 6),
     ("conflicts", tags::conflicts, 2),
     ("table-full", tags::table_full, 1),
+    ("crowded", tags::crowded, 1),
     ("browsed", tags::browsed, 10),
     ("cursors", tags::cursors, 10),
 ];

@@ -142,3 +142,28 @@ pub fn many_frames(sides: &mut Sides, random: &mut Random) {
         }
     }
 }
+
+/// Recordings of more than 1 MiB, of which repair keeps lengths: of frames of one length, of many lengths, and of one length but for one; of fewer than
+/// 10,000 frames and of more. They are cut here and there, and one time is broken.
+pub fn long_recordings(sides: &mut Sides, random: &mut Random) {
+    let lengths: [fn(usize, usize) -> usize; 4] =
+        [|_, _| 130, |i, _| 100 + 37 * i % 61, |i, frames| if 2 * i == frames { 7 } else { 130 }, |i, _| if i == 0 { 7 } else { 130 }];
+    for frames in [9_998, 10_000, 10_002, 12_000] {
+        for length in lengths {
+            let mut recording = worked();
+            recording.frames = (0..frames)
+                .map(|i| Frame { time: i as i64 / 2, exposure: 40, sections: vec![random.bytes(length(i, frames))] })
+                .collect();
+            let file = recording.file().bytes;
+            sides.open(&file);
+            let unclosed = recording.unclosed().bytes;
+            for cut in [0, 1, 130, 150, 300_000] {
+                let cut_file = &unclosed[..unclosed.len() - cut];
+                sides.repair(cut_file, &random.bytes(16 * frames + 30));
+                sides.repair(cut_file, &random.bytes(16 * frames - 100));
+            }
+            recording.frames[frames - 3].time = -1;
+            sides.repair(&recording.unclosed().bytes, &random.bytes(16 * frames + 30));
+        }
+    }
+}

@@ -1,6 +1,7 @@
 //! Tables and sheets: saves, the tag browser, tags by their name, tags one after another.
 
 use crate::build::*;
+use crate::marks;
 use crate::random::Random;
 use crate::raw::FstfCursor;
 use crate::sides::Sides;
@@ -231,6 +232,59 @@ fn sheet_with(right: &[Change], place: usize) -> Vec<Change> {
         new: change.new.clone(),
     };
     right.iter().enumerate().map(copy).collect()
+}
+
+/// A name whose mark stands in the first word of the library's marks, where a few names set all bits: each further one may be any of them.
+fn crowding(random: &mut Random) -> Vec<u8> {
+    loop {
+        let length = match random.below(8) {
+            0 => 255,
+            1 => 9 + random.size(60),
+            _ => 3 + random.size(9),
+        };
+        let mut name = text(random, length);
+        for _ in 0..2000 {
+            if marks::place(marks::mark(&name)) == 0 {
+                return name;
+            }
+            let at = random.size(length - 1);
+            name[at] = 32 + random.below(95) as u8;
+        }
+    }
+}
+
+/// Tables and sheets of names that were chosen against the marks, in any order, ascending and descending, and with one of them twice.
+pub fn crowded(sides: &mut Sides, random: &mut Random) {
+    let mut names: Vec<Vec<u8>> = (0..40 + random.size(60)).map(|_| crowding(random)).collect();
+    match random.below(3) {
+        0 => names.sort(),
+        1 => names.sort_by(|a, b| b.cmp(a)),
+        _ => {}
+    }
+    names.dedup();
+    let mut recording = smallest();
+    recording.user = names.iter().map(|name| Tag { name: name.clone(), value: text(random, 3) }).collect();
+    if random.one_in(3) {
+        let twice = recording.user[random.size(recording.user.len() - 1)].clone();
+        let at = random.size(recording.user.len());
+        recording.user.insert(at, twice);
+    }
+    let file = recording.file().bytes;
+    sides.open(&file);
+    let bytes = table(&recording.user).bytes;
+    for name in names.iter().step_by(9) {
+        sides.tag_named(&bytes, name);
+    }
+    for _ in 0..3 {
+        let sheet = some_sheet(random, &recording.user);
+        save(sides, random, &file, &sheet);
+    }
+    let changes: Vec<Change> = names
+        .iter()
+        .take(64)
+        .map(|name| Change { name: name.clone(), seen: Seen::NobodyLooked, new: new_value(random) })
+        .collect();
+    save(sides, random, &file, &sheet_bytes(&changes));
 }
 
 /// Sheets that bring a table to 1,000 tags and over.
