@@ -17,13 +17,13 @@ use Rattle.rows.specs.declared.RowPlace.the-variants as rowPlace
 use Rattle.rows.proofs.Laws.{row-broken}
 use Rattle.names.specs.declared.NameFound.{NameFound}
 use Rattle.names.specs.declared.NameFound.the-variants as found
-use Rattle.places.specs.Places.{placeFound, tagNamesAt, changeFound, changePlace, namedIn, Listed, listing, wordsFor, ahead, listedBy}
+use Rattle.places.specs.Places.{placeFound, changeFound, changePlace, namedIn, Listed, listing, wordsFor, ahead, listedBy}
 use Rattle.apply.specs.declared.Walk.{Walk}
 use Rattle.places.proofs.Finding.{no-names, names-next}
 use Rattle.places.proofs.Listed.{list-end, list-broken, list-more}
 use Rattle.sheet.proofs.Values.{tag-row-parts}
 use Rattle.pieces.specs.Pieces.{pieceAt, keptAt, keptRow}
-use Rattle.pieces.specs.Added.{addedBy, walkedIn, rowAdds, tagsIn, pieceBytes, Makes}
+use Rattle.pieces.specs.Added.{walkedIn, rowAdds, tagsIn, pieceBytes, Makes}
 use Rattle.pieces.specs.declared.Side.the-variants as side
 use Rattle.pieces.specs.declared.Piece.{Piece}
 use Rattle.pieces.specs.declared.Piece.the-variants as piece

@@ -181,24 +181,6 @@ pub piece-makes : (x : Side) (s t : List ℕ) (at other f v n e : ℕ) (p : Piec
 unfolding Adds
 piece-makes x s t at other f v n e p w y h k = rw (sym h ∙ k) at (piece-adds x s t at other w y)
 
--- a tag that no change names is its row
-kept-whole : (s t : List ℕ) (at f v n e : ℕ) (r : RowPlace) → rowOf at (rowName row.Tag (drop at s)) ≡ r → keptRow at t 0 r ≡ piece.Whole f v n e
-    → (f ≡ e - at) × (n ≡ 0) × (at ≤ e)
-unfolding keptRow
-kept-whole s t at f v n e rowPlace.Broken h k = let o : piece.Broken ≡ piece.Whole f v n e = k in let z : _≡_ {A = ℕ} 0 1 = cc in absurd (omega arith)
-kept-whole s t at f v n e (rowPlace.Whole len end) h k =
-    let o : piece.Whole (end - at) 0 0 end ≡ piece.Whole f v n e = k in
-    let a : end - at ≡ f = cc in
-    let b : _≡_ {A = ℕ} 0 n = cc in
-    let c : end ≡ e = cc in
-    let d = tag-row-parts s at len end h .0 in
-    (omega arith, omega arith, omega arith)
-
-pub piece-whole : (s t : List ℕ) (at other f v n e : ℕ) (p : Piece) → other ≡ 0 → p ≡ pieceAt side.Kept s at t other → p ≡ piece.Whole f v n e
-    → (f ≡ e - at) × (n ≡ 0) × (at ≤ e)
-unfolding pieceAt keptAt
-piece-whole s t at other f v n e p z h k = kept-whole s t at f v n e _ refl (rw z at (sym h ∙ k))
-
 -- ── Rows, one by one ──
 
 module _ {A : Type 0} (k : Row) (make : List ℕ → List ℕ → A) (adds : Beside A → List Tag) (s others : List ℕ) where

@@ -31,7 +31,7 @@ use Rattle.names.proofs.Laws.{isFound, find-there, row-name-there, row-name-pla
 use Rattle.names.proofs.Laws as Names
 use Rattle.names.proofs.Marked.{unmarked}
 use Rattle.names.proofs.Finding.{same-sym}
-use Rattle.places.specs.Places.{placeFound, tagNamesAt, changeNamesAt, changeFound, tagPlace, Placed, allMarked, wordsFor, ahead, listedBy, listedIn, leftAfter, listedTo, noted, walkedTo, Placing, placing, placedFor, placedBy}
+use Rattle.places.specs.Places.{placeFound, changeNamesAt, changeFound, tagPlace, Placed, allMarked, wordsFor, ahead, listedBy, listedIn, leftAfter, listedTo, noted, walkedTo, Placing, placing, placedFor, placedBy}
 use Rattle.places.proofs.Finding.{found-more, found-none, no-found, names-few, names-done, names-stop, names-step, false-true, found-parts, found-only, names-whole, found-whole}
 use Rattle.places.proofs.Listed.{list-more, list-few, after-words}
 use Rattle.places.proofs.Listed as Listed
