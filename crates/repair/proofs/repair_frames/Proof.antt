@@ -9,7 +9,6 @@ walk-requires c κs = search needs
 enum-known-walked : tie.Need-enum-known-walked
 enum-known-walked c = search needs
 
--- /work/main/target/rlib/refusal.rlib/interface/lang/src/lib.rt:16:29
 enum-told : tie.Need-enum-told
 enum-told c = search needs
 

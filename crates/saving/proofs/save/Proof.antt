@@ -30,7 +30,6 @@ changes-of-requires c κs = search needs
 enum-known-listed : tie.Need-enum-known-listed
 enum-known-listed c = search needs
 
--- /work/h/saves/target/rlib/refusal.rlib/interface/lang/src/lib.rt:13:29
 enum-told-2 : tie.Need-enum-told-2
 enum-told-2 c = search needs
 
