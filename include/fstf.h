@@ -15,8 +15,9 @@
  *   - `place` is what the number carries beside it, and 0 for all others:
  *       11: the lowest change of the sheet, from 0, whose seen entry is not the table's.
  * The time of a call grows with the frames, the tags and the bytes of tables that it is given, and not with the bytes of sections that it only passes over.
- * Whoever chooses the names in a file or a sheet can make a call take at most 20 times as long as usual names of the same number and lengths would
- * (docs/PERFORMANCE.md); nothing in a file makes it take longer. As compiled, a call needs at most 70,000 bytes of stack.
+ * Whoever chooses the names in a file can make opening it take longer than usual names of the same number and lengths would: at most 20 times, 17 in the
+ * slowest file that was found. Who chooses a sheet as well can make a save take 38 times as long, 0.7 ms. These are measured (docs/PERFORMANCE.md), not
+ * proved. As compiled, a call needs at most 70,000 bytes of stack.
  * Where a frame or a piece stands in the file is `start`. Headers without FSTF_VERSION called that `place`: a program written for one of them still compiles,
  * and would store every piece at 0. Write `start` there.
  */

@@ -190,7 +190,8 @@ fn line(report: &mut Report, what: &str, call: fn(&Names) -> Call, orders: &[Nam
     }
     let ratio = slowest.as_secs_f64() / least.as_secs_f64();
     println!("| {} | {} | {} | {:.2} |", what, cells.join(" | "), shown(least), ratio);
-    report.hold(what, WORST, ratio);
+    let limit = if what.starts_with("a save") { WORST_SAVE } else { WORST };
+    report.hold(what, limit, ratio);
 }
 
 fn lines(report: &mut Report) {
@@ -218,6 +219,8 @@ fn lines(report: &mut Report) {
     }
     let twelve = orders(&sharing_a_mark(&twins, 12, 0), TAGS, random);
     line(report, "opening: 1,000 names of 12 bytes share one mark", opening, &twelve, &usual(12, 0));
+    line(report, "a save: 64 changes and 1,000 names of 12 bytes share one mark", saving_tags, &twelve, &usual(12, 0));
+    line(report, "a save: 64 absent and 1,000 names of 12 bytes share one mark", saving_absent, &twelve, &usual(12, 0));
     let words = orders(&short_in_one_word(), TAGS, random);
     line(report, "opening: 1,000 names of 3 bytes have marks in one word", opening, &words, &three);
 }
