@@ -18,11 +18,11 @@ ROOT = Path(__file__).resolve().parent.parent
 
 # The programs, with the first bytes of the vectors that each runs.
 PROGRAMS = {
-    "opening_vectors": b"ofp",
-    "recorder_vectors": b"abc",
-    "repair_vectors": b"r",
-    "saving_vectors": b"s",
-    "browser_vectors": b"nt",
+    "opening_vectors": b"ofpF",
+    "recorder_vectors": b"abcLT",
+    "repair_vectors": b"rR",
+    "saving_vectors": b"sSU",
+    "browser_vectors": b"ntB",
     "whole_vectors": b"w",
 }
 
@@ -185,6 +185,11 @@ def of_named(name, data):
     return b"n" + short(name) + data
 
 
+def of_sweep(kind, values, base, other=None):
+    """A sweep of the base; other is what the call takes besides, where it takes two."""
+    return kind + short(values) + (b"" if other is None else u16(len(other)) + other) + base
+
+
 def of_whole(set_up_list, system_table, frames):
     """A frame is (time, exposure, section, ..)."""
     vector = b"w" + u16(len(set_up_list)) + set_up_list + u16(len(system_table)) + system_table + bytes([len(frames)])
@@ -238,6 +243,11 @@ def lent(length):
     return bytearray(b"\x5a" * length)
 
 
+def refused(refusal):
+    """A refusal's number, and its place where it carries one."""
+    return f"refused {refusal.number}" + ("" if refusal.place is None else f" place {refusal.place}")
+
+
 def line_of_open(fields):
     opened = model.open_file(fields.rest())
     front = opened.front
@@ -252,9 +262,9 @@ def line_of_frame(fields):
 def line_of_part(fields):
     kind, i, j, file = fields.number(1), fields.number(8), fields.number(8), fields.rest()
     part = model.part(file, kind, i, j)
-    number = model.part_number(file, kind, i, j)
-    if number:
-        return f"refused {number} part of {part.length}"
+    refusal = model.part_refusal(file, kind, i, j)
+    if refusal:
+        return f"{refused(refusal)} part of {part.length}"
     return f"part at {part.at} length {part.length} {model.taken(file, part).hex()}".rstrip()
 
 
@@ -264,7 +274,7 @@ def line_of_recorder(call, state, notes, out, *arguments):
         state, piece = call(state, notes, out, *arguments)
         given = f"given {piece.place} {piece.length}"
     except Refusal as refusal:
-        given = f"refused {refusal.number}"
+        given = refused(refusal)
     numbers = f"stage {state.stage} piece {state.piece} sections {state.sections} frames {state.frames}"
     times = f"first {state.first} last {state.last} end {state.end}"
     return f"{given} {numbers} {times} notes {hex_check(notes)} out {hex_check(out)}"
@@ -290,7 +300,7 @@ def line_of_repair(fields):
     try:
         answer = model.repair(fields.rest(), out)
     except Refusal as refusal:
-        return f"refused {refusal.number} out {hex_check(out)}"
+        return f"{refused(refusal)} out {hex_check(out)}"
     fields_set = f"count {answer.count} index {answer.index_offset} user {answer.user_offset}"
     return f"repaired kept {answer.kept} {fields_set} tail {answer.tail_length} out {hex_check(out)}"
 
@@ -301,7 +311,7 @@ def line_of_save(fields):
     try:
         given = f"saved {model.save(fields.rest(), changes, out)}"
     except Refusal as refusal:
-        given = f"refused {refusal.number}" + (f" place {refusal.place}" if refusal.number == 11 else "")
+        given = refused(refusal)
     return f"{given} out {hex_check(out)}"
 
 
@@ -314,7 +324,7 @@ def line_of_walk(data):
     try:
         told = model.walk_tags(data)
     except Refusal as refusal:
-        return f"walk refused {refusal.number}"
+        return f"walk {refused(refusal)}"
     numbers = [(tag.name.at, tag.name.length, tag.value.at, tag.value.length, left) for tag, left in told]
     return f"walk {len(told)} {hex_check(b''.join(u16(n) for tag in numbers for n in tag))}"
 
@@ -325,7 +335,7 @@ def line_of_browse(fields):
         tag, after = model.browse(data, number)
         line = f"{line_of_tag(tag) if tag else 'end'} next {after}"
     except Refusal as refusal:
-        line = f"refused {refusal.number} next {number}"
+        line = f"{refused(refusal)} next {number}"
     return f"{line} {line_of_walk(data)}"
 
 
@@ -335,8 +345,71 @@ def line_of_named(fields):
         tag = model.tag_by_name(data, name)
         line = line_of_tag(tag) if tag else "absent"
     except Refusal as refusal:
-        line = f"refused {refusal.number}"
+        line = refused(refusal)
     return f"{line} {line_of_walk(data)}"
+
+
+def swept(base, values):
+    """The inputs of a sweep: at every place of the base, from the first on, the base cut there, then with each of the values there, up to 31, and the
+    base itself for those that are not given."""
+    for place in range(len(base)):
+        yield base[:place]
+        for turn in range(31):
+            yield changed(base, place, values[turn : turn + 1])
+
+
+def line_of_sweep(base, values, *calls):
+    """The line of a sweep: each input is tried by each of the calls."""
+    count, answers = 0, []
+    for data in swept(base, values):
+        for call in calls:
+            count += 1
+            try:
+                call(data)
+                answers.append((0, 0))
+            except Refusal as refusal:
+                answers.append((refusal.number, refusal.place or 0))
+    refusals = sum(number != 0 for number, _ in answers)
+    return f"sweep inputs {count} refused {refusals} check {hex_check(b''.join(bytes([n]) + u64(p) for n, p in answers))}"
+
+
+def line_of_file_sweep(fields):
+    values, file = fields.bytes(fields.number(1)), fields.rest()
+    return line_of_sweep(file, values, model.open_file)
+
+
+def line_of_repair_sweep(fields):
+    values, file = fields.bytes(fields.number(1)), fields.rest()
+    return line_of_sweep(file, values, lambda data: model.repair(data, lent(512)))
+
+
+def line_of_sheet_sweep(fields):
+    values, file, changes = fields.bytes(fields.number(1)), fields.bytes(fields.number(2)), fields.rest()
+    return line_of_sweep(changes, values, lambda data: model.save(file, data, lent(512)))
+
+
+def line_of_saved_file_sweep(fields):
+    values, changes, file = fields.bytes(fields.number(1)), fields.bytes(fields.number(2)), fields.rest()
+    return line_of_sweep(file, values, lambda data: model.save(data, changes, lent(512)))
+
+
+def begun(set_up_list, system_table):
+    return model.begin(State(*NEW), lent(4), lent(512), set_up_list, system_table)
+
+
+def line_of_list_sweep(fields):
+    values, system_table, set_up_list = fields.bytes(fields.number(1)), fields.bytes(fields.number(2)), fields.rest()
+    return line_of_sweep(set_up_list, values, lambda data: begun(data, system_table))
+
+
+def line_of_system_sweep(fields):
+    values, set_up_list, system_table = fields.bytes(fields.number(1)), fields.bytes(fields.number(2)), fields.rest()
+    return line_of_sweep(system_table, values, lambda data: begun(set_up_list, data))
+
+
+def line_of_table_sweep(fields):
+    values, base = fields.bytes(fields.number(1)), fields.rest()
+    return line_of_sweep(base, values, lambda data: model.browse(data, 0), lambda data: model.tag_by_name(data, b"A"), model.walk_tags)
 
 
 def recorded_pieces(set_up_list, system_table, frames):
@@ -399,6 +472,13 @@ LINES = {
     "t": line_of_browse,
     "n": line_of_named,
     "w": line_of_whole,
+    "F": line_of_file_sweep,
+    "R": line_of_repair_sweep,
+    "S": line_of_sheet_sweep,
+    "U": line_of_saved_file_sweep,
+    "L": line_of_list_sweep,
+    "T": line_of_system_sweep,
+    "B": line_of_table_sweep,
 }
 
 
@@ -412,7 +492,7 @@ def line_of(vector):
     except TooShort:
         return "no vector"
     except Refusal as refusal:
-        return f"refused {refusal.number}"
+        return refused(refusal)
 
 
 def program_of(vector):
@@ -442,9 +522,9 @@ class Vectors:
         self.all[name] = vector
         self.lines[name] = line
 
-    def open(self, name, file, expected=""):
-        """A vector of opening; expected is the number, or 0."""
-        wanted = expected if expected == "" else f"refused {expected}" if expected else "opened"
+    def open(self, name, file, expected="", place=None):
+        """A vector of opening; expected is the number, or 0, and the place where the number carries one."""
+        wanted = expected if expected == "" else refused(Refusal(expected, place)) if expected else "opened"
         self.put("open_" + name, of_open(file), wanted)
 
     def write(self):
@@ -468,17 +548,29 @@ class Vectors:
 # ---- (1) opening ----
 
 
+def answer_of_cut(n):
+    """What opening the first n bytes of the worked file answers: the number, and its place."""
+    if n < 34:
+        return (1,)
+    if n < 48:
+        return 3, n if n < 40 else 40  # within the name its bytes run out; behind it the offset at 40 is not all there
+    if n < 52:
+        return 4, 48
+    if n < 94:
+        return (5,)
+    return (7, 94) if n < 98 else (0,)
+
+
 def worked_and_cut(v):
     v.open("worked", WORKED, 0)
-    v.open("p2_first_97", WORKED[:97], 7)
+    v.open("p2_first_97", WORKED[:97], 7, 94)
     v.open("p3_revision_2", changed(WORKED, 4, b"\x02"), 2)
     v.open("p4_index_offset_0", changed(WORKED, 9, u64(0)), 5)
     v.open("p5_index_offset_75", changed(WORKED, 9, u64(75)), 6)
     v.open("p6_count_2", changed(WORKED, 5, u32(2)), 6)
     v.open("p7_first_33", WORKED[:33], 1)
     for n in range(99):
-        wanted = 1 if n < 34 else 3 if n < 48 else 4 if n < 52 else 5 if n < 94 else 7 if n < 98 else 0
-        v.open(f"cut_{n:02}", WORKED[:n], wanted)
+        v.open(f"cut_{n:02}", WORKED[:n], *answer_of_cut(n))
 
 
 def not_fstf_and_revision(v):
@@ -492,7 +584,7 @@ def not_fstf_and_revision(v):
         v.open(f"revision_{revision}", build(revision=revision), 2)
     v.open("revision_2_in_34_bytes", build(revision=2)[:34], 2)
     v.open("revision_2_and_no_sections", build(revision=2, sections_count=0), 2)
-    v.open("revision_1_and_34_zero_bytes_else", b"FSTF\x01" + bytes(29), 3)
+    v.open("revision_1_and_34_zero_bytes_else", b"FSTF\x01" + bytes(29), 3, 33)
 
 
 def named_sections(*names):
@@ -508,40 +600,40 @@ EIGHT = tuple(b"S%d" % i for i in range(8))
 
 
 def section_names(v):
-    v.open("sections_0", build(sections_count=0), 3)
-    v.open("sections_0_none_defined", build((), frames=(), system_offset=34), 3)
+    v.open("sections_0", build(sections_count=0), 3, 33)
+    v.open("sections_0_none_defined", build((), frames=(), system_offset=34), 3, 33)
     v.open("sections_1", with_names(b"A"), 0)
     v.open("sections_2", with_names(b"A", b"B"), 0)
     v.open("sections_8", with_names(*EIGHT), 0)
     v.open("sections_8_with_a_frame", build(named_sections(*EIGHT), frames=((5, 6, b"", b"a", b"", b"", b"bc", b"", b"", b"d"),)), 0)
-    v.open("sections_9", with_names(*EIGHT, b"S8"), 3)
-    v.open("sections_255", build(sections_count=255), 3)
-    v.open("sections_255_complete", with_names(*(b"%d" % i for i in range(255))), 3)
-    v.open("sections_2_where_1_is", build(sections_count=2), 3)
-    v.open("sections_1_where_2_are", build(named_sections(b"A", b"B"), frames=(), sections_count=1), 3)
-    v.open("name_of_0_bytes", with_names(b""), 3)
-    v.open("name_of_0_bytes_second", with_names(b"A", b""), 3)
+    v.open("sections_9", with_names(*EIGHT, b"S8"), 3, 33)
+    v.open("sections_255", build(sections_count=255), 3, 33)
+    v.open("sections_255_complete", with_names(*(b"%d" % i for i in range(255))), 3, 33)
+    v.open("sections_2_where_1_is", build(sections_count=2), 3, 48)
+    v.open("sections_1_where_2_are", build(named_sections(b"A", b"B"), frames=(), sections_count=1), 3, 36)
+    v.open("name_of_0_bytes", with_names(b""), 3, 34)
+    v.open("name_of_0_bytes_second", with_names(b"A", b""), 3, 44)
     v.open("name_of_1_byte", with_names(b"z"), 0)
     v.open("name_of_255_bytes", with_names(b"N" * 255), 0)
-    v.open("name_of_255_bytes_bad_at_its_end", with_names(b"N" * 254 + b"-"), 3)
+    v.open("name_of_255_bytes_bad_at_its_end", with_names(b"N" * 254 + b"-"), 3, 289)
     v.open("names_of_255_bytes_eight", with_names(*(b"N" * 254 + b"%d" % i for i in range(8))), 0)
-    v.open("name_length_past_the_end", changed(WORKED, 34, b"\xff"), 3)
-    v.open("name_length_4_for_5", changed(WORKED, 34, b"\x04"), 3)
-    v.open("name_length_6_for_5", changed(WORKED, 34, b"\x06"), 3)
-    v.open("name_offset_cut_by_the_end", with_names(b"A")[:43], 3)
+    v.open("name_length_past_the_end", changed(WORKED, 34, b"\xff"), 3, 41)
+    v.open("name_length_4_for_5", changed(WORKED, 34, b"\x04"), 3, 39)
+    v.open("name_length_6_for_5", changed(WORKED, 34, b"\x06"), 3, 41)
+    v.open("name_offset_cut_by_the_end", with_names(b"A")[:43], 3, 36)
     for byte in (48, 57, 65, 90, 97, 122):
         v.open(f"name_byte_{byte:03}_taken", with_names(bytes([65, byte, 66])), 0)
     for byte in (0, 32, 45, 47, 58, 64, 91, 95, 96, 123, 127, 128, 176, 193, 225, 255):
-        v.open(f"name_byte_{byte:03}_refused", with_names(bytes([65, byte, 66])), 3)
+        v.open(f"name_byte_{byte:03}_refused", with_names(bytes([65, byte, 66])), 3, 36)
     for byte in (47, 58, 64, 91, 96, 123):
-        v.open(f"name_byte_{byte:03}_alone_refused", with_names(bytes([byte])), 3)
-    v.open("name_bad_first_byte", with_names(b"_A"), 3)
-    v.open("name_bad_last_byte", with_names(b"A_"), 3)
-    v.open("name_bad_in_second", with_names(b"A", b"B "), 3)
-    v.open("names_equal", with_names(b"A", b"A"), 3)
-    v.open("names_equal_first_and_eighth", with_names(*EIGHT[:7], EIGHT[0]), 3)
-    v.open("names_equal_seventh_and_eighth", with_names(*EIGHT[:7], EIGHT[6]), 3)
-    v.open("names_equal_of_255_bytes", with_names(b"N" * 255, b"N" * 255), 3)
+        v.open(f"name_byte_{byte:03}_alone_refused", with_names(bytes([byte])), 3, 35)
+    v.open("name_bad_first_byte", with_names(b"_A"), 3, 35)
+    v.open("name_bad_last_byte", with_names(b"A_"), 3, 36)
+    v.open("name_bad_in_second", with_names(b"A", b"B "), 3, 46)
+    v.open("names_equal", with_names(b"A", b"A"), 3, 44)
+    v.open("names_equal_first_and_eighth", with_names(*EIGHT[:7], EIGHT[0]), 3, 111)
+    v.open("names_equal_seventh_and_eighth", with_names(*EIGHT[:7], EIGHT[6]), 3, 111)
+    v.open("names_equal_of_255_bytes", with_names(b"N" * 255, b"N" * 255), 3, 298)
     v.open("names_differ_by_case", with_names(b"A", b"a"), 0)
     v.open("names_prefix_of_each_other", with_names(b"AB", b"ABC", b"A"), 0)
     v.open("names_differ_in_last_byte", with_names(b"IMAGE1", b"IMAGE2"), 0)
@@ -552,8 +644,8 @@ TWO = ((b"A", b"xyz"), (b"B", b"12345"))  # the definitions end at 54, so the of
 
 def configurations(v):
     for wrong in (0, 1, 33, 47, 49, 52, TOP, 2**63, 2**32 + 48):
-        v.open(f"first_configuration_at_{wrong}", build(offsets=[wrong]), 3)
-    v.open("first_configuration_late_with_its_gap", build(((b"A", b"gap"),), frames=(), offsets=[46]), 3)
+        v.open(f"first_configuration_at_{wrong}", build(offsets=[wrong]), 3, 40)
+    v.open("first_configuration_late_with_its_gap", build(((b"A", b"gap"),), frames=(), offsets=[46]), 3, 36)
     v.open("configurations_two", build(TWO, frames=()), 0)
     v.open("configurations_two_with_frames", build(TWO, frames=((1, 2, b"a", b"b"), (3, 4, b"", b"cd"))), 0)
     v.open("configuration_empty_first", build(((b"A", b""), (b"B", b"12345")), frames=()), 0)
@@ -561,23 +653,23 @@ def configurations(v):
     v.open("configurations_bytes_are_opaque", build(((b"A", bytes(range(256))), (b"B", MARK * 3)), frames=()), 0)
     v.open("second_offset_at_the_first", build(TWO, frames=(), offsets=[54, 54]), 0)
     v.open("second_offset_at_the_table", build(TWO, frames=(), offsets=[54, 62]), 0)
-    v.open("second_offset_below_the_first", build(TWO, frames=(), offsets=[54, 53]), 3)
-    v.open("second_offset_0", build(TWO, frames=(), offsets=[54, 0]), 3)
-    v.open("second_offset_past_the_table", build(TWO, frames=(), offsets=[54, 63]), 4)
-    v.open("second_offset_65535_after", build(TWO, frames=(), offsets=[54, 54 + 65_535]), 4)
-    v.open("second_offset_65536_after", build(TWO, frames=(), offsets=[54, 54 + 65_536]), 3)
-    v.open("second_offset_65535_after_and_table_there", build(TWO, frames=(), offsets=[54, 54 + 65_535], system_offset=54 + 65_535), 4)
-    v.open("second_offset_65536_after_and_table_there", build(TWO, frames=(), offsets=[54, 54 + 65_536], system_offset=54 + 65_536), 3)
-    v.open("second_offset_past_the_file", build(TWO, frames=(), offsets=[54, 200], system_offset=200), 4)
+    v.open("second_offset_below_the_first", build(TWO, frames=(), offsets=[54, 53]), 3, 46)
+    v.open("second_offset_0", build(TWO, frames=(), offsets=[54, 0]), 3, 46)
+    v.open("second_offset_past_the_table", build(TWO, frames=(), offsets=[54, 63]), 4, 17)
+    v.open("second_offset_65535_after", build(TWO, frames=(), offsets=[54, 54 + 65_535]), 4, 17)
+    v.open("second_offset_65536_after", build(TWO, frames=(), offsets=[54, 54 + 65_536]), 3, 46)
+    v.open("second_offset_65535_after_and_table_there", build(TWO, frames=(), offsets=[54, 54 + 65_535], system_offset=54 + 65_535), 4, 54 + 65_535)
+    v.open("second_offset_65536_after_and_table_there", build(TWO, frames=(), offsets=[54, 54 + 65_536], system_offset=54 + 65_536), 3, 46)
+    v.open("second_offset_past_the_file", build(TWO, frames=(), offsets=[54, 200], system_offset=200), 4, 200)
     for name, wrong in (("2_to_32_over", 2**32 + 57), ("2_to_63", 2**63), ("top", TOP), ("top_less_5", TOP - 5)):
-        v.open(f"second_offset_{name}", build(TWO, frames=(), offsets=[54, wrong]), 3)
+        v.open(f"second_offset_{name}", build(TWO, frames=(), offsets=[54, wrong]), 3, 46)
     three = ((b"A", b"xyz"), (b"B", b"12345"), (b"C", b"67"))
     v.open("third_offset_equal", build(three, frames=(), offsets=[64, 67, 67]), 0)
-    v.open("third_offset_falls_by_1", build(three, frames=(), offsets=[64, 67, 66]), 3)
-    v.open("third_offset_falls_to_the_first", build(three, frames=(), offsets=[64, 67, 64]), 3)
-    v.open("third_offset_65535_after", build(three, frames=(), offsets=[64, 67, 65_602]), 4)
-    v.open("third_offset_65536_after", build(three, frames=(), offsets=[64, 67, 65_603]), 3)
-    v.open("eighth_offset_falls", build(named_sections(*EIGHT), frames=(), offsets=[122] * 7 + [121]), 3)
+    v.open("third_offset_falls_by_1", build(three, frames=(), offsets=[64, 67, 66]), 3, 56)
+    v.open("third_offset_falls_to_the_first", build(three, frames=(), offsets=[64, 67, 64]), 3, 56)
+    v.open("third_offset_65535_after", build(three, frames=(), offsets=[64, 67, 65_602]), 4, 17)
+    v.open("third_offset_65536_after", build(three, frames=(), offsets=[64, 67, 65_603]), 3, 56)
+    v.open("eighth_offset_falls", build(named_sections(*EIGHT), frames=(), offsets=[122] * 7 + [121]), 3, 114)
     v.open("configuration_of_65437_bytes", build(((b"IMAGE", b"\xee" * 65_437),)), 0)
     v.open("configuration_of_65479_bytes_no_frame", build(((b"A", bytes(65_479)),), frames=()), 0)
     v.open("configurations_of_32000_bytes_two", build(((b"A", b"a" * 32_000), (b"B", b"b" * 32_000)), frames=()), 0)
@@ -585,43 +677,43 @@ def configurations(v):
 
 def system_offsets(v):
     for wrong in (0, 1, 47):
-        v.open(f"system_offset_{wrong}", build(system_offset=wrong), 4)
-    v.open("system_offset_49", build(system_offset=49), 4)
-    v.open("system_offset_51", build(system_offset=51), 4)
-    v.open("system_offset_52_at_the_mark", build(system_offset=52), 4)
+        v.open(f"system_offset_{wrong}", build(system_offset=wrong), 4, 17)
+    v.open("system_offset_49", build(system_offset=49), 4, 49)
+    v.open("system_offset_51", build(system_offset=51), 4, 51)
+    v.open("system_offset_52_at_the_mark", build(system_offset=52), 4, 52)
     v.open("system_offset_at_user_table", build(system_offset=94), 6)
-    v.open("system_offset_95", build(system_offset=95), 4)
-    v.open("system_offset_98_at_the_end", build(system_offset=98), 4)
-    v.open("system_offset_99", build(system_offset=99), 4)
-    v.open("system_offset_65535_after", build(system_offset=48 + 65_535), 4)
-    v.open("system_offset_65536_after", build(system_offset=48 + 65_536), 4)
+    v.open("system_offset_95", build(system_offset=95), 4, 95)
+    v.open("system_offset_98_at_the_end", build(system_offset=98), 4, 98)
+    v.open("system_offset_99", build(system_offset=99), 4, 99)
+    v.open("system_offset_65535_after", build(system_offset=48 + 65_535), 4, 48 + 65_535)
+    v.open("system_offset_65536_after", build(system_offset=48 + 65_536), 4, 17)
     for name, wrong in (("2_to_32_over", 2**32 + 48), ("2_to_63", 2**63), ("top", TOP), ("top_less_3", TOP - 3)):
-        v.open(f"system_offset_{name}", build(system_offset=wrong), 4)
-    v.open("system_offset_before_second_configuration", build(TWO, frames=(), system_offset=56), 4)
-    v.open("system_offset_1_before_second_configuration_of_0", build(((b"A", b"xyz"), (b"B", b"")), frames=(), system_offset=56), 4)
+        v.open(f"system_offset_{name}", build(system_offset=wrong), 4, 17)
+    v.open("system_offset_before_second_configuration", build(TWO, frames=(), system_offset=56), 4, 17)
+    v.open("system_offset_1_before_second_configuration_of_0", build(((b"A", b"xyz"), (b"B", b"")), frames=(), system_offset=56), 4, 17)
 
 
 def bad_tables():
-    """Malformed tables: name and bytes. None of them runs on into a legal one, whatever follows in the files made here."""
-    one, two = (b"SITE", b"Krk"), (b"OBS", b"me")
-    yield "tags_1001", table(*many_tags(1001))
-    yield "tags_1001_claimed", u32(1001) + table(one)[4:]
-    yield "tags_top_claimed", u32(2**32 - 1) + table(one)[4:]
-    yield "tags_256_for_1", u32(256) + table(one)[4:]
-    yield "tags_2_to_24_for_0", u32(2**24)
-    yield "name_empty", table((b"", b"x"))
-    yield "name_empty_second", table(one, (b"", b""))
-    yield "names_equal", table(one, one)
-    yield "names_equal_values_differ", table(one, two, (b"SITE", b"Hvar"))
-    yield "names_equal_of_255", table((b"n" * 255, b""), (b"n" * 255, b"v"))
+    """Malformed tables: name, bytes, place of the first fault. None of them runs on into a legal one, whatever follows in the files made here."""
+    one, two = (b"SITE", b"Krk"), (b"OBS", b"me")  # they end at 13 and 20
+    yield "tags_1001", table(*many_tags(1001)), 0
+    yield "tags_1001_claimed", u32(1001) + table(one)[4:], 0
+    yield "tags_top_claimed", u32(2**32 - 1) + table(one)[4:], 0
+    yield "tags_256_for_1", u32(256) + table(one)[4:], 13
+    yield "tags_2_to_24_for_0", u32(2**24), 0
+    yield "name_empty", table((b"", b"x")), 4
+    yield "name_empty_second", table(one, (b"", b"")), 13
+    yield "names_equal", table(one, one), 13
+    yield "names_equal_values_differ", table(one, two, (b"SITE", b"Hvar")), 20
+    yield "names_equal_of_255", table((b"n" * 255, b""), (b"n" * 255, b"v")), 261
     for byte in (0, 9, 10, 31, 127, 128, 255):
-        yield f"name_byte_{byte:03}", table((b"A" + bytes([byte]), b"x"))
-        yield f"value_byte_{byte:03}", table((b"A", b"x" + bytes([byte])))
-    yield "name_byte_031_first", table((b"\x1fA", b"x"))
-    yield "value_byte_127_first", table((b"A", b"\x7fx"))
-    yield "value_byte_031_alone", table((b"A", b"\x1f"))
-    yield "value_byte_127_last_of_255", table((b"A", b"x" * 254 + b"\x7f"))
-    yield "value_byte_031_in_last_tag", table(one, two, (b"X", b"\x1f"))
+        yield f"name_byte_{byte:03}", table((b"A" + bytes([byte]), b"x")), 6
+        yield f"value_byte_{byte:03}", table((b"A", b"x" + bytes([byte]))), 8
+    yield "name_byte_031_first", table((b"\x1fA", b"x")), 5
+    yield "value_byte_127_first", table((b"A", b"\x7fx")), 7
+    yield "value_byte_031_alone", table((b"A", b"\x1f")), 7
+    yield "value_byte_127_last_of_255", table((b"A", b"x" * 254 + b"\x7f")), 261
+    yield "value_byte_031_in_last_tag", table(one, two, (b"X", b"\x1f")), 23
 
 
 def good_tables():
@@ -641,32 +733,34 @@ def good_tables():
 
 
 def tables_in_files(v):
-    for name, data in bad_tables():
-        v.open("system_" + name, build(system_table=data), 4)
-        v.open("user_" + name, build(user_table=data), 7)
+    for name, data, place in bad_tables():
+        # Where tags are missing, the system table runs on into the frame's mark FF 22 01 EE: a name of 255 bytes, the second of them bad.
+        v.open("system_" + name, build(system_table=data), 4, 48 + place + (2 if name == "tags_256_for_1" else 0))
+        v.open("user_" + name, build(user_table=data), 7, 94 + place)
     for name, data, count in good_tables():
         v.put("open_system_" + name, of_open(build(system_table=data)), f"opened frames 1 sections 1 system {count} user 0")
         v.put("open_user_" + name, of_open(build(user_table=data)), f"opened frames 1 sections 1 system 0 user {count}")
     site = (b"SITE", b"Krk")
     v.open("same_name_in_both_tables", build(system=(site,), user=(site,)), 0)
-    v.open("system_one_tag_more_claimed", build(system_table=u32(2) + table(site)[4:]), 4)
+    v.open("system_one_tag_more_claimed", build(system_table=u32(2) + table(site)[4:]), 4, 63)
     v.open("system_one_tag_fewer_claimed", build(system_table=u32(0) + table(site)[4:]), 6)
     v.open("system_value_length_1_short", build(system_table=changed(table(site), 9, b"\x02")), 6)
-    v.open("system_value_length_1_long", build(system_table=changed(table(site), 9, b"\x04")), 4)
+    v.open("system_value_length_1_long", build(system_table=changed(table(site), 9, b"\x04")), 4, 61)
     v.open("system_table_one_byte_behind", build(system_table=table() + b"\0"), 6)
     unclosed = build(system=(site, (b"OBS", b"")), frames=(), count=0, index=b"", user_table=b"", index_offset=0, user_offset=0)
-    for n in range(48, len(unclosed) + 1):
-        v.open(f"system_table_cut_at_{n}", unclosed[:n], 4 if n < len(unclosed) else 5)
-    v.open("user_no_bytes", build(user_table=b""), 7)
+    for n in range(48, len(unclosed)):
+        v.open(f"system_table_cut_at_{n}", unclosed[:n], 4, 48 if n < 52 else n)
+    v.open(f"system_table_cut_at_{len(unclosed)}", unclosed, 5)
+    v.open("user_no_bytes", build(user_table=b""), 7, 94)
     for n in range(len(table(site))):
-        v.open(f"user_one_tag_cut_to_{n:02}", build(user_table=table(site)[:n]), 7)
-    v.open("user_one_byte_long", build(user=(site,)) + b"\0", 7)
-    v.open("user_one_byte_long_empty_table", WORKED + b"\0", 7)
-    v.open("user_four_bytes_long", WORKED + bytes(4), 7)
-    v.open("user_one_tag_more_claimed", build(user_table=u32(2) + table(site)[4:]), 7)
-    v.open("user_one_tag_fewer_claimed", build(user_table=u32(0) + table(site)[4:]), 7)
-    v.open("user_1000_tags_one_byte_long", build(user=many_tags(1000)) + b"A", 7)
-    v.open("user_1000_tags_one_byte_short", build(user=many_tags(1000))[:-1], 7)
+        v.open(f"user_one_tag_cut_to_{n:02}", build(user_table=table(site)[:n]), 7, 94 + n if n >= 4 else 94)
+    v.open("user_one_byte_long", build(user=(site,)) + b"\0", 7, 107)
+    v.open("user_one_byte_long_empty_table", WORKED + b"\0", 7, 98)
+    v.open("user_four_bytes_long", WORKED + bytes(4), 7, 98)
+    v.open("user_one_tag_more_claimed", build(user_table=u32(2) + table(site)[4:]), 7, 107)
+    v.open("user_one_tag_fewer_claimed", build(user_table=u32(0) + table(site)[4:]), 7, 98)
+    v.open("user_1000_tags_one_byte_long", build(user=many_tags(1000)) + b"A", 7, 4098)
+    v.open("user_1000_tags_one_byte_short", build(user=many_tags(1000))[:-1], 7, 4097)
 
 
 def not_closed(v):
@@ -681,7 +775,7 @@ def not_closed(v):
     v.open("user_offset_at_its_limit", build(user_offset=2**40 - 512_004), 5)
     v.open("user_offset_over_its_limit", build(user_offset=2**40 - 512_003), 5)
     v.open("user_offset_2_to_40", build(user_offset=2**40), 5)
-    v.open("user_offset_at_the_end_and_no_table", build(user_table=b""), 7)
+    v.open("user_offset_at_the_end_and_no_table", build(user_table=b""), 7, 94)
     v.open("not_closed_no_frame", build(frames=(), index=b"", user_table=b"", index_offset=0, user_offset=0), 5)
     v.open("only_index_offset_missing", build(index_offset=0), 5)
 
@@ -822,14 +916,14 @@ def ghosts(v):
     v.open("byte_between_frames", gap[:74] + b"\0" + GHOST + gap[74:], 6)
     v.open("mark_between_frames_and_index", changed(gap[:74] + MARK + gap[74:], 9, u64(78) + gap[17:25] + u64(98)), 6)
     v.open("configuration_holds_a_ghost_frame", build(((b"A", GHOST),), frames=((1, 2, b"x"),)), 0)
-    v.open("frame_in_place_of_user_table", build(user_table=GHOST), 7)
+    v.open("frame_in_place_of_user_table", build(user_table=GHOST), 7, 94)
 
 
 def two_lines_hold(v):
-    v.open("both_3_and_4", build(named_sections(b"-"), frames=(), system_offset=0), 3)
-    v.open("both_3_and_5", build(named_sections(b"-"), frames=(), user_offset=0), 3)
-    v.open("both_4_and_5", build(system_offset=0, index_offset=0), 4)
-    v.open("both_4_and_7", build(system_table=table((b"", b"")), user_table=b""), 4)
+    v.open("both_3_and_4", build(named_sections(b"-"), frames=(), system_offset=0), 3, 35)
+    v.open("both_3_and_5", build(named_sections(b"-"), frames=(), user_offset=0), 3, 35)
+    v.open("both_4_and_5", build(system_offset=0, index_offset=0), 4, 17)
+    v.open("both_4_and_7", build(system_table=table((b"", b"")), user_table=b""), 4, 52)
     v.open("both_5_and_6", build(count=2, user_offset=0), 5)
     v.open("both_5_and_7", build(user_offset=0, user_table=b""), 5)
     v.open("both_6_and_7", build(count=2, user_table=b""), 6)
@@ -877,14 +971,17 @@ BEYOND = (("2_to_32", 2**32), ("2_to_63", 2**63), ("top", TOP))
 
 
 def refused_files():
-    """A file for each number of opening."""
-    yield 1, WORKED[:33]
-    yield 2, changed(RICH, 4, b"\x02")
-    yield 3, changed(RICH, 33, b"\x00")
-    yield 4, changed(RICH, 17, u64(0))
-    yield 5, changed(RICH, 9, u64(0))
-    yield 6, changed(RICH, 5, u32(2))
-    yield 7, RICH[:-1]
+    """A file for each number of opening: the number, the refusal, the file."""
+    for number, place, file in (
+        (1, None, WORKED[:33]),
+        (2, None, changed(RICH, 4, b"\x02")),
+        (3, 33, changed(RICH, 33, b"\x00")),
+        (4, 17, changed(RICH, 17, u64(0))),
+        (5, None, changed(RICH, 9, u64(0))),
+        (6, None, changed(RICH, 5, u32(2))),
+        (7, len(RICH) - 1, RICH[:-1]),
+    ):
+        yield number, refused(Refusal(number, place)), file
 
 
 def frame_reader(v):
@@ -905,9 +1002,9 @@ def frame_reader(v):
         v.put(f"frame_time_{name}", of_frame(0, file), f"frame at 52 length 20 time {time} exposure 4294967295")
     v.put("frame_254_of_255", of_frame(254, build(frames=tuple((i, i, b"") for i in range(255)))), "frame")
     v.put("frame_255_of_255", of_frame(255, build(frames=tuple((i, i, b"") for i in range(255)))), "refused 8")
-    for number, file in refused_files():
-        v.put(f"frame_0_of_file_refused_{number}", of_frame(0, file), f"refused {number}")
-        v.put(f"frame_top_of_file_refused_{number}", of_frame(TOP, file), f"refused {number}")
+    for number, refusal, file in refused_files():
+        v.put(f"frame_0_of_file_refused_{number}", of_frame(0, file), refusal)
+        v.put(f"frame_top_of_file_refused_{number}", of_frame(TOP, file), refusal)
 
 
 KINDS = ("section", "section_name", "configuration", "system_name", "system_value", "user_name", "user_value")
@@ -924,9 +1021,9 @@ def part_reader(v):
         for beyond, i in BEYOND:
             v.put(f"part_{name}_{beyond}", of_part(kind, i, 0, RICH), "refused 8 part of 0")
         v.put(f"part_{name}_0_worked", of_part(kind, 0, 0, WORKED), "part" if kind <= 2 else "refused 8 part of 0")
-        for number, file in refused_files():
-            v.put(f"part_{name}_of_file_refused_{number}", of_part(kind, 0, 0, file), f"refused {number} part of 0")
-        v.put(f"part_{name}_top_of_file_refused_7", of_part(kind, TOP, TOP, RICH[:-1]), "refused 7 part of 0")
+        for number, refusal, file in refused_files():
+            v.put(f"part_{name}_of_file_refused_{number}", of_part(kind, 0, 0, file), f"{refusal} part of 0")
+        v.put(f"part_{name}_top_of_file_refused_7", of_part(kind, TOP, TOP, RICH[:-1]), f"refused 7 place {len(RICH) - 1} part of 0")
         if kind > 0:
             v.put(f"part_{name}_0_second_number_not_used", of_part(kind, 0, TOP, RICH), "part")
     for beyond, j in (("at_count", 3), ("over_count", 4)) + BEYOND:
@@ -984,70 +1081,70 @@ def begin_vectors(v):
     put("both_short", "refused 9", notes=3, out=51)
     put("made_up_fresh_numbers", given, base=(0, 0, 99, 5, 8, -8, 12345))
     put("made_up_fresh_tops", given, base=(0, 0, TOP, TOP, LATEST, EARLIEST, TOP))
-    put("made_up_fresh_tops_refused", "refused 10", base=(0, 0, TOP, TOP, LATEST, EARLIEST, TOP), set_up_list=b"")
+    put("made_up_fresh_tops_refused", "refused 10 place 0", base=(0, 0, TOP, TOP, LATEST, EARLIEST, TOP), set_up_list=b"")
     put("when_running", "refused 12", base=BEGUN)
     put("when_running_with_a_frame", "refused 12", base=ONE_ADDED)
     for piece in (0, 1, 4, 5):
         put(f"when_closing_at_{piece}", "refused 12", base=state(ONE_ADDED, stage=2, piece=piece))
     put("when_closed", "refused 12", base=state(ONE_ADDED, stage=3))
     # The set-up list.
-    put("list_of_no_bytes", "refused 10", set_up_list=b"")
-    put("list_00", "refused 3", set_up_list=b"\x00")
-    put("list_00_00", "refused 10", set_up_list=b"\x00\x00")
-    put("list_01", "refused 10", set_up_list=b"\x01")
-    put("list_ff", "refused 10", set_up_list=b"\xff")
+    put("list_of_no_bytes", "refused 10 place 0", set_up_list=b"")
+    put("list_00", "refused 3 place 0", set_up_list=b"\x00")
+    put("list_00_00", "refused 10 place 1", set_up_list=b"\x00\x00")
+    put("list_01", "refused 10 place 1", set_up_list=b"\x01")
+    put("list_ff", "refused 10 place 1", set_up_list=b"\xff")
     put("list_eight", "given 0 126", out=126, set_up_list=set_up(*named_sections(*EIGHT)))
-    put("list_nine", "refused 3", out=500, set_up_list=set_up(*named_sections(*EIGHT, b"S8")))
-    put("list_255", "refused 3", out=9000, set_up_list=set_up(*named_sections(*(b"%d" % i for i in range(255)))))
-    put("list_255_one_byte_short", "refused 10", out=9000, set_up_list=set_up(*named_sections(*(b"%d" % i for i in range(255))))[:-1])
-    put("list_255_empty_names", "refused 3", set_up_list=b"\xff" + bytes(3 * 255))
-    put("list_nine_one_byte_left_over", "refused 10", set_up_list=set_up(*named_sections(*EIGHT, b"S8")) + b"\0")
+    put("list_nine", "refused 3 place 0", out=500, set_up_list=set_up(*named_sections(*EIGHT, b"S8")))
+    put("list_255", "refused 3 place 0", out=9000, set_up_list=set_up(*named_sections(*(b"%d" % i for i in range(255)))))
+    put("list_255_one_byte_short", "refused 10 place 1419", out=9000, set_up_list=set_up(*named_sections(*(b"%d" % i for i in range(255))))[:-1])
+    put("list_255_empty_names", "refused 3 place 0", set_up_list=b"\xff" + bytes(3 * 255))
+    put("list_nine_one_byte_left_over", "refused 10 place 46", set_up_list=set_up(*named_sections(*EIGHT, b"S8")) + b"\0")
     two = set_up((b"AB", b"xyz"), (b"C", b""))
     put("list_two", "given 0 62 stage 1 piece 0 sections 2 frames 0 first 0 last 0 end 62", out=62, set_up_list=two)
-    for n in range(1, len(two)):
-        put(f"list_two_cut_to_{n:02}", "refused 10", out=99, set_up_list=two[:n])
-    put("list_two_one_byte_left_over", "refused 10", out=99, set_up_list=two + b"\0")
-    put("list_says_one_of_two", "refused 10", out=99, set_up_list=b"\x01" + two[1:])
-    put("list_says_three_of_two", "refused 10", out=99, set_up_list=b"\x03" + two[1:])
-    put("list_configuration_length_one_more", "refused 10", set_up_list=b"\x01\x01A\x04\x00xyz")
-    put("list_configuration_length_one_fewer", "refused 10", set_up_list=b"\x01\x01A\x02\x00xyz")
-    put("list_configuration_length_65535", "refused 10", set_up_list=b"\x01\x01A\xff\xffxyz")
-    put("list_bad_name_and_cut", "refused 10", set_up_list=b"\x01\x01-\x00")
-    put("list_bad_name_and_left_over", "refused 10", set_up_list=set_up((b"-", b"")) + b"\0")
-    put("list_name_length_past_the_end", "refused 10", set_up_list=b"\x01\xffA\x00\x00")
-    put("name_empty", "refused 3", set_up_list=set_up((b"", b"")))
-    put("name_empty_second", "refused 3", out=99, set_up_list=set_up((b"A", b""), (b"", b"")))
+    for n, place in enumerate((1, 2, 3, 4, 4, 6, 6, 6, 9, 10, 11, 11), 1):
+        put(f"list_two_cut_to_{n:02}", f"refused 10 place {place}", out=99, set_up_list=two[:n])
+    put("list_two_one_byte_left_over", "refused 10 place 13", out=99, set_up_list=two + b"\0")
+    put("list_says_one_of_two", "refused 10 place 9", out=99, set_up_list=b"\x01" + two[1:])
+    put("list_says_three_of_two", "refused 10 place 13", out=99, set_up_list=b"\x03" + two[1:])
+    put("list_configuration_length_one_more", "refused 10 place 5", set_up_list=b"\x01\x01A\x04\x00xyz")
+    put("list_configuration_length_one_fewer", "refused 10 place 7", set_up_list=b"\x01\x01A\x02\x00xyz")
+    put("list_configuration_length_65535", "refused 10 place 5", set_up_list=b"\x01\x01A\xff\xffxyz")
+    put("list_bad_name_and_cut", "refused 10 place 3", set_up_list=b"\x01\x01-\x00")
+    put("list_bad_name_and_left_over", "refused 10 place 5", set_up_list=set_up((b"-", b"")) + b"\0")
+    put("list_name_length_past_the_end", "refused 10 place 5", set_up_list=b"\x01\xffA\x00\x00")
+    put("name_empty", "refused 3 place 1", set_up_list=set_up((b"", b"")))
+    put("name_empty_second", "refused 3 place 5", out=99, set_up_list=set_up((b"A", b""), (b"", b"")))
     put("name_of_255", "given 0 302", out=302, set_up_list=set_up((b"n" * 255, b"")))
     for byte in (48, 57, 65, 90, 97, 122):
         put(f"name_byte_{byte:03}_taken", "given 0 48", out=48, set_up_list=set_up((bytes([byte]), b"")))
     for byte in (0, 47, 58, 64, 91, 96, 123, 128, 255):
-        put(f"name_byte_{byte:03}_refused", "refused 3", set_up_list=set_up((bytes([byte]), b"")))
-    put("names_equal", "refused 3", out=99, set_up_list=set_up((b"A", b"x"), (b"A", b"y")))
-    put("names_equal_first_and_eighth", "refused 3", out=200, set_up_list=set_up(*named_sections(*EIGHT[:7], EIGHT[0])))
+        put(f"name_byte_{byte:03}_refused", "refused 3 place 2", set_up_list=set_up((bytes([byte]), b"")))
+    put("names_equal", "refused 3 place 6", out=99, set_up_list=set_up((b"A", b"x"), (b"A", b"y")))
+    put("names_equal_first_and_eighth", "refused 3 place 36", out=200, set_up_list=set_up(*named_sections(*EIGHT[:7], EIGHT[0])))
     put("names_differ_by_case", "given 0 58", out=58, set_up_list=set_up((b"A", b""), (b"a", b"")))
     put("configurations", "given 0 66", out=66, set_up_list=set_up((b"A", b"xyz"), (b"B", b"12345")))
     put("configuration_of_60000", "given 0 60048", out=65_535, set_up_list=set_up((b"A", b"\xff" * 60_000)))
     put("configuration_of_60000_out_one_short", "refused 9", out=60_047, set_up_list=set_up((b"A", b"\xff" * 60_000)))
     put("configuration_of_256", "given 0 304", out=304, set_up_list=set_up((b"A", bytes(range(256)))))
     # The system table.
-    put("table_of_no_bytes", "refused 4", system_table=b"")
+    put("table_of_no_bytes", "refused 4 place 0", system_table=b"")
     for n in (1, 3):
-        put(f"table_cut_to_{n}", "refused 4", system_table=bytes(n))
-    put("table_one_byte_behind", "refused 4", system_table=bytes(5))
-    put("table_one_tag_cut", "refused 4", out=99, system_table=table((b"SITE", b"Krk"))[:-1])
-    put("table_one_tag_and_a_byte_behind", "refused 4", out=99, system_table=table((b"SITE", b"Krk")) + b"\0")
-    for name, data in bad_tables():
-        put("table_" + name, "refused 4", out=9000, system_table=data)
+        put(f"table_cut_to_{n}", "refused 4 place 0", system_table=bytes(n))
+    put("table_one_byte_behind", "refused 4 place 4", system_table=bytes(5))
+    put("table_one_tag_cut", "refused 4 place 12", out=99, system_table=table((b"SITE", b"Krk"))[:-1])
+    put("table_one_tag_and_a_byte_behind", "refused 4 place 13", out=99, system_table=table((b"SITE", b"Krk")) + b"\0")
+    for name, data, place in bad_tables():
+        put("table_" + name, f"refused 4 place {place}", out=9000, system_table=data)
     for name, data, _ in good_tables():
         put("table_" + name, f"given 0 {48 + len(data)}", out=48 + len(data), system_table=data)
     # Where two lines hold.
     put("both_12_and_10", "refused 12", base=BEGUN, set_up_list=b"")
     put("both_12_and_9", "refused 12", base=BEGUN, out=0)
-    put("both_10_and_4", "refused 10", set_up_list=b"\x01", system_table=b"")
-    put("both_10_and_9", "refused 10", set_up_list=b"\x01", out=0)
-    put("both_3_and_4", "refused 3", set_up_list=b"\x00", system_table=b"")
-    put("both_3_and_9", "refused 3", set_up_list=set_up((b"-", b"")), notes=0, out=0)
-    put("both_4_and_9", "refused 4", system_table=b"", notes=0, out=0)
+    put("both_10_and_4", "refused 10 place 1", set_up_list=b"\x01", system_table=b"")
+    put("both_10_and_9", "refused 10 place 1", set_up_list=b"\x01", out=0)
+    put("both_3_and_4", "refused 3 place 0", set_up_list=b"\x00", system_table=b"")
+    put("both_3_and_9", "refused 3 place 2", set_up_list=set_up((b"-", b"")), notes=0, out=0)
+    put("both_4_and_9", "refused 4 place 0", system_table=b"", notes=0, out=0)
 
 
 def add_vectors(v):
@@ -1337,10 +1434,9 @@ def repair_vectors(v):
     kept_none = "repaired kept 52 count 0 index 52 user 56 tail 8"
     put("p8_cut_at_73", one[:73], kept_none)
     put("p9_cut_at_74", one, kept_one)
-    put("p10_cut_at_51", one[:51], "refused 4")
+    put("p10_cut_at_51", one[:51], "refused 4 place 48")
     for n in (0, 4, 33, 34, 47, 48, 50, 52, 53, 56, 68, 71, 72):
-        wanted = "refused 1" if n < 34 else "refused 3" if n < 48 else "refused 4" if n < 52 else kept_none
-        put(f"cut_at_{n:02}", one[:n], wanted)
+        put(f"cut_at_{n:02}", one[:n], refused(Refusal(*answer_of_cut(n))) if n < 52 else kept_none)
     # Files that open.
     put("worked_opens", WORKED, "refused 16")
     put("worked_opens_no_room", WORKED, "refused 16", room=0)
@@ -1353,20 +1449,21 @@ def repair_vectors(v):
     put("garbage_zeros", bytes(100), "refused 1")
     put("garbage_ff", b"\xff" * 100, "refused 1")
     put("garbage_magic_only", b"FSTF" + bytes(96), "refused 2")
-    put("garbage_magic_and_revision", b"FSTF\x01" + bytes(95), "refused 3")
+    put("garbage_magic_and_revision", b"FSTF\x01" + bytes(95), "refused 3 place 33")
     put("magic_wrong", changed(one, 0, b"G"), "refused 1")
     put("revision_2", changed(one, 4, b"\x02"), "refused 2")
-    put("no_sections", changed(one, 33, b"\x00"), "refused 3")
-    put("nine_sections", changed(one, 33, b"\x09"), "refused 3")
-    put("name_bad", changed(one, 35, b"-"), "refused 3")
-    put("configuration_offset_47", changed(one, 40, u64(47)), "refused 3")
-    put("configuration_offset_top", changed(one, 40, u64(TOP)), "refused 3")
+    put("no_sections", changed(one, 33, b"\x00"), "refused 3 place 33")
+    put("nine_sections", changed(one, 33, b"\x09"), "refused 3 place 33")
+    put("name_bad", changed(one, 35, b"-"), "refused 3 place 35")
+    put("configuration_offset_47", changed(one, 40, u64(47)), "refused 3 place 40")
+    put("configuration_offset_top", changed(one, 40, u64(TOP)), "refused 3 place 40")
     for name, wrong in (("0", 0), ("47", 47), ("49", 49), ("52", 52), ("75", 75), ("top", TOP), ("2_to_32_over", 2**32 + 48)):
-        put(f"system_offset_{name}", changed(one, 17, u64(wrong)), "refused 4")
-    put("system_tags_1001", unclosed(system_table=table(*many_tags(1001))), "refused 4")
+        place = wrong if 48 <= wrong <= 48 + 65_535 else 17
+        put(f"system_offset_{name}", changed(one, 17, u64(wrong)), f"refused 4 place {place}")
+    put("system_tags_1001", unclosed(system_table=table(*many_tags(1001))), "refused 4 place 48")
     put("system_tags_1000", unclosed(system=many_tags(1000)), "repaired kept 4074 count 1")
-    put("system_names_equal", unclosed(system=((b"A", b""), (b"A", b""))), "refused 4")
-    put("both_4_and_13", changed(unclosed(frames=((5, 0, b""), (4, 0, b""))), 17, u64(0)), "refused 4")
+    put("system_names_equal", unclosed(system=((b"A", b""), (b"A", b""))), "refused 4 place 55")
+    put("both_4_and_13", changed(unclosed(frames=((5, 0, b""), (4, 0, b""))), 17, u64(0)), "refused 4 place 17")
     # The header's three fields are not trusted.
     for name, at, field in (
         ("count_1", 5, u32(1)),
@@ -1465,7 +1562,7 @@ def repair_vectors(v):
     put("no_frame_room_one_short", one[:73], "refused 9", room=7)
     put("two_frames_room_exact", two_frames, "repaired kept 97", room=40)
     put("two_frames_room_one_short", two_frames, "refused 9", room=39)
-    put("both_4_and_9", one[:51], "refused 4", room=0)
+    put("both_4_and_9", one[:51], "refused 4 place 48", room=0)
     many = unclosed(frames=tuple((i, i, b"") for i in range(1800)))
     put("frames_1800_room_exact", many, "repaired kept 36052 count 1800", room=28_808)
     put("frames_1800_room_one_short", many, "refused 9", room=28_807)
@@ -1476,7 +1573,7 @@ def repair_vectors(v):
     put("rich_one_byte_short", rich[:-1], f"repaired kept {len(rich) - 29} count 1")
     put("rich_last_section_size_cut", rich[:-3], f"repaired kept {len(rich) - 29} count 1")
     put("rich_no_frame", rich[: len(rich) - 29 - 31], "repaired kept")
-    put("rich_in_system_table", rich[: len(rich) - 29 - 31 - 1], "refused 4")
+    put("rich_in_system_table", rich[: len(rich) - 29 - 31 - 1], f"refused 4 place {len(rich) - 29 - 31 - 1}")
 
 
 def random_repairs(v):
@@ -1517,40 +1614,40 @@ def save_vectors(v):
     put("empty_sheet_1000_tags", sheet(), "saved 4004", user=many_tags(1000), room=4004)
     put("empty_sheet_haunted_file", sheet(), "saved 4", file=build(frames=HAUNTED))
     # Malformed sheets.
-    for name, data in (
-        ("no_bytes", b""),
-        ("empty_and_a_byte_behind", b"\x00\x00"),
-        ("one_claimed_none_there", b"\x01"),
-        ("changes_65_claimed", b"\x41" + P11_SHEET[1:]),
-        ("changes_65", sheet(*((b"T%d" % i, ABSENT, b"") for i in range(65)))),
-        ("changes_255", sheet(*((b"T%d" % i, UNSEEN, ABSENT) for i in range(255)))),
-        ("one_byte_left_over", P11_SHEET + b"\0"),
-        ("second_change_not_claimed", P11_SHEET + change(b"B", ABSENT, b"x")),
-        ("second_change_missing", b"\x02" + P11_SHEET[1:]),
-        ("seen_kind_3", b"\x01\x01A\x03\x00"),
-        ("seen_kind_3_with_value", b"\x01\x01A\x03\x01x\x00"),
-        ("seen_kind_255", b"\x01\x01A\xff\x00"),
-        ("new_kind_2", b"\x01\x01A\x00\x02"),
-        ("new_kind_3", b"\x01\x01A\x00\x03"),
-        ("new_kind_3_with_value", b"\x01\x01A\x00\x03\x01x"),
-        ("new_kind_255", b"\x01\x01A\x02\xff"),
-        ("name_empty", sheet((b"", ABSENT, b"x"))),
-        ("name_empty_second", sheet((b"A", ABSENT, b"x"), (b"", UNSEEN, ABSENT))),
-        ("name_twice", sheet((b"A", ABSENT, b"x"), (b"A", ABSENT, b"x"))),
-        ("name_twice_first_and_third", sheet((b"SITE", UNSEEN, b"x"), (b"A", ABSENT, b"x"), (b"SITE", UNSEEN, ABSENT))),
-        ("name_twice_of_64", sheet(*((b"T%d" % (i % 63), ABSENT, b"") for i in range(64)))),
-        ("values_in_the_other_order", b"\x01\x04SITE\x01\x01\x03Krk\x01A"),
-        ("name_length_past_the_end", b"\x01\xffA\x00\x00"),
-        ("value_length_past_the_end", b"\x01\x01A\x00\x01\xffx"),
+    for name, where, data in (
+        ("no_bytes", 0, b""),
+        ("empty_and_a_byte_behind", 1, b"\x00\x00"),
+        ("one_claimed_none_there", 1, b"\x01"),
+        ("changes_65_claimed", 0, b"\x41" + P11_SHEET[1:]),
+        ("changes_65", 0, sheet(*((b"T%d" % i, ABSENT, b"") for i in range(65)))),
+        ("changes_255", 0, sheet(*((b"T%d" % i, UNSEEN, ABSENT) for i in range(255)))),
+        ("one_byte_left_over", 10, P11_SHEET + b"\0"),
+        ("second_change_not_claimed", 10, P11_SHEET + change(b"B", ABSENT, b"x")),
+        ("second_change_missing", 10, b"\x02" + P11_SHEET[1:]),
+        ("seen_kind_3", 3, b"\x01\x01A\x03\x00"),
+        ("seen_kind_3_with_value", 3, b"\x01\x01A\x03\x01x\x00"),
+        ("seen_kind_255", 3, b"\x01\x01A\xff\x00"),
+        ("new_kind_2", 4, b"\x01\x01A\x00\x02"),
+        ("new_kind_3", 4, b"\x01\x01A\x00\x03"),
+        ("new_kind_3_with_value", 4, b"\x01\x01A\x00\x03\x01x"),
+        ("new_kind_255", 4, b"\x01\x01A\x02\xff"),
+        ("name_empty", 1, sheet((b"", ABSENT, b"x"))),
+        ("name_empty_second", 7, sheet((b"A", ABSENT, b"x"), (b"", UNSEEN, ABSENT))),
+        ("name_twice", 7, sheet((b"A", ABSENT, b"x"), (b"A", ABSENT, b"x"))),
+        ("name_twice_first_and_third", 16, sheet((b"SITE", UNSEEN, b"x"), (b"A", ABSENT, b"x"), (b"SITE", UNSEEN, ABSENT))),
+        ("name_twice_of_64", 432, sheet(*((b"T%d" % (i % 63), ABSENT, b"") for i in range(64)))),
+        ("values_in_the_other_order", 8, b"\x01\x04SITE\x01\x01\x03Krk\x01A"),
+        ("name_length_past_the_end", 3, b"\x01\xffA\x00\x00"),
+        ("value_length_past_the_end", 7, b"\x01\x01A\x00\x01\xffx"),
     ):
-        put(f"sheet_{name}", data, "refused 10")
+        put(f"sheet_{name}", data, f"refused 10 place {where}")
     for byte in (0, 31, 127, 128, 255):
-        put(f"sheet_name_byte_{byte:03}", sheet((b"A" + bytes([byte]), UNSEEN, b"x")), "refused 10")
-        put(f"sheet_new_byte_{byte:03}", sheet((b"A", UNSEEN, b"x" + bytes([byte]))), "refused 10")
-        put(f"sheet_seen_byte_{byte:03}", sheet((b"A", b"x" + bytes([byte]), ABSENT)), "refused 10")
+        put(f"sheet_name_byte_{byte:03}", sheet((b"A" + bytes([byte]), UNSEEN, b"x")), "refused 10 place 3")
+        put(f"sheet_new_byte_{byte:03}", sheet((b"A", UNSEEN, b"x" + bytes([byte]))), "refused 10 place 7")
+        put(f"sheet_seen_byte_{byte:03}", sheet((b"A", b"x" + bytes([byte]), ABSENT)), "refused 10 place 6")
     full = sheet((b"SITE", b"Krk", b"Hvar"), (b"NEW", ABSENT, b"n"))
     for n in range(1, len(full)):
-        put(f"sheet_cut_to_{n:02}", full[:n], "refused 10")
+        put(f"sheet_cut_to_{n:02}", full[:n], f"refused 10 place {n}")
     put("sheet_not_cut", full, "saved")
     put("bytes_032_and_126", sheet((b" ~", ABSENT, b"~ "), (b"~", ABSENT, b" ")), "saved")
     put("value_empty_new", sheet((b"X", ABSENT, b"")), f"saved {size + 3}")
@@ -1642,17 +1739,17 @@ def save_vectors(v):
     put("of_937_64_more", sheet(*((b"n%02d" % i, ABSENT, b"") for i in range(64))), "refused 17", user=full[:937], room=6000)
     put("of_936_64_more", sheet(*((b"n%02d" % i, ABSENT, b"") for i in range(64))), "saved", user=full[:936], room=6000)
     # Where two lines hold.
-    put("both_10_and_11", sheet((b"SITE", ABSENT, b"x"), (b"A\x7f", ABSENT, b"x")), "refused 10")
-    put("both_10_and_11_left_over", sheet((b"SITE", ABSENT, b"x")) + b"\0", "refused 10")
-    put("both_10_and_9", P11_SHEET[:-1], "refused 10", room=0)
+    put("both_10_and_11", sheet((b"SITE", ABSENT, b"x"), (b"A\x7f", ABSENT, b"x")), "refused 10 place 12")
+    put("both_10_and_11_left_over", sheet((b"SITE", ABSENT, b"x")) + b"\0", "refused 10 place 10")
+    put("both_10_and_9", P11_SHEET[:-1], "refused 10 place 9", room=0)
     put("both_11_and_17", sheet((b"new", ABSENT, b""), (full[0][0], b"x", b"y")), place(1), user=full, room=6000)
     put("both_11_and_9", P11_SHEET, place(0), room=0)
     put("both_17_and_9", sheet((b"new", ABSENT, b"")), "refused 17", user=full, room=0)
-    for number, file in refused_files():
-        put(f"file_refused_{number}", P11_SHEET, f"refused {number}", file=file)
-    put("both_7_and_10", b"", "refused 7", file=RICH[:-1])
+    for number, refusal, file in refused_files():
+        put(f"file_refused_{number}", P11_SHEET, refusal, file=file)
+    put("both_7_and_10", b"", f"refused 7 place {len(RICH) - 1}", file=RICH[:-1])
     put("both_5_and_10", b"\xff", "refused 5", file=changed(RICH, 25, u64(0)))
-    put("both_7_and_9", P11_SHEET, "refused 7", file=RICH[:-1], room=0)
+    put("both_7_and_9", P11_SHEET, f"refused 7 place {len(RICH) - 1}", file=RICH[:-1], room=0)
     put("unclosed", P11_SHEET, "refused 5", file=unclosed())
 
 
@@ -1692,23 +1789,23 @@ def browser_vectors(v):
     put("4_of_3", 4, three, "end next 4")
     for name, number in BEYOND + (("2_to_32_and_1", 2**32 + 1), ("top_less_1", TOP - 1)):
         put(f"{name}_of_3", number, three, f"end next {number}")
-        put(f"{name}_of_malformed", number, three[:-1], f"refused 7 next {number}")
+        put(f"{name}_of_malformed", number, three[:-1], f"refused 7 place 26 next {number}")
     put("0_of_none", 0, table(), "end next 0 walk 0 cbf29ce484222325")
     put("1_of_none", 1, table(), "end next 1")
     put("top_of_none", TOP, table(), f"end next {TOP}")
     for number in (0, 1, 3, 4):
-        put(f"{number}_one_byte_short", number, three[:-1], f"refused 7 next {number}")
-        put(f"{number}_one_byte_long", number, three + b"\0", f"refused 7 next {number}")
-    put("no_bytes", 0, b"", "refused 7 next 0 walk refused 7")
-    put("three_zeros", 0, bytes(3), "refused 7 next 0")
-    put("five_zeros", 0, bytes(5), "refused 7 next 0")
+        put(f"{number}_one_byte_short", number, three[:-1], f"refused 7 place 26 next {number}")
+        put(f"{number}_one_byte_long", number, three + b"\0", f"refused 7 place 27 next {number}")
+    put("no_bytes", 0, b"", "refused 7 place 0 next 0 walk refused 7 place 0")
+    put("three_zeros", 0, bytes(3), "refused 7 place 0 next 0")
+    put("five_zeros", 0, bytes(5), "refused 7 place 4 next 0")
     for n in range(len(table(TAGS[0]))):
-        put(f"table_cut_to_{n:02}", 0, table(TAGS[0])[:n], "refused 7 next 0")
-    put("one_tag_more_claimed", 0, u32(4) + three[4:], "refused 7 next 0")
-    put("one_tag_fewer_claimed", 0, u32(2) + three[4:], "refused 7 next 0")
-    for name, data in bad_tables():
-        put(f"over_{name}", 0, data, "refused 7 next 0")
-    put("second_tag_bad_first_asked", 0, table((b"A", b"x"), (b"", b"")), "refused 7 next 0")
+        put(f"table_cut_to_{n:02}", 0, table(TAGS[0])[:n], f"refused 7 place {n if n >= 4 else 0} next 0")
+    put("one_tag_more_claimed", 0, u32(4) + three[4:], "refused 7 place 27 next 0")
+    put("one_tag_fewer_claimed", 0, u32(2) + three[4:], "refused 7 place 21 next 0")
+    for name, data, place in bad_tables():
+        put(f"over_{name}", 0, data, f"refused 7 place {place} next 0 walk refused 7 place {place}")
+    put("second_tag_bad_first_asked", 0, table((b"A", b"x"), (b"", b"")), "refused 7 place 8 next 0")
     for name, data, count in good_tables():
         put(f"last_of_{name}", count - 1, data, "tag name")
         put(f"end_of_{name}", count, data, f"end next {count}")
@@ -1747,14 +1844,253 @@ def named_vectors(v):
     put("one_space", b" ", table((b"  ", b""), (b" ", b"")), "tag name 9 1 value 11 0")
     put("last_of_1000", many_tags(1000)[999][0], table(*many_tags(1000)), "tag name")
     put("absent_in_1000", b"zz", table(*many_tags(1000)), "absent")
-    put("over_no_bytes", b"A", b"", "refused 7")
-    put("over_one_byte_short", b"SITE", four[:-1], "refused 7")
-    put("over_one_byte_long", b"SITE", four + b"\0", "refused 7")
-    put("empty_name_over_one_byte_long", b"", four + b"\0", "refused 7")
-    put("found_before_a_malformed_tag", b"SITE", table(TAGS[0], (b"", b"")), "refused 7")
-    put("the_empty_name_itself", b"", table((b"", b"x")), "refused 7")
-    for name, data in bad_tables():
-        put(f"over_{name}", b"SITE", data, "refused 7")
+    put("over_no_bytes", b"A", b"", "refused 7 place 0")
+    put("over_one_byte_short", b"SITE", four[:-1], "refused 7 place 35")
+    put("over_one_byte_long", b"SITE", four + b"\0", "refused 7 place 36")
+    put("empty_name_over_one_byte_long", b"", four + b"\0", "refused 7 place 36")
+    put("found_before_a_malformed_tag", b"SITE", table(TAGS[0], (b"", b"")), "refused 7 place 13")
+    put("the_empty_name_itself", b"", table((b"", b"x")), "refused 7 place 4")
+    for name, data, place in bad_tables():
+        put(f"over_{name}", b"SITE", data, f"refused 7 place {place} walk refused 7 place {place}")
+
+
+# ---- (4) places ----
+
+PAIR = build(named_sections(b"IMAGE", b"STATUS"), frames=())  # the names' bytes from 35 and 49, the offsets at 40 and 55, both 63
+THREE = with_names(b"A", b"B", b"C")  # names at 34, 44 and 54, the offsets behind them at 36, 46 and 56, all 64
+
+
+def places_of_definitions():
+    """Files refused 3: name, file, place."""
+    yield "first_offset_64", changed(PAIR, 40, u64(64)), 40
+    yield "first_offset_62", changed(PAIR, 40, u64(62)), 40
+    yield "first_offset_64_and_dash_at_52", changed(changed(PAIR, 40, u64(64)), 52, b"-"), 52
+    yield "dash_at_52", changed(PAIR, 52, b"-"), 52
+    yield "second_offset_62", changed(PAIR, 55, u64(62)), 55
+    yield "both_offsets_64", changed(changed(PAIR, 40, u64(64)), 55, u64(64)), 40
+    # What does not end the reading is told where it stands ahead of what does.
+    falls = changed(THREE, 46, u64(63))
+    yield "offset_falls_ahead_of_a_bad_name", changed(falls, 55, b"-"), 46
+    yield "offset_falls_ahead_of_an_empty_name", changed(falls, 54, b"\x00"), 46
+    yield "offset_falls_ahead_of_the_end_in_a_name", falls[:55], 46
+    yield "offset_falls_ahead_of_the_end_in_an_offset", falls[:60], 46
+    yield "offset_falls_behind_a_bad_name", changed(falls, 45, b"-"), 45
+    yield "offset_falls_behind_a_name_used_twice", changed(falls, 45, b"A"), 44
+    yield "offset_falls_ahead_of_a_name_used_twice", changed(falls, 55, b"B"), 46
+    yield "offset_falls_in_the_section_whose_name_is_used_twice", changed(changed(THREE, 56, u64(63)), 55, b"A"), 54
+    yield "name_used_twice_ahead_of_a_bad_name", changed(changed(THREE, 45, b"A"), 55, b"-"), 44
+    yield "name_used_twice_behind_a_bad_name", changed(changed(THREE, 45, b"-"), 55, b"A"), 45
+    yield "name_used_twice_ahead_of_the_end_in_its_offset", changed(THREE, 45, b"A")[:50], 44
+    # What the first offset has to be is known at the end of the definitions only.
+    wrong = changed(THREE, 36, u64(63))
+    yield "first_offset_wrong_and_a_bad_name", changed(wrong, 55, b"-"), 55
+    yield "first_offset_wrong_and_an_empty_name", changed(wrong, 44, b"\x00"), 44
+    yield "first_offset_wrong_and_the_end_in_a_name", wrong[:55], 55
+    yield "first_offset_wrong_and_the_end_in_an_offset", wrong[:60], 56
+    yield "first_offset_65_and_the_end_in_an_offset", changed(THREE, 36, u64(65))[:60], 46  # behind 65 the second offset, 64, falls
+    yield "first_offset_65_and_a_bad_name", changed(changed(THREE, 36, u64(65)), 55, b"-"), 46
+    yield "first_offset_wrong_and_a_name_used_twice", changed(wrong, 45, b"A"), 36
+    yield "first_offset_wrong_and_a_name_used_twice_and_a_bad_name", changed(changed(wrong, 45, b"A"), 55, b"-"), 44
+    yield "first_offset_wrong_and_sections_9", changed(wrong, 33, b"\x09"), 33
+    yield "names_abba", with_names(b"A", b"B", b"B", b"A"), 54
+    yield "names_abab", with_names(b"A", b"B", b"A", b"B"), 54
+    yield "names_abcc_and_a_bad_first", changed(with_names(b"A", b"B", b"C", b"C"), 35, b"_"), 35
+    yield "offset_too_far_behind_one_that_falls", changed(falls, 56, u64(2**40)), 46
+    yield "offset_too_far", changed(THREE, 56, u64(64 + 65_536)), 56
+
+
+def places_of_tables():
+    """Tables with faults of which the first is told, whatever follows the table: name, bytes, place."""
+    yield "name_used_twice_and_its_value_bad", bytes.fromhex("02000000 01 41 00 01 41 01 07"), 7
+    yield "names_abba", table((b"A", b""), (b"B", b""), (b"B", b""), (b"A", b"")), 10
+    yield "names_abab", table((b"A", b""), (b"B", b""), (b"A", b""), (b"B", b"")), 10
+    yield "value_bad_ahead_of_its_name_again", table((b"A", b"\x07"), (b"A", b"")), 7
+    yield "value_bad_behind_a_name_used_twice", table((b"A", b""), (b"A", b""), (b"B", b"\x07")), 7
+    yield "value_bad_ahead_of_a_name_used_twice", table((b"A", b""), (b"B", b"x\x07"), (b"A", b"")), 11
+    yield "name_and_value_bad", table((b"\x07", b"\x07")), 5
+    yield "name_empty_and_value_bad", table((b"", b"\x07")), 4
+    yield "value_bad_ahead_of_a_bad_name", table((b"A", b"\x7f"), (b"\x1f", b"")), 7
+    yield "name_bad_ahead_of_a_name_used_twice", table((b"A", b""), (b"B\x7f", b""), (b"A", b"")), 9
+    yield "name_used_twice_ahead_of_a_bad_name", table((b"A", b""), (b"A", b""), (b"B\x7f", b"")), 7
+    yield "two_bad_bytes_in_a_value", table((b"A", b"x\x00y\xff")), 8
+    yield "two_bad_bytes_in_a_name", table((b"xy\x00\xff", b"")), 7
+    yield "tags_1001_claimed_and_a_bad_name", u32(1001) + table((b"\x07", b""))[4:], 0
+
+
+def places_at_an_end():
+    """Tables that are lent alone, or end the file, and run out of bytes or have some left over: name, bytes, place."""
+    yield "value_bad_ahead_of_the_end", u32(1) + b"\x01A\x05a\x07", 8
+    yield "value_bad_at_the_first_byte_ahead_of_the_end", u32(1) + b"\x01A\xff\x07", 7
+    yield "name_bad_ahead_of_the_end", u32(1) + b"\x05A\x07", 6
+    yield "name_runs_out", u32(1) + b"\x05AB", 7
+    yield "value_runs_out", u32(1) + b"\x01A\x05ab", 9
+    yield "name_used_twice_and_no_value", u32(2) + b"\x01A\x00\x01A", 7
+    yield "name_runs_out_that_begins_as_the_first", u32(2) + b"\x01A\x00\x02A", 9
+    yield "no_second_tag", u32(2) + b"\x01A\x00", 7
+    yield "count_of_three_bytes", b"\xff\xff\xff", 0
+    yield "one_left_over", table((b"A", b"x")) + b"\x07", 8
+    yield "one_tag_left_over", u32(1) + table((b"A", b"x"), (b"A", b"\x07"))[4:], 8
+    yield "name_used_twice_and_one_left_over", table((b"A", b""), (b"A", b"")) + b"\0", 7
+    yield "value_bad_and_one_left_over", table((b"A", b"\x07")) + b"\0", 7
+
+
+def places_of_sheets():
+    """Sheets refused 10: name, bytes, place."""
+    yield "name_bad_ahead_of_the_end", bytes.fromhex("01 05 41 07"), 3
+    yield "name_runs_out", bytes.fromhex("01 05 41 42"), 4
+    yield "no_seen_kind", bytes.fromhex("01 01 41"), 3
+    yield "no_new_kind", bytes.fromhex("01 01 41 00"), 4
+    yield "no_new_kind_behind_a_value", bytes.fromhex("01 01 41 01 01 78"), 6
+    yield "no_new_value", bytes.fromhex("01 01 41 00 01"), 5
+    yield "new_value_runs_out", bytes.fromhex("01 01 41 00 01 05 61"), 7
+    yield "new_value_bad_ahead_of_the_end", bytes.fromhex("01 01 41 00 01 05 61 07"), 7
+    yield "seen_value_runs_out", bytes.fromhex("01 01 41 01 05 61"), 6
+    yield "seen_value_bad_ahead_of_a_wrong_kind", bytes.fromhex("01 01 41 01 01 07 05"), 5
+    yield "seen_kind_wrong_ahead_of_the_end", bytes.fromhex("01 01 41 03"), 3
+    yield "new_kind_wrong_behind_a_value", bytes.fromhex("01 01 41 01 01 78 02"), 6
+    yield "both_kinds_wrong", bytes.fromhex("01 01 41 03 02"), 3
+    yield "name_empty_and_kinds_wrong", bytes.fromhex("01 00 03 03"), 1
+    yield "names_abba", sheet(*((name, UNSEEN, ABSENT) for name in (b"A", b"B", b"B", b"A"))), 9
+    yield "name_used_twice_and_its_kind_wrong", bytes.fromhex("02 01 41 00 00 01 41 03 00"), 5
+    yield "name_used_twice_and_no_kind", bytes.fromhex("02 01 41 00 00 01 41"), 5
+    yield "kind_wrong_ahead_of_a_name_used_twice", bytes.fromhex("02 01 41 00 05 01 41 00 00"), 4
+    yield "value_bad_ahead_of_a_name_used_twice", sheet((b"A", ABSENT, b"\x1f"), (b"A", ABSENT, b"")), 6
+    yield "value_bad_behind_a_name_used_twice", sheet((b"A", ABSENT, b""), (b"A", ABSENT, b"\x1f")), 6
+    yield "name_used_twice_and_one_left_over", sheet((b"A", ABSENT, b""), (b"A", ABSENT, b"")) + b"\0", 6
+    yield "name_bad_and_changes_65_claimed", bytes.fromhex("41 01 07"), 0
+    yield "one_left_over_behind_a_value", sheet((b"A", ABSENT, b"x")) + b"\x07", 7
+
+
+def places_of_lists():
+    """Set-up lists: name, bytes, number, place. 10 asks whether the bytes are all there and none left over, and nothing else."""
+    yield "configuration_cut_short", bytes.fromhex("01 05 49 4D 41 47 45 05 00 61 62 63"), 10, 9
+    yield "no_configuration", bytes.fromhex("01 01 41 05 00"), 10, 5
+    yield "half_a_length", bytes.fromhex("01 01 41 05"), 10, 3
+    yield "bad_character_ahead_of_the_end", bytes.fromhex("01 05 2D 41"), 10, 4
+    yield "bad_character_and_all_there", bytes.fromhex("01 05 2D 41 42 43 44 00 00"), 3, 2
+    yield "bad_character_last_and_all_there", bytes.fromhex("01 05 41 42 43 44 2D 00 00"), 3, 6
+    yield "name_empty_ahead_of_the_end", bytes.fromhex("01 00"), 10, 2
+    yield "name_empty_and_all_there", bytes.fromhex("01 00 00 00"), 3, 1
+    yield "sections_9_and_the_end", bytes.fromhex("09 01 41 00 00"), 10, 5
+    yield "sections_9_and_a_bad_character", set_up(*named_sections(*EIGHT, b"-")), 3, 0
+    yield "sections_0_and_one_left_over", bytes.fromhex("00 07"), 10, 1
+    yield "names_abba", set_up(*named_sections(b"A", b"B", b"B", b"A")), 3, 9
+    yield "name_used_twice_ahead_of_a_bad_one", set_up(*named_sections(b"A", b"A", b"-")), 3, 5
+    yield "name_used_twice_behind_a_bad_one", set_up(*named_sections(b"A", b"-", b"A")), 3, 6
+    yield "name_used_twice_and_one_left_over", set_up(*named_sections(b"A", b"A")) + b"\0", 10, 9
+    yield "name_used_twice_and_the_end", set_up(*named_sections(b"A", b"A"))[:-1], 10, 7
+    yield "name_used_twice_behind_configurations", set_up((b"A", b"-xy"), (b"A", b"")), 3, 8
+    yield "bad_character_in_a_configuration_alone", set_up((b"A", b"-\x00\xff")), 0, None
+
+
+def place_vectors(v):
+    v.open("place_pair", PAIR, 0)
+    v.open("place_three", THREE, 0)
+    for name, file, place in places_of_definitions():
+        v.open("place_3_" + name, file, 3, place)
+        v.put("repair_place_3_" + name, of_repair(200, file), f"refused 3 place {place}")
+    v.open("place_4_system_offset_1048", changed(WORKED, 17, u64(1048)), 4, 1048)
+    v.put("repair_place_4_system_offset_1048", of_repair(200, changed(WORKED, 17, u64(1048))), "refused 4 place 1048")
+    v.open("place_4_offset_low_and_table_bad", changed(build(system_table=table((b"", b""))), 17, u64(47)), 4, 17)
+    alone = [*places_of_tables(), *places_at_an_end()]
+    for name, data, place in places_of_tables():
+        v.open("place_4_" + name, build(system_table=data), 4, 48 + place)
+        v.put("repair_place_4_" + name, of_repair(200, unclosed(system_table=data)), f"refused 4 place {48 + place}")
+    for name, data, place in alone:
+        file, refusal = build(user_table=data), f"refused 7 place {94 + place}"
+        v.open("place_7_" + name, file, 7, 94 + place)
+        v.put("save_place_7_" + name, of_save(200, P11_SHEET, file), refusal)
+        v.put("begin_place_4_" + name, of_begin(NEW, 4, 200, IMAGE, data), f"refused 4 place {place}")
+        v.put("browse_place_7_" + name, of_browse(0, data), f"refused 7 place {place} next 0 walk refused 7 place {place}")
+        v.put("named_place_7_" + name, of_named(b"A", data), f"refused 7 place {place} walk refused 7 place {place}")
+    # Frames and parts are refused as opening is, with the same place, whatever is asked for.
+    dash = changed(changed(PAIR, 40, u64(64)), 52, b"-")
+    v.put("frame_place_3", of_frame(0, dash), "refused 3 place 52")
+    v.put("frame_place_4", of_frame(TOP, build(system_table=table((b"A", b"\x07")))), "refused 4 place 55")
+    v.put("frame_place_7", of_frame(0, build(user_table=table((b"A", b"\x07")))), "refused 7 place 101")
+    for kind, name in enumerate(KINDS):
+        v.put(f"part_place_3_{name}", of_part(kind, 0, 0, dash), "refused 3 place 52 part of 0")
+        v.put(f"part_place_4_{name}", of_part(kind, TOP, 0, changed(WORKED, 17, u64(1048))), "refused 4 place 1048 part of 0")
+        v.put(f"part_place_7_{name}", of_part(kind, 0, 0, WORKED + b"\x07"), "refused 7 place 98 part of 0")
+    for name, data, place in places_of_sheets():
+        v.put("save_place_10_" + name, of_save(200, data, build(user=TAGS)), f"refused 10 place {place}")
+    for name, data, number, place in places_of_lists():
+        wanted = refused(Refusal(number, place)) if number else "given 0"
+        v.put(f"begin_place_{number}_" + name, of_begin(NEW, 4, 200, data, NO_TAGS), wanted)
+
+
+# ---- (5) sweeps ----
+
+# Ends of the byte classes and what stands beside them, lengths, counts and kinds, and the letters of the names below.
+VALUES = bytes([0, 1, 2, 3, 4, 5, 8, 9, 16, 31, 32, 33, 45, 46, 47, 48, 57, 58, 64, 65, 66, 67, 90, 91, 96, 97, 122, 123, 126, 127, 255])
+
+
+def sweeps(v):
+    def put(name, kind, base, other=None, calls=1):
+        inputs = len(base) * 32 * calls
+        v.put("sweep_" + name, of_sweep(kind, VALUES, base, other), f"sweep inputs {inputs}")
+
+    tags = ((b"A", b"B"), (b"B", b""), (b"C", b"xy"))
+    twice, bad = table((b"A", b""), (b"B", b"x"), (b"A", b"y")), table((b"A", b"\x07"), (b"B", b""))
+    small = build(((b"A", b"xy"), (b"B", b""), (b"C", b"z")), ((b"A", b"B"), (b"B", b"")), ((5, 6, b"", b"p", b""),), tags)
+    # Over files with a fault two faults meet, now the one ahead and now the other.
+    files = {
+        "worked": WORKED,
+        "rich": RICH,
+        "small": small,
+        "no_frames": with_names(b"A", b"B"),
+        "first_offset_wrong": changed(THREE, 36, u64(63)),
+        "second_offset_falls": changed(THREE, 46, u64(63)),
+        "names_abba": with_names(b"A", b"B", b"B", b"A"),
+        "second_name_bad": with_names(b"A", b"-", b"C"),
+        "system_offset_low": changed(small, 17, u64(60)),
+        "system_table_bad": build(system_table=bad, frames=()),
+        "system_name_twice": build(system_table=twice, frames=()),
+        "user_table_bad": build(user_table=bad),
+        "user_name_twice": build(user_table=twice),
+        "one_left_over": WORKED + b"\x07",
+    }
+    for name, file in files.items():
+        put("open_" + name, b"F", file)
+        put("repair_" + name, b"R", file)
+    for name in ("worked", "small", "user_table_bad", "user_name_twice"):
+        put("save_file_" + name, b"U", files[name], P11_SHEET)
+    sheets = {
+        "p11": P11_SHEET,
+        "all_kinds": sheet((b"A", b"B", b"x"), (b"B", UNSEEN, ABSENT), (b"D", ABSENT, b"yz"), (b"C", b"xy", ABSENT)),
+        "names_abba": sheet(*((name, UNSEEN, b"x") for name in (b"A", b"B", b"B", b"A"))),
+        "kind_wrong": bytes.fromhex("02 01 41 02 05 01 42 01 01 78 00"),
+        "value_bad": sheet((b"A", UNSEEN, b"x\x07"), (b"B", UNSEEN, b"")),
+        "one_left_over": sheet((b"A", UNSEEN, ABSENT), (b"B", UNSEEN, ABSENT)) + b"\x07",
+        "no_changes": sheet(),
+    }
+    for name, data in sheets.items():
+        put("save_sheet_" + name, b"S", data, small)
+    lists = {
+        "image": IMAGE,
+        "two": set_up((b"AB", b"xyz"), (b"C", b"")),
+        "three": set_up((b"A", b""), (b"B", b"-\x00"), (b"C", b"z")),
+        "names_abba": set_up(*named_sections(b"A", b"B", b"B", b"A")),
+        "name_bad": set_up((b"A", b"x"), (b"-", b""), (b"C", b"")),
+        "eight": set_up(*named_sections(*EIGHT)),
+        "one_left_over": IMAGE + b"\x07",
+    }
+    for name, data in lists.items():
+        put("begin_list_" + name, b"L", data, NO_TAGS)
+    put("begin_list_three_table_bad", b"L", lists["three"], bad)
+    tables = {
+        "no_tags": NO_TAGS,
+        "three_tags": table(*tags),
+        "four_tags": table(*TAGS),
+        "name_twice": twice,
+        "names_abba": table((b"A", b""), (b"B", b""), (b"B", b""), (b"A", b"")),
+        "value_bad": bad,
+        "one_left_over": table(*tags) + b"\x07",
+    }
+    for name, data in tables.items():
+        put("begin_table_" + name, b"T", data, IMAGE)
+        put("browse_" + name, b"B", data, calls=3)
+    put("begin_table_of_no_bytes", b"T", b"", IMAGE)
 
 
 def no_vectors(v):
@@ -1774,6 +2110,13 @@ def no_vectors(v):
     v.put("no_vector_browse_short", of_browse(0, b"")[:-1], "no vector")
     v.put("no_vector_named_alone", b"n", "no vector")
     v.put("no_vector_named_name_short", of_named(b"SITE", b"")[:-1], "no vector")
+    for first in b"FRB":
+        v.put(f"no_vector_sweep_{first:03}_values_short", of_sweep(bytes([first]), VALUES, b"")[:-1], "no vector")
+        v.put(f"no_vector_sweep_{first:03}_alone", bytes([first]), "no vector")
+    for first in b"SULT":
+        v.put(f"no_vector_sweep_{first:03}_values_short", bytes([first]) + short(VALUES), "no vector")
+        v.put(f"no_vector_sweep_{first:03}_other_short", of_sweep(bytes([first]), VALUES, b"", P11_SHEET)[:-1], "no vector")
+        v.put(f"no_vector_sweep_{first:03}_alone", bytes([first]), "no vector")
     v.put("no_vector_whole_short", of_whole(IMAGE, NO_TAGS, ())[:-1], "no vector")
     v.put("no_vector_whole_frame_short", of_whole(IMAGE, NO_TAGS, ONE_FRAME)[:-1], "no vector")
     v.put("frame_no_file", of_frame(0, b""), "refused 1")
@@ -1785,6 +2128,7 @@ def no_vectors(v):
 
 
 def number_of(call, *arguments):
+    """The number that a call is refused with, with the place where it carries one; 0 for none."""
     try:
         call(*arguments)
     except Refusal as refusal:
@@ -1808,7 +2152,7 @@ def check_marked_examples():
     assert answer == (52, 0, 52, 56, 8) and out[:8] == bytes(8)
     answer = model.repair(unclosed()[:74], out)
     assert model.repaired_file(unclosed(), answer, out) == WORKED
-    assert number_of(model.repair, unclosed()[:51], out) == 4
+    assert number_of(model.repair, unclosed()[:51], out) == (4, 48)
     assert model.save(WORKED, P11_SHEET, out) == 11 and out[:11] == P11_TABLE
     assert number_of(model.save, WORKED[:94] + P11_TABLE, P11_SHEET, out) == (11, 0)
     one = State(*ONE_ADDED)
@@ -1823,8 +2167,7 @@ def check_readings():
     """The readings of document 01 that are easy to get wrong, and numbers near the top."""
     opening_number = model.opening_number
     for n in range(99):
-        wanted = 1 if n < 34 else 3 if n < 48 else 4 if n < 52 else 5 if n < 94 else 7 if n < 98 else 0
-        assert opening_number(WORKED[:n]) == wanted
+        assert opening_number(WORKED[:n]) == answer_of_cut(n)[0]
     assert opening_number(changed(WORKED, 25, u64(74))) == 6
     assert opening_number(changed(WORKED, 9, u64(98))) == 6
     assert opening_number(changed(WORKED, 9, u64(TOP))) == opening_number(changed(WORKED, 25, u64(TOP))) == 5
@@ -1839,7 +2182,8 @@ def check_readings():
     assert opening_number(build(frames=((1, 2, bytes(16_777_216)),))) == 0
     assert opening_number(build(frames=((1, 2, bytes(16_777_217)),))) == 6
     notes, out = bytearray(4), bytearray(99)
-    for listed, wanted in ((b"\0", 3), (b"\0\0", 10), (b"\xff", 10), (b"", 10), (set_up(*named_sections(*EIGHT, b"S8")), 3)):
+    nine = set_up(*named_sections(*EIGHT, b"S8"))
+    for listed, wanted in ((b"\0", (3, 0)), (b"\0\0", (10, 1)), (b"\xff", (10, 1)), (b"", (10, 0)), (nine, (3, 0))):
         assert number_of(model.begin, State(*NEW), notes, out, listed, NO_TAGS) == wanted
 
 
@@ -1877,7 +2221,7 @@ def main():
     readers = (opening, frame_reader, part_reader)
     recorder = (begin_vectors, add_vectors, random_recorder_vectors, close_vectors, whole_recordings, repair_vectors, random_repairs)
     tags = (save_vectors, random_saves, browser_vectors, named_vectors)
-    for group in (*readers, *recorder, *tags, no_vectors):
+    for group in (*readers, *recorder, *tags, place_vectors, sweeps, no_vectors):
         group(v)
     v.write()
     print(len(v.all), "vectors,", sum(map(len, v.all.values())), "bytes")

@@ -1,9 +1,12 @@
-"""Document 01 in plain Python: an implementation of its own, by which the vectors' answers were computed.
+"""Document 01 in plain Python, with request #102's places: an implementation of its own, by which the vectors' answers were computed.
 
-It was written from the document alone, without a look at the library under test. Each public call of the library stands here as a
-function: open_file, frame, part and part_number, begin, add, close, repair, save, browse, walk_tags, tag_by_name. A refused call raises Refusal
+It was written from the documents alone, without a look at the library under test. Each public call of the library stands here as a
+function: open_file, frame, part and part_refusal, begin, add, close, repair, save, browse, walk_tags, tag_by_name. A refused call raises Refusal
 with the document's number. Lent outputs are bytearrays; every test of a call comes before its first write, so that a refusal changes
 nothing. Python's whole numbers have no width, so no sum or difference here can wrap.
+
+What is lent is read front to back, and the reading stops at the first fault: its place is the one that the refusal carries. A fault of a
+string is at the byte that breaks its rule, or at the end of the bytes where they run out; any other is at the start of its field.
 """
 
 from collections import namedtuple
@@ -27,6 +30,9 @@ MOST_CHANGES = 64
 NOT_FSTF, REVISION, SECTIONS, SYSTEM_TABLE, NOT_CLOSED, INDEX, USER_TABLE = 1, 2, 3, 4, 5, 6, 7
 NO_SUCH_ITEM, NO_ROOM, SHEET, CONFLICT, STAGE, CLOCK, FRAME_SHAPE, FULL, WHOLE, TABLE_FULL = 8, 9, 10, 11, 12, 13, 14, 15, 16, 17
 
+# Those that carry a place: the first fault's in the lent bytes, and for 11 the number of a change.
+PLACED = (SECTIONS, SYSTEM_TABLE, USER_TABLE, SHEET, CONFLICT)
+
 # The recorder's stages.
 FRESH, RUNNING, CLOSING, CLOSED = 0, 1, 2, 3
 
@@ -45,10 +51,11 @@ Change = namedtuple("Change", "name seen_kind seen new_kind new")
 
 
 class Refusal(Exception):
-    """A refused call: the number, and for 11 the place."""
+    """A refused call: the number, and the place for those that carry one."""
 
     def __init__(self, number, place=None):
         super().__init__(number, place)
+        assert (place is not None) == (number in PLACED), (number, place)
         self.number = number
         self.place = place
 
@@ -92,28 +99,39 @@ def end_of(part):
     return part.at + part.length
 
 
-def short_string_at(data, at):
-    """The Part of a short string's bytes, without the length byte, or None where it runs out of bytes."""
-    if at >= len(data):
-        return None
+def is_any_byte(byte):
+    return True
+
+
+def is_section_byte(byte):
+    return 48 <= byte <= 57 or 65 <= byte <= 90 or 97 <= byte <= 122
+
+
+def is_tag_byte(byte):
+    return 32 <= byte <= 126
+
+
+def short_string_at(data, at, least, is_legal, number):
+    """The Part of a short string's bytes, without the length byte, byte by byte.
+
+    Refused `number` at the length byte where that is below `least`, at the first byte that is not legal, at the end of the bytes where
+    they run out.
+    """
+    refuse_if(at >= len(data), number, len(data))
     part = Part(at + 1, data[at])
-    return part if end_of(part) <= len(data) else None
+    refuse_if(part.length < least, number, at)
+    for place in range(part.at, end_of(part)):
+        refuse_if(place >= len(data), number, len(data))
+        refuse_if(not is_legal(data[place]), number, place)
+    return part
 
 
-def all_different(names):
-    return len(set(names)) == len(names)
-
-
-def is_section_name(name):
-    return len(name) >= 1 and all(48 <= b <= 57 or 65 <= b <= 90 or 97 <= b <= 122 for b in name)
-
-
-def is_tag_text(text):
-    return all(32 <= b <= 126 for b in text)
-
-
-def is_tag_name(name):
-    return len(name) >= 1 and is_tag_text(name)
+def new_name_at(data, at, names, is_legal, number):
+    """The Part of a name that is none of `names`; it joins them. Refused at its start where it is one."""
+    name = short_string_at(data, at, 1, is_legal, number)
+    refuse_if(taken(data, name) in names, number, at)
+    names.append(taken(data, name))
+    return name
 
 
 def times_hold(times):
@@ -125,30 +143,25 @@ def times_hold(times):
 # ---- tables ----
 
 
-def table_at(data, at):
-    """The legal table that starts at `at`: its tags and its end. None where it is malformed or runs past the end."""
+def table_at(data, at, number):
+    """The legal table that starts at `at`: its tags and its end. Refused `number` where it is malformed or runs past the end."""
     count = number_at(data, at, 4)
-    if count is None or count > MOST_TAGS:
-        return None
+    refuse_if(count is None or count > MOST_TAGS, number, at)
     at += 4
-    tags = []
+    tags, names = [], []
     for _ in range(count):
-        name = short_string_at(data, at)
-        value = name and short_string_at(data, end_of(name))
-        if value is None:
-            return None
+        name = new_name_at(data, at, names, is_tag_byte, number)
+        value = short_string_at(data, end_of(name), 0, is_tag_byte, number)
         tags.append(Tag(name, value))
         at = end_of(value)
-    names = [taken(data, tag.name) for tag in tags]
-    values = [taken(data, tag.value) for tag in tags]
-    legal = all(map(is_tag_name, names)) and all(map(is_tag_text, values)) and all_different(names)
-    return (tags, at) if legal else None
+    return tags, at
 
 
-def exact_table(data, at=0):
-    """The tags of the legal table that is all the bytes from `at` on, or None."""
-    found = table_at(data, at)
-    return found[0] if found and found[1] == len(data) else None
+def exact_table(data, at, number):
+    """The tags of the legal table that is all the bytes from `at` on."""
+    tags, end = table_at(data, at, number)
+    refuse_if(end != len(data), number, end)
+    return tags
 
 
 def table_bytes(tags):
@@ -213,22 +226,33 @@ def index_bytes(frames):
 
 
 def definitions_of(file):
-    """Test 3: the Parts of the section names, the configuration offsets."""
-    sections = file[HEADER_LENGTH]
-    refuse_if(not 1 <= sections <= MOST_SECTIONS, SECTIONS)
+    """Test 3: the Parts of the section names, the configuration offsets.
+
+    What the first offset has to be is known at the end of the definitions only. So a name used twice, and an offset against its
+    rule, do not end the reading; the lowest place found is the one told.
+    """
+    count = file[HEADER_LENGTH]
+    refuse_if(not 1 <= count <= MOST_SECTIONS, SECTIONS, HEADER_LENGTH)
     at = HEADER_LENGTH + 1
-    names, offsets = [], []
-    for _ in range(sections):
-        name = short_string_at(file, at)
-        offset = number_at(file, end_of(name), 8) if name else None
-        refuse_if(offset is None, SECTIONS)
-        names.append(name)
-        offsets.append(offset)
-        at = end_of(name) + 8
-    texts = [taken(file, name) for name in names]
-    refuse_if(not all(map(is_section_name, texts)) or not all_different(texts), SECTIONS)
-    refuse_if(offsets[0] != at, SECTIONS)
-    refuse_if(any(not 0 <= b - a <= MOST_CONFIGURATION for a, b in zip(offsets, offsets[1:])), SECTIONS)
+    names, offsets, faults = [], [], []
+    try:
+        for _ in range(count):
+            name = short_string_at(file, at, 1, is_section_byte, SECTIONS)
+            if taken(file, name) in [taken(file, other) for other in names]:
+                faults.append(at)
+            names.append(name)
+            at = end_of(name)
+            offset = number_at(file, at, 8)
+            refuse_if(offset is None, SECTIONS, at)
+            if offsets and not 0 <= offset - offsets[-1] <= MOST_CONFIGURATION:
+                faults.append(at)
+            offsets.append(offset)
+            at += 8
+        refuse_if(offsets[0] != at, SECTIONS, end_of(names[0]))
+    except Refusal as end:
+        faults.append(end.place)
+    if faults:
+        raise Refusal(SECTIONS, min(faults))
     return names, offsets
 
 
@@ -238,12 +262,11 @@ def front_of(file):
     refuse_if(file[REVISION_AT] != 1, REVISION)
     names, offsets = definitions_of(file)
     system_offset = number_at(file, SYSTEM_AT, 8)
-    refuse_if(not 0 <= system_offset - offsets[-1] <= MOST_CONFIGURATION, SYSTEM_TABLE)
-    found = table_at(file, system_offset)
-    refuse_if(found is None, SYSTEM_TABLE)
+    refuse_if(not 0 <= system_offset - offsets[-1] <= MOST_CONFIGURATION, SYSTEM_TABLE, SYSTEM_AT)
+    tags, frames_at = table_at(file, system_offset, SYSTEM_TABLE)
     ends = offsets[1:] + [system_offset]
     configurations = [Part(start, end - start) for start, end in zip(offsets, ends)]
-    return Front(names, configurations, found[0], found[1])
+    return Front(names, configurations, tags, frames_at)
 
 
 def test_closed(file):
@@ -272,8 +295,7 @@ def open_file(file):
     front = front_of(file)
     test_closed(file)
     frames = indexed_frames(file, front)
-    user = exact_table(file, number_at(file, USER_AT, 8))
-    refuse_if(user is None, USER_TABLE)
+    user = exact_table(file, number_at(file, USER_AT, 8), USER_TABLE)
     return Opened(front, frames, user)
 
 
@@ -320,13 +342,13 @@ def part(file, kind, i, j):
         return Part(0, 0)
 
 
-def part_number(file, kind, i, j):
-    """The number for the same arguments as `part`, 0 for none."""
+def part_refusal(file, kind, i, j):
+    """The refusal for the same arguments as `part`, or None."""
     try:
         find_part(file, kind, i, j)
     except Refusal as refusal:
-        return refusal.number
-    return 0
+        return refusal
+    return None
 
 
 # ---- the tag browser, a tag by its name ----
@@ -334,22 +356,19 @@ def part_number(file, kind, i, j):
 
 def browse(table, number):
     """The browser at `number`: the tag or None for the end, and the number it then holds."""
-    tags = exact_table(table)
-    refuse_if(tags is None, USER_TABLE)
+    tags = exact_table(table, 0, USER_TABLE)
     return (tags[number], number + 1) if number < len(tags) else (None, number)
 
 
 def walk_tags(table):
     """The tags of a table one after another, each with the number of tags behind it."""
-    tags = exact_table(table)
-    refuse_if(tags is None, USER_TABLE)
+    tags = exact_table(table, 0, USER_TABLE)
     return [(tag, len(tags) - 1 - i) for i, tag in enumerate(tags)]
 
 
 def tag_by_name(table, name):
     """The tag of that name, or None. Over bytes that are not exactly a legal table it is refused as the browser is."""
-    tags = exact_table(table)
-    refuse_if(tags is None, USER_TABLE)
+    tags = exact_table(table, 0, USER_TABLE)
     return next((tag for tag in tags if taken(table, tag.name) == name), None)
 
 
@@ -377,20 +396,31 @@ def fill(output, data, at=0):
 
 
 def set_up_of(data):
-    """A set-up list, whole: (name, configuration) pairs. 10 where it runs out of bytes or has bytes left over."""
-    refuse_if(len(data) < 1, SHEET)
+    """A set-up list, whole: the Parts of its names and of its configurations. 10 where it runs out of bytes or has bytes left over.
+
+    That is all that 10 asks here: a string of any bytes is taken.
+    """
+    refuse_if(len(data) < 1, SHEET, 0)
     at = 1
     pairs = []
     for _ in range(data[0]):
-        name = short_string_at(data, at)
-        length = number_at(data, end_of(name), 2) if name else None
-        refuse_if(length is None, SHEET)
+        name = short_string_at(data, at, 0, is_any_byte, SHEET)
+        length = number_at(data, end_of(name), 2)
+        refuse_if(length is None, SHEET, end_of(name))
         configuration = Part(end_of(name) + 2, length)
-        refuse_if(end_of(configuration) > len(data), SHEET)
-        pairs.append((taken(data, name), taken(data, configuration)))
+        refuse_if(end_of(configuration) > len(data), SHEET, configuration.at)
+        pairs.append((name, configuration))
         at = end_of(configuration)
-    refuse_if(at != len(data), SHEET)
+    refuse_if(at != len(data), SHEET, at)
     return pairs
+
+
+def test_set_up_names(data, pairs):
+    """Test 3 of a complete set-up list: its count, then its names, counted in the list."""
+    refuse_if(not 1 <= len(pairs) <= MOST_SECTIONS, SECTIONS, 0)
+    names = []
+    for name, _ in pairs:
+        new_name_at(data, name.at - 1, names, is_section_byte, SECTIONS)
 
 
 def opening_piece(pairs, system_table):
@@ -408,11 +438,10 @@ def begin(state, notes, out, set_up_list, system_table):
     """The begin call: 12, 10, 3, 4, 9."""
     refuse_if(state.stage != FRESH, STAGE)
     pairs = set_up_of(set_up_list)
-    names = [name for name, _ in pairs]
-    refuse_if(not 1 <= len(names) <= MOST_SECTIONS, SECTIONS)
-    refuse_if(not all(map(is_section_name, names)) or not all_different(names), SECTIONS)
-    refuse_if(exact_table(system_table) is None, SYSTEM_TABLE)
-    piece = opening_piece(pairs, system_table)
+    test_set_up_names(set_up_list, pairs)
+    exact_table(system_table, 0, SYSTEM_TABLE)
+    texts = [(taken(set_up_list, name), taken(set_up_list, configuration)) for name, configuration in pairs]
+    piece = opening_piece(texts, system_table)
     refuse_if(len(out) < len(piece) or len(notes) < 4, NO_ROOM)
     fill(out, piece)
     fill(notes, u32(0))
@@ -497,29 +526,24 @@ def repaired_file(file, answer, out):
 def optional_value_at(sheet, at, kinds):
     """A kind and, for kind 1, the value directly behind it: the kind, the value or None, the end."""
     kind = number_at(sheet, at, 1)
-    refuse_if(kind is None or kind not in kinds, SHEET)
+    refuse_if(kind is None or kind not in kinds, SHEET, at)
     if kind != 1:
         return kind, None, at + 1
-    value = short_string_at(sheet, at + 1)
-    refuse_if(value is None, SHEET)
+    value = short_string_at(sheet, at + 1, 0, is_tag_byte, SHEET)
     return kind, taken(sheet, value), end_of(value)
 
 
 def changes_of(sheet):
     """The sheet's changes. 10 where it is malformed."""
-    refuse_if(len(sheet) < 1 or sheet[0] > MOST_CHANGES, SHEET)
+    refuse_if(len(sheet) < 1 or sheet[0] > MOST_CHANGES, SHEET, 0)
     at = 1
-    changes = []
+    changes, names = [], []
     for _ in range(sheet[0]):
-        name = short_string_at(sheet, at)
-        refuse_if(name is None, SHEET)
+        name = new_name_at(sheet, at, names, is_tag_byte, SHEET)
         seen_kind, seen, at = optional_value_at(sheet, end_of(name), (0, 1, 2))
         new_kind, new, at = optional_value_at(sheet, at, (0, 1))
         changes.append(Change(taken(sheet, name), seen_kind, seen, new_kind, new))
-    refuse_if(at != len(sheet), SHEET)
-    refuse_if(not all(is_tag_name(c.name) for c in changes), SHEET)
-    refuse_if(not all(is_tag_text(v) for c in changes for v in (c.seen, c.new) if v is not None), SHEET)
-    refuse_if(not all_different([c.name for c in changes]), SHEET)
+    refuse_if(at != len(sheet), SHEET, at)
     return changes
 
 

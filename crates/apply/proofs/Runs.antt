@@ -121,7 +121,7 @@ module _ (t s : List ℕ) (k : ℕ) where
         go : (r : Parsed (List ℕ)) → rowName row.Tag (drop place t) ≡ r
             → ((place passed tags end : ℕ) → place ≤ length t → tags ≡ passed + n → listing [] tags end ≡ listedBy (changeFound s k) n t place passed
             → Ran place n end 0) → Ran place (suc n) end 0
-        go bad f ih =
+        go (bad j) f ih =
             let a : tags ≡ passed = ap (λ (z : Listed). z .tags) (e ∙ list-broken (changeFound s k) n t place passed f) in
             absurd (omega arith)
         go (good name m) f ih = pick (changeFound s k name) refl (e ∙ list-more (changeFound s k) n t place passed name m f)
@@ -159,7 +159,7 @@ module _ (t s : List ℕ) (k : ℕ) where
         go : (r : Parsed (List ℕ)) → rowName row.Tag (drop place t) ≡ r
             → ((place passed tags end : ℕ) → 0 < length l → place ≤ length t → listing l tags end ≡ listedBy (changeFound s k) n t place passed
             → Stops l place n passed tags end) → Stops l place (suc n) passed tags end
-        go bad f ih =
+        go (bad j) f ih =
             let a = ap (λ (z : Listed). length (z .words)) (e ∙ list-broken (changeFound s k) n t place passed f) in
             absurd (omega arith)
         go (good name m) f ih = pick (changeFound s k name) refl (e ∙ list-more (changeFound s k) n t place passed name m f)
@@ -268,7 +268,7 @@ module _ (t : List ℕ) (place passed : ℕ) (walk : Walk) (s list : List ℕ) (
       pub part-broken : p ≡ piece.Broken → Keeps t place passed walk s list i
           (record { first = 0; value = 0; second = 0; end = getD list (i + 1) 0; tags = 0 })
       part-broken b =
-          let c = row-broken (rowName row.Tag (drop (stops .tag) t)) (stops .tag)
+          let (j, c) = row-broken (rowName row.Tag (drop (stops .tag) t)) (stops .tag)
           (piece-no-row t s (stops .tag) (changePlace s (walk .changes) (stops .name)) p told b) in
           let d = stops .stands in
           let z : _≡_ {A = ℕ} 0 1 = cc in

@@ -184,7 +184,7 @@ module _ (s : List ℕ) (at left : ℕ) where
   pub ends-stop : (x all : ℕ) (r : RowPlace) → 0 < left → r ≡ rowOf at (rowName SetUp (drop at s)) → r ≡ Broken
       → x + length (definitionListBytes 0 (rows left (drop at s))) ≡ all → x ≡ all
   unfolding definitionListBytes
-  ends-stop x all r h f g e = omega (arith, rw (rows-stop left (drop at s) (row-none s at r f g)) at e)
+  ends-stop x all r h f g e = omega (arith, rw (rows-stop left (drop at s) (row-none s at r f g .1)) at e)
 
   pub defined-done : (out all : List ℕ) (to offset : ℕ) → left ≤ 0 → sets out to (definitionListBytes offset (rows left (drop at s))) ≡ all
       → out ≡ all
@@ -194,7 +194,7 @@ module _ (s : List ℕ) (at left : ℕ) where
   pub defined-stop : (out all : List ℕ) (to offset : ℕ) (r : RowPlace) → 0 < left → r ≡ rowOf at (rowName SetUp (drop at s)) → r ≡ Broken
       → sets out to (definitionListBytes offset (rows left (drop at s))) ≡ all → out ≡ all
   unfolding definitionListBytes
-  defined-stop out all to offset r h f g e = rw (rows-stop left (drop at s) (row-none s at r f g)) at e
+  defined-stop out all to offset r h f g e = rw (rows-stop left (drop at s) (row-none s at r f g .1)) at e
 
   pub configured-done : (out all : List ℕ) (to : ℕ) → left ≤ 0 → sets out to (configurationsBytes (rows left (drop at s))) ≡ all → out ≡ all
   unfolding configurationsBytes flatMap
@@ -203,7 +203,7 @@ module _ (s : List ℕ) (at left : ℕ) where
   pub configured-stop : (out all : List ℕ) (to : ℕ) (r : RowPlace) → 0 < left → r ≡ rowOf at (rowName SetUp (drop at s)) → r ≡ Broken
       → sets out to (configurationsBytes (rows left (drop at s))) ≡ all → out ≡ all
   unfolding configurationsBytes flatMap
-  configured-stop out all to r h f g e = rw (rows-stop left (drop at s) (row-none s at r f g)) at e
+  configured-stop out all to r h f g e = rw (rows-stop left (drop at s) (row-none s at r f g .1)) at e
 
 pub ends-start : (ss : List Section) → 34 + length (definitionListBytes 0 ss) ≡ definitionsEnd ss
 unfolding definitionsEnd

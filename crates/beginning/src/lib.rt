@@ -12,10 +12,9 @@ ghost use mathlib.Core.List.{_++_};
 ghost use Rattle.number.specs.Number.{bytesOf};
 ghost use Rattle.layout.specs.Recording.{headerBytes, definitionListBytes, definitionsEnd, configurationsBytes};
 ghost use Rattle.layout.specs.Recorder.{sectionsOf, badSetUp, firstPiece};
-ghost use Rattle.refusal.specs.Refusal.{plain};
 ghost use Rattle.setup.specs.SetUp.{rows};
 ghost use Rattle.beginning.specs.Front.{startBytes, headBytes, tableStart, definitionsFit};
-ghost use Rattle.beginning.specs.Pieces.{pieceRefusal, made, firstPieceOf, refusalOf};
+ghost use Rattle.beginning.specs.Pieces.{pieceRefused, made, firstPieceOf, refusalOf};
 
 // Where the system table stands: a section has six bytes more in the file than in the set-up list.
 fn system_place(setup: &[u8]) -> usize
@@ -154,16 +153,17 @@ pub enum FirstPiece {
     Refused(Refusal),
 }
 
-// 10, 3, 4, 9. `notes` and `room` are the lengths of what is lent.
+// 10, 3, 4, 9, the first three with their places. `notes` and `room` are the lengths of what is lent.
 fn refusal_of(setup: &[u8], system: &[u8], notes: usize, room: usize) -> Refusal
-    ensures { λ r. ⌜ r ≡ plain (pieceRefusal (now (setup .entry)) (now (system .entry)) notes room) ⌝ }
+    ensures { λ r. ⌜ r ≡ pieceRefused (now (setup .entry)) (now (system .entry)) notes room ⌝ }
 {
     let refused = setup::list_refusal(setup);
     if refused.number != 0 {
         return refused;
     }
-    if setup::bad_system(system) {
-        return Refusal::SYSTEM_TABLE;
+    let table = setup::system_refusal(system);
+    if table.number != 0 {
+        return table;
     }
     if room < system.len() {
         return Refusal::NO_ROOM;

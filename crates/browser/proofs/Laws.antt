@@ -31,7 +31,8 @@ use Rattle.tables.proofs.Alone.{tags-parts, tags-none}
 use Rattle.tables.proofs.Places.{table-read, tag-found-at, tag-found-past}
 use Rattle.names.proofs.Laws.{find-there}
 use Rattle.names.proofs.Finding.{find-nothing, find-at, number-none, number-at}
-use Rattle.refusal.specs.Refusal.{plain}
+use Rattle.refusal.specs.Refusal.{placed}
+use Rattle.refusal.specs.declared.Refusal.{Refusal}
 use Rattle.browser.specs.Browsing.{browsedTag, browsedAs}
 use Rattle.browser.specs.declared.Browsed.{Browsed}
 use Rattle.browser.specs.declared.Browsed.the-variants as browsed
@@ -56,10 +57,10 @@ found-is t i m ts e = go (ltb i (length ts)) refl
     go true h = rw (tag-found-at t 0 m i ts e (ltb-true i (length ts) h))
     go false h = rw (tag-found-past t 0 m i ts e (ltb-false i (length ts) h))
 
-pub browse-refused : (t : List ℕ) (i : ℕ) (r : Tags) → r ≡ tagsOf (exactly table t) → r ≡ tags.Broken
-    → browsed.Refused (plain 7) ≡ browsedAs (browse t i)
+pub browse-refused : (t : List ℕ) (i k : ℕ) (r : Tags) (q : Refusal) → r ≡ tagsOf (exactly table t) → r ≡ tags.Broken k → q ≡ placed 7 k
+    → browsed.Refused q ≡ browsedAs (browse t i)
 unfolding browse browsedAs
-browse-refused t i r e f = rw (tags-none (exactly table t) (sym e ∙ f), browse)
+browse-refused t i k r q e f g = rw (tags-none (exactly table t) k (sym e ∙ f), browse, g)
 
 browse-is : (t : List ℕ) (ts : List Tag) (m i : ℕ) → exactly table t ≡ good ts m
     → browsedAs (browse t i) ≡ browsedAs (cond (ltb i (length ts)) (tagAt ts i) layout.end)
@@ -72,10 +73,10 @@ browse-found t i n r f b e g h k =
     let (ts, m, p, q) = tags-parts (exactly table t) n (sym e ∙ g) in
     k ∙ ap browsedTag h ∙ found-is t i m ts (exactly-good table t ts m p .0) ∙ sym (browse-is t ts m i p)
 
-pub named-refused : (t name : List ℕ) (r : Tags) → r ≡ tagsOf (exactly table t) → r ≡ tags.Broken
-    → browsed.Refused (plain 7) ≡ browsedAs (tagNamed t name)
+pub named-refused : (t name : List ℕ) (k : ℕ) (r : Tags) (q : Refusal) → r ≡ tagsOf (exactly table t) → r ≡ tags.Broken k → q ≡ placed 7 k
+    → browsed.Refused q ≡ browsedAs (tagNamed t name)
 unfolding tagNamed browsedAs
-named-refused t name r e f = rw (tags-none (exactly table t) (sym e ∙ f), tagNamed)
+named-refused t name k r q e f g = rw (tags-none (exactly table t) k (sym e ∙ f), tagNamed, g)
 
 -- the bytes of the whole name
 whole-name : (name t : List ℕ) (n : ℕ) (f : NameFound) → f ≡ findName name 0 (length name) t 4 n row.Tag → f ≡ found name n (rowName row.Tag) t 0 4
@@ -112,9 +113,9 @@ named-found t name n i at r f d b e g h k x y =
 
 -- ── The cursor ──
 
-pub cursor-refused : (t : List ℕ) (i : ℕ) (r : Tags) → r ≡ tagsOf (exactly table t) → r ≡ tags.Broken → i ≡ cursorAfter (browse t i) i
+pub cursor-refused : (t : List ℕ) (i k : ℕ) (r : Tags) → r ≡ tagsOf (exactly table t) → r ≡ tags.Broken k → i ≡ cursorAfter (browse t i) i
 unfolding browse cursorAfter
-cursor-refused t i r e f = rw (tags-none (exactly table t) (sym e ∙ f), browse)
+cursor-refused t i k r e f = rw (tags-none (exactly table t) k (sym e ∙ f), browse)
 
 cursor-is : (t : List ℕ) (ts : List Tag) (m i : ℕ) (b : Bool) → exactly table t ≡ good ts m → ltb i (length ts) ≡ b
     → cursorAfter (browse t i) i ≡ cond b (i + 1) i

@@ -2,7 +2,7 @@
 use Rattle.layout.specs.Browser as layout
 use Rattle.tables.specs.declared.TagFound.{TagFound}
 use Rattle.tables.specs.declared.TagFound.the-variants as found
-use Rattle.refusal.specs.Refusal.{plain}
+use Rattle.refusal.specs.Refusal.{placed}
 use Rattle.browser.specs.declared.Browsed.{Browsed}
 use Rattle.browser.specs.declared.Browsed.the-variants as browsed
 
@@ -14,4 +14,4 @@ browsedTag found.Nothing = browsed.End
 unfoldable pub browsedAs : layout.Browsed → Browsed
 browsedAs (layout.tag name value) = browsed.Tag (name .start) (name .len) (value .start) (value .len)
 browsedAs layout.end = browsed.End
-browsedAs (layout.refused n) = browsed.Refused (plain n)
+browsedAs (layout.refused n p) = browsed.Refused (placed n p)

@@ -40,30 +40,31 @@ fn tag_or_end(found: TagFound) -> Browsed
     }
 }
 
-// "it holds the next tag's number, and from the count on it gives the end. Over bytes that are not exactly a legal table it is refused 7."
+// "it holds the next tag's number, and from the count on it gives the end. Over bytes that are not exactly a legal table it is refused 7", at the
+// first fault in them.
 pub fn tag_at(table: &[u8], number: u64) -> Browsed
     ensures { λ r. ⌜ r ≡ browsedAs (browse (now (table .entry)) number) ⌝ }
 {
-    let tags = tables::tags_of(table);
-    let Tags::Whole(n) = tags else {
-        return Browsed::Refused(Refusal::USER_TABLE);
-    };
-    tag_or_end(tables::tag_found(table, 0, number as usize))
+    match tables::tags_of(table) {
+        Tags::Whole(n) => tag_or_end(tables::tag_found(table, 0, number as usize)),
+        Tags::Broken(place) => Browsed::Refused(Refusal::USER_TABLE.at(place)),
+    }
 }
 
 // The tag of a name, or the end where there is none.
 pub fn tag_named(table: &[u8], name: &[u8]) -> Browsed
     ensures { λ r. ⌜ r ≡ browsedAs (tagNamed (now (table .entry)) (now (name .entry))) ⌝ }
 {
-    let tags = tables::tags_of(table);
-    let Tags::Whole(n) = tags else {
-        return Browsed::Refused(Refusal::USER_TABLE);
-    };
-    let found = names::find_name(name, 0, name.len(), table, 4, n, Row::Tag);
-    let NameFound::At(number, place) = found else {
-        return Browsed::End;
-    };
-    tag_or_end(tables::tag_found(table, 0, number))
+    match tables::tags_of(table) {
+        Tags::Whole(n) => {
+            let found = names::find_name(name, 0, name.len(), table, 4, n, Row::Tag);
+            let NameFound::At(number, place) = found else {
+                return Browsed::End;
+            };
+            tag_or_end(tables::tag_found(table, 0, number))
+        }
+        Tags::Broken(fault) => Browsed::Refused(Refusal::USER_TABLE.at(fault)),
+    }
 }
 
 // The number of the tag behind it, where there is a tag of this number; else the number as it is.

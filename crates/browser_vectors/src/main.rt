@@ -2,13 +2,21 @@
 // tests/VECTORS.md says what a vector holds and how its line reads.
 use browser::Browsed;
 use cursor::Cursor;
+use refusal::Refusal;
 use vector::print::no_vector;
 use vector::print::refused;
 use vector::print::say;
 use vector::print::with;
 use vector::print::with_sum;
+use vector::sweep::Tally;
+use vector::sweep::line;
+use vector::sweep::turn_bytes;
+use vector::sweep::turn_length;
+use vector::sweep::turns;
 
 const NAMED: u8 = b'n';
+
+const SWEEP: u8 = b'B';
 
 const TAG: u8 = b't';
 
@@ -144,6 +152,59 @@ fn named(fields: &[u8]) {
     walk(table);
 }
 
+fn refusal_of(found: Browsed) -> Refusal {
+    if let Browsed::Refused(refusal) = found {
+        return refusal;
+    }
+    Refusal::NONE
+}
+
+fn refusal_of_cursor(at: Cursor) -> Refusal {
+    if let Cursor::Refused(refusal) = at {
+        return refusal;
+    }
+    Refusal::NONE
+}
+
+// The browser, a tag by its name, and a cursor, one after another.
+fn tried(table: &[u8], before: Tally) -> Tally {
+    let browsed = refusal_of(browser::tag_at(table, 0));
+    let named = refusal_of(browser::tag_named(table, b"A"));
+    let walked = refusal_of_cursor(cursor::first_tag(table));
+    let first = vector::sweep::tried(before, browsed);
+    let second = vector::sweep::tried(first, named);
+    vector::sweep::tried(second, walked)
+}
+
+// Each turn of a sweep of the table.
+fn sweep(base: &[u8], values: &[u8]) {
+    let mut tally = Tally::NONE;
+    let mut turn = 0;
+    let end = turns(base.len());
+    while turn < end {
+        let bytes = turn_bytes(base, values, turn);
+        let n = turn_length(base.len(), turn);
+        tally = tried(&bytes[..n], tally);
+        turn += 1;
+    }
+    line(tally);
+}
+
+// The values of a sweep, and behind them the table.
+fn swept(fields: &[u8]) {
+    if fields.len() < 1 {
+        no_vector();
+        return;
+    }
+    let length = number::read(fields, 0, 1) as usize;
+    let given = &fields[1..];
+    if given.len() < length {
+        no_vector();
+        return;
+    }
+    sweep(&given[length..], &given[..length]);
+}
+
 // The call that a vector holds, by its first byte.
 fn answer(vector: &[u8]) {
     if vector.len() == 0 {
@@ -153,6 +214,7 @@ fn answer(vector: &[u8]) {
     let fields = &vector[1..];
     match vector[0] {
         NAMED => named(fields),
+        SWEEP => swept(fields),
         TAG => browse(fields),
         _ => no_vector(),
     }

@@ -23,7 +23,7 @@ use Rattle.layout.proofs.Condition3.{closedThere}
 use Rattle.stages.specs.Stages.{stageOf}
 use Rattle.stages.specs.declared.Stage.the-variants.{Fresh, Closed}
 use Rattle.limits.specs.Limits.{stateIn}
-use Rattle.recorder.specs.Recorded.{numbersOf, stateOf, answered, takenOf, madeOf, beginOf, addOf, closeOf}
+use Rattle.recorder.specs.Recorded.{numbersOf, stateOf, answered, takenOf, madeOf, madeBegun, beginOf, addOf, closeOf}
 use Rattle.chained.specs.Chains.{LentCall, begins, adds, closes, Chain, piecesIn, after, chained, chain, recording, fileMade, fileCut, callOf, Typed, AllTyped}
 use Rattle.recorder.specs.declared.Recorder.{Recorder}
 use Rattle.recorder.proofs.Bridge.{Held, begin-state, add-state, close-state, begin-held, add-held, close-held, piece-there}
@@ -37,46 +37,46 @@ pub record Same (ch : Chain) (ss : Session) : Type 0 where
   pub sameNotes : ch .notes ≡ ss .notes
   pub samePieces : ch .pieces ≡ ss .pieces
 
-pieces-there : (self : Recorder) (out : List ℕ) (step : Step)
-    → piecesIn (madeOf self out step .taken .piece) (madeOf self out step .out) ≡ pieceOf step (step .refused)
+pieces-there : (at : ℕ) (self : Recorder) (out : List ℕ) (step : Step)
+    → piecesIn (madeOf at self out step .taken .piece) (madeOf at self out step .out) ≡ pieceOf step (step .refused)
 unfolding madeOf takenOf answered piecesIn pieceOf
-pieces-there self out step = go (step .refused)
+pieces-there at self out step = go (step .refused)
   where
-    go : (n : ℕ) → piecesIn (answered n self step .piece) (filled out (step .piece .bytes)) ≡ pieceOf step n
+    go : (n : ℕ) → piecesIn (answered n at self step .piece) (filled out (step .piece .bytes)) ≡ pieceOf step n
     go zero = ap (λ (b : List ℕ). layout.piece (step .piece .place) b ∷ []) (piece-there out (step .piece .bytes))
     go (suc n) = refl
 
-after-same : (ch : Chain) (ss : Session) (out : List ℕ) (step : Step) → Same ch ss → Held (madeOf (ch .recorder) out step .taken .state)
-    → stateOf (madeOf (ch .recorder) out step .taken .state) ≡ step .state → Same (after ch (madeOf (ch .recorder) out step)) (passedOn ss step)
+after-same : (ch : Chain) (ss : Session) (at : ℕ) (out : List ℕ) (step : Step) → Same ch ss → Held (madeOf at (ch .recorder) out step .taken .state)
+    → stateOf (madeOf at (ch .recorder) out step .taken .state) ≡ step .state → Same (after ch (madeOf at (ch .recorder) out step)) (passedOn ss step)
 unfolding after passedOn madeOf
-after-same ch ss out step s h e =
+after-same ch ss at out step s h e =
     record {
       held = h;
       sameState = e;
       sameNotes = refl;
-      samePieces = rw (s .samePieces) (ap (λ (l : List layout.Piece). ss .pieces ++ l) (pieces-there (ch .recorder) out step));
+      samePieces = rw (s .samePieces) (ap (λ (l : List layout.Piece). ss .pieces ++ l) (pieces-there at (ch .recorder) out step));
     }
 
 call-same : (ch : Chain) (ss : Session) (c : LentCall) → Typed c → Same ch ss → Same (chained ch c) (called ss (callOf c))
-unfolding chained called callOf Typed beginOf addOf closeOf
+unfolding chained called callOf Typed beginOf madeBegun addOf closeOf
 call-same ch ss (begins setUp system out) t s =
     let r = ch .recorder in
     let e : layout.begin (stateOf r) setUp system (ch .notes) (length out) ≡ layout.begin (ss .state) setUp system (ss .notes) (length out) =
     rw (s .sameState, s .sameNotes) in
     subst (λ (x : Step). Same (after ch (beginOf r setUp system (ch .notes) out)) (passedOn ss x)) e
-    (after-same ch ss out _ s (begin-held r setUp system (ch .notes) out (s .held)) (begin-state r setUp system (ch .notes) out))
+    (after-same ch ss _ out _ s (begin-held r setUp system (ch .notes) out (s .held)) (begin-state r setUp system (ch .notes) out))
 call-same ch ss (adds time exposure sections out) t s =
     let r = ch .recorder in
     let e : layout.add (stateOf r) (ofZ w64 time) exposure sections (ch .notes) (length out) ≡ layout.add (ss .state)
     (ofZ w64 time) exposure sections (ss .notes) (length out) = rw (s .sameState, s .sameNotes) in
     subst (λ (x : Step). Same (after ch (addOf r time exposure sections (ch .notes) out)) (passedOn ss x)) e
-    (after-same ch ss out _ s (add-held r time exposure sections (ch .notes) out (s .held) (t .0))
+    (after-same ch ss _ out _ s (add-held r time exposure sections (ch .notes) out (s .held) (t .0))
     (add-state r time exposure sections (ch .notes) out (s .held) (t .0)))
 call-same ch ss (closes out) t s =
     let r = ch .recorder in
     let e : layout.close (stateOf r) (ch .notes) (length out) ≡ layout.close (ss .state) (ss .notes) (length out) = rw (s .sameState, s .sameNotes) in
     subst (λ (x : Step). Same (after ch (closeOf r (ch .notes) out)) (passedOn ss x)) e
-    (after-same ch ss out _ s (close-held r (ch .notes) out (s .held)) (close-state r (ch .notes) out (s .held)))
+    (after-same ch ss _ out _ s (close-held r (ch .notes) out (s .held)) (close-state r (ch .notes) out (s .held)))
 
 -- ── Any calls ──
 

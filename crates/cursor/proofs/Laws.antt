@@ -6,11 +6,10 @@ use mathlib.Core.Path.{_≡_, refl, sym, _∙_}
 use mathlib.Core.List.{List, []}
 use lib.ListN.{length, take, drop, drop-of-length-le}
 use borrow.Author.Needs.{needs}
-use Rattle.layout.specs.Recording.{Tag, legalTagName, legalTagValue}
-use Rattle.layout.specs.Reading.{bad, exactly, only, _then_, give, string, tag, table}
+use Rattle.layout.specs.Reading.{bad, exactly, onward, only, faultAt, placed, _then_, number, string, stringFault, tagName, tag, table}
 use Rattle.layout.specs.Cursor.{standsAt, firstTag, nextTag}
 use Rattle.layout.proofs.Cursors.{stands-none, stands-bad, stands-tag}
-use Rattle.refusal.specs.Refusal.{plain}
+use Rattle.refusal.specs.Refusal as refusal
 use Rattle.refusal.specs.declared.Refusal.{Refusal}
 use Rattle.tables.specs.Tables.{tagPlaceOf, tagsOf}
 use Rattle.tables.specs.declared.TagPlace.{TagPlace}
@@ -19,8 +18,7 @@ use Rattle.tables.specs.declared.Tags.{Tags}
 use Rattle.tables.specs.declared.Tags.the-variants as tags
 use Rattle.tables.proofs.Laws.{tag-parts, tag-broken, tag-fits-1, tag-fits-2, tag-fits-3}
 use Rattle.tables.proofs.Alone.{tags-parts, tags-none}
-use Rattle.strings.proofs.Laws.{no-string, part-length}
-use Rattle.parts.proofs.Readers.{only-bad, then-bad}
+use Rattle.strings.proofs.Laws.{part-length}
 use Rattle.cursor.specs.Cursors.{cursorAs, nextAs}
 use Rattle.cursor.specs.declared.Cursor.{Cursor}
 use Rattle.cursor.specs.declared.Cursor.the-variants as cursor
@@ -35,7 +33,7 @@ pub stands-broken : (s : List ℕ) (p count : ℕ) (r : TagPlace) → (count ≡
     → cursor.End ≡ cursorAs (standsAt s p count)
 unfolding cursorAs
 stands-broken s p zero r h e f = absurd (h refl)
-stands-broken s p (suc left) r h e f = rw (stands-bad s p left (tag-broken (tag (drop p s)) (sym e ∙ f)))
+stands-broken s p (suc left) r h e f = let (m, g) = tag-broken (tag (drop p s)) (sym e ∙ f) in rw (stands-bad s p left m g)
 
 pub stands-whole : (s : List ℕ) (p count n m : ℕ) (r : TagPlace) → (count ≡ 0 → ⊥) → r ≡ tagPlaceOf (tag (drop p s)) → r ≡ tagPlace.Whole n m
     → cursor.Tag (p + 1) n (p + 1 + n + 1) m (count - 1) ≡ cursorAs (standsAt s p count)
@@ -50,9 +48,10 @@ stands-whole s p (suc left) n m r h e f =
 
 -- ── The first tag ──
 
-pub first-refused : (s : List ℕ) (r : Tags) → r ≡ tagsOf (exactly table s) → r ≡ tags.Broken → cursor.Refused (plain 7) ≡ cursorAs (firstTag s)
+pub first-refused : (s : List ℕ) (k : ℕ) (r : Tags) (q : Refusal) → r ≡ tagsOf (exactly table s) → r ≡ tags.Broken k → q ≡ refusal.placed 7 k
+    → cursor.Refused q ≡ cursorAs (firstTag s)
 unfolding firstTag cursorAs
-first-refused s r e f = rw (tags-none (exactly table s) (sym e ∙ f), firstTag)
+first-refused s k r q e f g = rw (tags-none (exactly table s) k (sym e ∙ f), firstTag, g)
 
 pub first-is : (s : List ℕ) (n : ℕ) (r : Tags) (c : Cursor) → r ≡ tagsOf (exactly table s) → r ≡ tags.Whole n → c ≡ cursorAs (standsAt s 4 n)
     → c ≡ cursorAs (firstTag s)
@@ -64,16 +63,14 @@ first-is s n r c e f g =
 -- ── The next tag ──
 
 -- past the end there is no tag
-no-tag : tag [] ≡ bad
-unfolding tag
-no-tag =
-    then-bad {B = Tag} (only legalTagName string) (λ n. only legalTagValue string then λ v. give (record { name = n; value = v })) []
-    (only-bad legalTagName string [] no-string)
+no-tag : tag [] ≡ bad 0
+unfolding tag tagName placed faultAt stringFault only string _then_ onward number
+no-tag = refl
 
 past-end : (s : List ℕ) (p left : ℕ) → length s < p → cursor.End ≡ cursorAs (standsAt s p left)
 unfolding cursorAs
 past-end s p zero h = rw (stands-none s p)
-past-end s p (suc left) h = rw (stands-bad s p left (rw (drop-of-length-le s {i = p} (omega arith)) no-tag))
+past-end s p (suc left) h = rw (stands-bad s p left 0 (rw (drop-of-length-le s {i = p} (omega arith)) no-tag))
 
 pub value-past : (s : List ℕ) (v l left : ℕ) → length s < v → cursor.End ≡ cursorAs (standsAt s (v + l) left)
 value-past s v l left h = past-end s (v + l) left (omega arith)

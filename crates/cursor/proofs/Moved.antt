@@ -19,7 +19,7 @@ next-is : (s : List ℕ) (c : layout.Cursor) → nextAs s (cursorAs c) ≡ curso
 unfolding nextAs cursorAs nextTag
 next-is s (layout.at name value left) = refl
 next-is s layout.end = refl
-next-is s (layout.refused n) = refl
+next-is s (layout.refused n p) = refl
 
 called-is : (s : List ℕ) (k : ℕ) (c : layout.Cursor) → called s k (cursorAs c) ≡ cursorAs (moved s k c)
 unfolding called moved

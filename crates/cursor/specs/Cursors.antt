@@ -3,7 +3,7 @@ use Prim.Native.Nat.{ℕ}
 use mathlib.Core.List.{List}
 use Rattle.layout.specs.Cursor.{nextTag}
 use Rattle.layout.specs.Cursor as layout
-use Rattle.refusal.specs.Refusal.{plain}
+use Rattle.refusal.specs.Refusal.{placed}
 use Rattle.cursor.specs.declared.Cursor.{Cursor}
 use Rattle.cursor.specs.declared.Cursor.the-variants as cursor
 
@@ -11,7 +11,7 @@ use Rattle.cursor.specs.declared.Cursor.the-variants as cursor
 unfoldable pub cursorAs : layout.Cursor → Cursor
 cursorAs (layout.at name value left) = cursor.Tag (name .start) (name .len) (value .start) (value .len) left
 cursorAs layout.end = cursor.End
-cursorAs (layout.refused n) = cursor.Refused (plain n)
+cursorAs (layout.refused n p) = cursor.Refused (placed n p)
 
 -- the next of any cursor, one that is refused with its number and its place
 unfoldable pub nextAs : List ℕ → Cursor → Cursor

@@ -40,15 +40,15 @@ fn stands_at(table: &[u8], place: usize, count: usize) -> Cursor
     }
 }
 
-// "Over bytes that are not exactly a legal table it is refused 7"; else at the first tag, or at the end of a table that has none.
+// "Over bytes that are not exactly a legal table it is refused 7", at the first fault in them; else at the first tag, or at the end of a table
+// that has none.
 pub fn first_tag(table: &[u8]) -> Cursor
     ensures { λ r. ⌜ r ≡ cursorAs (firstTag (now (table .entry))) ⌝ }
 {
-    let tags = tables::tags_of(table);
-    let Tags::Whole(n) = tags else {
-        return Cursor::Refused(Refusal::USER_TABLE);
-    };
-    stands_at(table, 4, n)
+    match tables::tags_of(table) {
+        Tags::Whole(n) => stands_at(table, 4, n),
+        Tags::Broken(place) => Cursor::Refused(Refusal::USER_TABLE.at(place)),
+    }
 }
 
 // The cursor behind a value, wherever it is said to stand: past the table's end there is no tag.

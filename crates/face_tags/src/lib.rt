@@ -13,7 +13,8 @@ ghost use Rattle.face_tags.specs.Face.{savedNot, savedFlat, saved, outco
 
 // ── Saving ──
 
-// The length of the new user table, which stands at the start of the lent output; refused, 0.
+// The length of the new user table, which stands at the start of the lent output; refused, 0. The place counts from the start of the file for 3, 4 and 7
+// and of the sheet for 10; 11's is the number of the change.
 #[repr(C)]
 pub struct FstfSaved {
     pub refused: u64,
@@ -56,6 +57,7 @@ pub fn save(file: &[u8], sheet: &[u8], out: &mut [u8]) -> FstfSaved
 const FOUND: u64 = 1;
 
 // A tag of a table, by the places and lengths of its name and its value; `found` is 0 at the end, where there is no such tag, and where it is refused.
+// 7's place counts from the start of the lent table.
 #[repr(C)]
 pub struct FstfTag {
     pub refused: u64,

@@ -36,12 +36,12 @@ within-high high n h = and-true (leb 0 n) (leb n high) (le-leb 0 n (omega arith)
 over-high : (high n : ℕ) → high < n → within 0 high n ≡ false
 over-high high n h = rw (le-leb 0 n (omega arith), lt-leb n high h)
 
-size-short : (f : List ℕ) (at : ℕ) → length f < at + 4 → sized (drop at f) ≡ bad
+size-short : (f : List ℕ) (at : ℕ) → length f < at + 4 → sized (drop at f) ≡ bad 0
 unfolding sized
 size-short f at h = then-bad (only (within 0 longestSection) (number 4)) block (drop at f)
     (only-bad (within 0 longestSection) (number 4) (drop at f) (number-cut 4 f at (omega arith)))
 
-size-large : (f : List ℕ) (at : ℕ) → at + 4 ≤ length f → longestSection < readAt f at 4 → sized (drop at f) ≡ bad
+size-large : (f : List ℕ) (at : ℕ) → at + 4 ≤ length f → longestSection < readAt f at 4 → sized (drop at f) ≡ bad 0
 unfolding sized
 size-large f at h e =
     then-bad (only (within 0 longestSection) (number 4)) block (drop at f)
@@ -53,10 +53,10 @@ size-read : (f : List ℕ) (at : ℕ) → at + 4 ≤ length f → readAt f at 4 
 size-read f at h e = only-pass (within 0 longestSection) (number 4) (drop at f) (readAt f at 4) 4 (number-read f at 4 (omega arith) h)
     (within-high longestSection (readAt f at 4) e)
 
-size-cut : (f : List ℕ) (at : ℕ) → at + 4 ≤ length f → readAt f at 4 ≤ longestSection → length f < at + 4 + readAt f at 4 → sized (drop at f) ≡ bad
+size-cut : (f : List ℕ) (at : ℕ) → at + 4 ≤ length f → readAt f at 4 ≤ longestSection → length f < at + 4 + readAt f at 4 → sized (drop at f) ≡ bad 4
 unfolding sized
 size-cut f at h e l =
-    then-next-bad (only (within 0 longestSection) (number 4)) block (drop at f) (readAt f at 4) 4 (size-read f at h e)
+    then-next-bad (only (within 0 longestSection) (number 4)) block (drop at f) (readAt f at 4) 4 {m = 0} (size-read f at h e)
     (rw drop-drop (block-short (readAt f at 4) f (at + 4) (omega arith)))
 
 size-whole : (f : List ℕ) (at : ℕ) → at + 4 + readAt f at 4 ≤ length f → readAt f at 4 ≤ longestSection
@@ -109,7 +109,7 @@ sections-done f at left all h e = sym (times-done sized left f at h) ∙ e
 
 pub sections-stop : (f : List ℕ) (at left : ℕ) (all r : Place) → 0 < left → r ≡ sizedAt f at → r ≡ Broken → sectionsAt f at left ≡ all → Broken ≡ all
 unfolding sectionsAt sizedAt
-sections-stop f at left all r h p q e = sym (times-stop sized left f at h (end-bad (sized (drop at f)) at (sym p ∙ q))) ∙ e
+sections-stop f at left all r h p q e = sym (times-stop sized left f at h (end-bad (sized (drop at f)) at (sym p ∙ q) .1)) ∙ e
 
 pub sections-step : (f : List ℕ) (at next left : ℕ) (all r : Place) → 0 < left → r ≡ sizedAt f at → r ≡ End next → sectionsAt f at left ≡ all
     → sectionsAt f next (left - 1) ≡ all
@@ -129,7 +129,7 @@ sections-first f at left end h e = go (sized (drop at f)) refl
   where
     go : (p : Parsed (List ℕ)) → sized (drop at f) ≡ p → (at + 4 + readAt f at 4 ≤ length f)
         × (sectionsAt f (at + 4 + readAt f at 4) (left - 1) ≡ End end)
-    go bad g = absurd (ended-not end (sym (times-stop sized left f at h g) ∙ e))
+    go (bad m) g = absurd (ended-not end (sym (times-stop sized left f at h g) ∙ e))
     go (good x n) g =
         let (a, b) = size-stands f at x n g in
         let c : at + 4 + readAt f at 4 ≡ at + n = omega arith in
@@ -223,8 +223,8 @@ frame-is k s ss m h e t =
     (m + 0) (number-is 4 (drop 8 (drop 4 s)) (omega (arith, length-drop 4 s, length-drop 8 (drop 4 s))))
     (then-takes (times k sized) _ _ ss _ m 0 (rw d₂ t) refl))))
 
-parsed-not : {A : Type 0} (x : A) (n : ℕ) → bad ≡ good x n → ⊥
-parsed-not x n e = let z : _≡_ {A = ℕ} 0 1 = cc in omega arith
+parsed-not : {A : Type 0} (x : A) (m n : ℕ) → bad m ≡ good x n → ⊥
+parsed-not x m n e = let z : _≡_ {A = ℕ} 0 1 = cc in omega arith
 
 -- there is no frame where its parts can not be there
 no-frame : (f : List ℕ) (at k : ℕ) → ((x : Frame) (n : ℕ) → FrameParts k (drop at f) x n → ⊥) → Broken ≡ frameEnd f at k
@@ -232,7 +232,7 @@ unfolding frameEnd endOf
 no-frame f at k h = go (frame k (drop at f)) refl
   where
     go : (p : Parsed Frame) → frame k (drop at f) ≡ p → Broken ≡ endOf at p
-    go bad e = refl
+    go (bad m) e = refl
     go (good x n) e = absurd (h x n (frame-parts k (drop at f) x n e))
 
 pub end-short : (f : List ℕ) (at k : ℕ) → length f < 16 → Broken ≡ frameEnd f at k
@@ -255,8 +255,8 @@ end-sections f at k m r h l p q u = u ∙ go (times k sized (drop (at + 16) f)) 
     d = ap (times k sized) (drop-drop 16 at f)
 
     go : (x : Parsed (List (List ℕ))) → times k sized (drop (at + 16) f) ≡ x → endOf (at + 16) x ≡ frameEnd f at k
-    go bad g = no-frame f at k (λ x n w. let z : _≡_ {A = Parsed (List (List ℕ))} bad (good (x .sections) (w .sizes)) = sym g ∙ sym d
-        ∙ w .sections in parsed-not (x .sections) (w .sizes) z)
+    go (bad m) g = no-frame f at k (λ x n w. let z : _≡_ {A = Parsed (List (List ℕ))} (bad m) (good (x .sections) (w .sizes)) = sym g ∙ sym d
+        ∙ w .sections in parsed-not (x .sections) m (w .sizes) z)
     go (good ss n) g =
         let i = frame-is k (drop at f) ss n (omega (arith, length-drop at f)) (sym (read-is f at 4 (omega arith) (omega arith)) ∙ sym p ∙ q)
         (d ∙ g) in
@@ -286,13 +286,13 @@ sections-ended f at k next q =
     let s : times k sized (drop (at + 16) f) ≡ good (x .sections) (p .sizes) = sym (ap (times k sized) (drop-drop 16 at f)) ∙ p .sections in
     rw s (ap End (omega (arith, p .taken)))
 
-pub not-ended : (f : List ℕ) (at k : ℕ) → frameEnd f at k ≡ Broken → frame k (drop at f) ≡ bad
+pub not-ended : (f : List ℕ) (at k : ℕ) → frameEnd f at k ≡ Broken → (m : ℕ) × (frame k (drop at f) ≡ bad m)
 unfolding frameEnd
 not-ended f at k q = end-bad (frame k (drop at f)) at q
 
 pub frame-none : (f : List ℕ) (at k : ℕ) (r : Place) → r ≡ frameEnd f at k → r ≡ Broken → None ≡ frameAt f at k
 unfolding frameAt wholeFrame
-frame-none f at k r p q = rw (not-ended f at k (sym p ∙ q))
+frame-none f at k r p q = rw (not-ended f at k (sym p ∙ q) .1)
 
 pub frame-whole : (f : List ℕ) (at k t e next : ℕ) (r : Place) → r ≡ frameEnd f at k → r ≡ End next → t ≡ readAt f (at + 4) 8
     → e ≡ readAt f (at + 12) 4 → Whole next t e ≡ frameAt f at k
@@ -339,7 +339,7 @@ found f at k next t e q = go (frame k (drop at f)) refl q
   where
     go : (p : Parsed Frame) → frame k (drop at f) ≡ p → wholeFrame at p ≡ Whole next t e
         → (x : Frame) × (n : ℕ) × (frame k (drop at f) ≡ good x n) × (at + n ≡ next) × (x .time ≡ t) × (x .exposure ≡ e)
-    go bad g w = let z : _≡_ {A = ℕ} 0 1 = cc in absurd (omega arith)
+    go (bad m) g w = let z : _≡_ {A = ℕ} 0 1 = cc in absurd (omega arith)
     go (good x n) g w = (x, n, g, cc, cc, cc)
 
 -- a frame that was found ends behind its place

@@ -48,8 +48,8 @@ walk-first f k start zero x xs e =
 walk-first f k start (suc most) x xs e = go (frame k (drop start f)) refl
   where
     go : (p : Parsed Frame) → frame k (drop start f) ≡ p → x .time ≡ readAt f (start + 4) 8
-    go bad g =
-        let q : [] ≡ x ∷ xs = rw (walk-stop (suc most) k (drop start f) g) at e in
+    go (bad m) g =
+        let q : [] ≡ x ∷ xs = rw (walk-stop (suc most) k (drop start f) (rw g)) at e in
         let z : _≡_ {A = ℕ} 0 1 = cc in
         absurd (omega arith)
     go (good y n) g =

@@ -21,7 +21,7 @@ frameEnd f at sections = endOf at (frame sections (drop at f))
 
 -- the whole frame at a place: where it ends, and its two numbers
 unfoldable pub wholeFrame : (at : ℕ) → Parsed Frame → FrameAt
-wholeFrame at bad = None
+wholeFrame at (bad m) = None
 wholeFrame at (good f n) = Whole (at + n) (f .time) (f .exposure)
 
 unfoldable pub frameAt : List ℕ → (at sections : ℕ) → FrameAt

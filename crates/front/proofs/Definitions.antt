@@ -11,8 +11,7 @@ use lib.Dec.{leb}
 use borrow.Author.Needs.{needs}
 use borrow.Author.Tests.{le-leb, lt-leb}
 use Rattle.number.specs.Number.{readAt}
-use Rattle.layout.specs.Recording.{legalSectionName}
-use Rattle.layout.specs.Reading.{Parsed, bad, good, Reader, onward, give, _then_, only, times, number, string, Definition, definition}
+use Rattle.layout.specs.Reading.{Parsed, bad, good, Reader, onward, behind, give, _then_, times, number, sectionName, Definition, definition}
 use Rattle.layout.specs.Opening.{steps, lastOffset}
 use Rattle.number.proofs.Bytes.{and-true}
 use Rattle.layout.proofs.Lists.{cond-true, cond-false}
@@ -22,7 +21,7 @@ use Rattle.strings.specs.declared.Text.{Text}
 use Rattle.strings.specs.declared.Text.the-variants as text
 use Rattle.strings.proofs.Laws.{textOf-broken}
 use Rattle.parts.proofs.Readers.{then-bad, number-cut}
-use Rattle.tables.proofs.Laws.{legal-parts, legal-place, legal-after}
+use Rattle.strings.proofs.Named.{section-parts, section-place, section-after}
 use Rattle.parts.proofs.Taken.{number-read, then-next-bad}
 use Rattle.front.specs.Front.{wholeDefinition, definitionAt, legalOffsets, offsetsAt}
 use Rattle.front.specs.declared.DefinitionAt.{DefinitionAt}
@@ -33,43 +32,43 @@ use Rattle.front.specs.declared.Offsets.the-variants as offsets
 -- ── A definition ──
 
 -- where its name ends, the file has not ended
-pub name-ends : (f : List ℕ) (at n : ℕ) (r : Text) → r ≡ textOf (only legalSectionName string (drop at f)) → r ≡ text.Whole n → at + 1 + n ≤ length f
-name-ends f at n r p q = legal-parts legalSectionName f at n (sym p ∙ q) .0
+pub name-ends : (f : List ℕ) (at n : ℕ) (r : Text) → r ≡ textOf (sectionName (drop at f)) → r ≡ text.Whole n → at + 1 + n ≤ length f
+name-ends f at n r p q = section-parts f at n (sym p ∙ q) .0
 
 -- what stands behind a name
 abbrev behindName : List ℕ → Reader Definition
 behindName n = number 8 then λ at. give (record { name = n; offset = at })
 
-behind : (f : List ℕ) (at n : ℕ) → drop (1 + n) (drop at f) ≡ drop (at + 1 + n) f
-behind f at n =
+behind-name : (f : List ℕ) (at n : ℕ) → drop (1 + n) (drop at f) ≡ drop (at + 1 + n) f
+behind-name f at n =
     let e : at + (1 + n) ≡ at + 1 + n = omega arith in
     drop-drop (1 + n) at f ∙ rw e
 
-pub definition-unnamed : (f : List ℕ) (at : ℕ) (r : Text) → r ≡ textOf (only legalSectionName string (drop at f)) → r ≡ text.Broken
+pub definition-unnamed : (f : List ℕ) (at : ℕ) (r : Text) → r ≡ textOf (sectionName (drop at f)) → r ≡ text.Broken
     → definitionAs.Broken ≡ definitionAt f at
 unfolding definitionAt wholeDefinition definition
 definition-unnamed f at r p q =
-    rw (then-bad (only legalSectionName string) behindName (drop at f) (textOf-broken (only legalSectionName string (drop at f)) (sym p ∙ q)))
+    rw (then-bad sectionName behindName (drop at f) (textOf-broken (sectionName (drop at f)) (sym p ∙ q) .1))
 
-pub definition-cut : (f : List ℕ) (at n : ℕ) (r : Text) → r ≡ textOf (only legalSectionName string (drop at f)) → r ≡ text.Whole n
+pub definition-cut : (f : List ℕ) (at n : ℕ) (r : Text) → r ≡ textOf (sectionName (drop at f)) → r ≡ text.Whole n
     → length f - (at + 1 + n) < 8 → definitionAs.Broken ≡ definitionAt f at
 unfolding definitionAt wholeDefinition definition
 definition-cut f at n r p q h =
-    let g = legal-parts legalSectionName f at n (sym p ∙ q) .2 in
+    let g = section-parts f at n (sym p ∙ q) .1 in
     let v : List ℕ = take n (drop (at + 1) f) in
-    let b : number 8 (drop (1 + n) (drop at f)) ≡ bad = rw (behind f at n) (number-cut 8 f (at + 1 + n) h) in
-    rw (then-next-bad (only legalSectionName string) behindName (drop at f) v (1 + n) g
+    let b : number 8 (drop (1 + n) (drop at f)) ≡ bad 0 = rw (behind-name f at n) (number-cut 8 f (at + 1 + n) h) in
+    rw (then-next-bad sectionName behindName (drop at f) v (1 + n) {m = 0} g
     (then-bad (number 8) (λ o. give (record { name = v; offset = o })) (drop (1 + n) (drop at f)) b))
 
-pub definition-whole : (f : List ℕ) (at n o : ℕ) (r : Text) → r ≡ textOf (only legalSectionName string (drop at f)) → r ≡ text.Whole n
+pub definition-whole : (f : List ℕ) (at n o : ℕ) (r : Text) → r ≡ textOf (sectionName (drop at f)) → r ≡ text.Whole n
     → 8 ≤ length f - (at + 1 + n) → o ≡ readAt f (at + 1 + n) 8 → definitionAs.Whole (at + 1 + n + 8) o ≡ definitionAt f at
 unfolding definitionAt wholeDefinition definition give
 definition-whole f at n o r p q h e =
-    let g = legal-parts legalSectionName f at n (sym p ∙ q) .2 in
+    let g = section-parts f at n (sym p ∙ q) .1 in
     let v : List ℕ = take n (drop (at + 1) f) in
-    let b : number 8 (drop (1 + n) (drop at f)) ≡ good o 8 = rw (behind f at n, e) (number-read f (at + 1 + n) 8 (omega arith) (omega arith)) in
+    let b : number 8 (drop (1 + n) (drop at f)) ≡ good o 8 = rw (behind-name f at n, e) (number-read f (at + 1 + n) 8 (omega arith) (omega arith)) in
     let d : definition (drop at f) ≡ good (record { name = v; offset = o }) (1 + n + (8 + 0)) =
-    then-takes (only legalSectionName string) behindName (drop at f) v (record { name = v; offset = o }) (1 + n) (8 + 0) g
+    then-takes sectionName behindName (drop at f) v (record { name = v; offset = o }) (1 + n) (8 + 0) g
     (then-takes (number 8) (λ k. give (record { name = v; offset = k })) (drop (1 + n) (drop at f)) o
     (record { name = v; offset = o }) 8 0 b refl) in
     rw d (ap (λ (k : ℕ). definitionAs.Whole k o) (omega arith))
@@ -84,15 +83,16 @@ definition-found f at next o q = go (definition (drop at f)) refl q
   where
     go : (p : Parsed Definition) → definition (drop at f) ≡ p → wholeDefinition at p ≡ definitionAs.Whole next o
         → (d : Definition) × (n : ℕ) × (definition (drop at f) ≡ good d n) × (at + n ≡ next) × (d .offset ≡ o)
-    go bad g w = let z : _≡_ {A = ℕ} 0 1 = cc in absurd (omega arith)
+    go (bad m) g w = let z : _≡_ {A = ℕ} 0 1 = cc in absurd (omega arith)
     go (good d n) g w = (d, n, g, cc, cc)
 
-pub definition-none : (f : List ℕ) (at : ℕ) → definitionAt f at ≡ definitionAs.Broken → definition (drop at f) ≡ bad
+pub definition-none : (f : List ℕ) (at : ℕ) → definitionAt f at ≡ definitionAs.Broken → (m : ℕ) × (definition (drop at f) ≡ bad m)
 unfolding definitionAt wholeDefinition
 definition-none f at q = go (definition (drop at f)) refl q
   where
-    go : (p : Parsed Definition) → definition (drop at f) ≡ p → wholeDefinition at p ≡ definitionAs.Broken → definition (drop at f) ≡ bad
-    go bad g w = g
+    go : (p : Parsed Definition) → definition (drop at f) ≡ p → wholeDefinition at p ≡ definitionAs.Broken
+        → (m : ℕ) × (definition (drop at f) ≡ bad m)
+    go (bad m) g w = (m, g)
     go (good d n) g w = let z : _≡_ {A = ℕ} 0 1 = cc in absurd (omega arith)
 
 pub offsets-done : (f : List ℕ) (at left last : ℕ) (all : Offsets) → left ≤ 0 → offsetsAt f at left last ≡ all → offsets.Legal at last ≡ all
@@ -106,13 +106,13 @@ pub offsets-stop : (f : List ℕ) (at left last : ℕ) (r : DefinitionAt) (all :
     → offsetsAt f at left last ≡ all → offsets.Broken ≡ all
 unfolding offsetsAt legalOffsets times onward
 offsets-stop f at zero last r all h p q e = absurd (omega arith)
-offsets-stop f at (suc left) last r all h p q e = sym (rw (definition-none f at (sym p ∙ q))) ∙ e
+offsets-stop f at (suc left) last r all h p q e = sym (rw (definition-none f at (sym p ∙ q) .1)) ∙ e
 
 -- one more definition, and those behind it
 offsets-cons : (f : List ℕ) (at left last : ℕ) (d : Definition) (n : ℕ) → 0 < left → definition (drop at f) ≡ good d n
     → offsetsAt f at left last ≡ cond (leb last (d .offset) && leb (d .offset - last) 65535)
     (offsetsAt f (at + n) (left - 1) (d .offset)) offsets.Broken
-unfolding offsetsAt legalOffsets times onward steps lastOffset
+unfolding offsetsAt legalOffsets times onward behind steps lastOffset
 offsets-cons f at zero last d n h e = absurd (omega arith)
 offsets-cons f at (suc left) last d n h e =
     let p : suc left - 1 ≡ left = omega arith in
@@ -129,9 +129,9 @@ offsets-cons f at (suc left) last d n h e =
     either true = refl
     either false = refl
 
-    go : (x : Parsed (List Definition)) → legalOffsets at last (onward x (λ rest m. good (d ∷ rest) (n + m))) ≡ cond
+    go : (x : Parsed (List Definition)) → legalOffsets at last (behind n (onward x (λ rest m. good (d ∷ rest) m))) ≡ cond
         (leb last (d .offset) && leb (d .offset - last) 65535) (legalOffsets (at + n) (d .offset) x) offsets.Broken
-    go bad = either (leb last (d .offset) && leb (d .offset - last) 65535)
+    go (bad m) = either (leb last (d .offset) && leb (d .offset - last) 65535)
     go (good ds m) = tests (leb last (d .offset) && leb (d .offset - last) 65535) (steps (d .offset) ds) m ds
 
 offsets-broken : (f : List ℕ) (at left last next o : ℕ) (all : Offsets) → 0 < left → definitionAt f at ≡ definitionAs.Whole next o
@@ -165,8 +165,8 @@ offsets-step f at left last next o r all h p q l m e = go (definition-found f at
 pub ruleset laws = (
   needs,
   name-ends,
-  legal-place,
-  legal-after,
+  section-place,
+  section-after,
   definition-unnamed,
   definition-cut,
   definition-whole,

@@ -10,14 +10,15 @@ use lib.Dec.{ltb}
 use borrow.Author.Needs.{needs}
 use borrow.Author.Tests.{le-leb, le-ltb, lt-ltb, ltb-false}
 use Rattle.layout.specs.Recording.{Tag, fileMark, same}
-use Rattle.layout.specs.Reading.{Parsed, bad, good, isBad, valueOr, taken, table}
-use Rattle.layout.specs.Opening.{firstOf, headerCount, indexOffset, systemOffset, userOffset, definedIn, readSystem, walkStart, lastOffset, notFstf, otherRevision, badSections, badSystem, frontLines}
+use Rattle.layout.specs.Reading.{Parsed, bad, good, isBad, valueOr, taken, faultOf, table}
+use Rattle.layout.specs.Opening.{firstOf, headerCount, indexOffset, systemOffset, userOffset, definedIn, readSystem, walkStart, lastOffset, notFstf, otherRevision, badSections, farSystem, badSystem, sectionsFault, systemFault, openingPlace, frontLines}
 use Rattle.layout.proofs.Lists.{or-false}
 use Rattle.layout.proofs.Lines.{line-pass, line-holds, FrontPasses, front-pass}
 use Rattle.tables.specs.Tables.{tablePlaceOf}
 use Rattle.tables.specs.declared.TablePlace.{TablePlace}
 use Rattle.tables.specs.declared.TablePlace.the-variants as tableAs
-use Rattle.refusal.specs.Refusal.{plain}
+use Rattle.refusal.specs.Refusal.{placed, plain}
+use Rattle.refusal.specs.declared.Refusal.{Refusal}
 use Rattle.front.specs.Front.{sectionsOf, systemTable, frontHeld, frontBy, frontOf, frontRefusal}
 use Rattle.header.specs.Header.{headerOf}
 use Rattle.header.specs.declared.Header.{Header}
@@ -60,11 +61,11 @@ sections-pass f n last e = go (badSections f) e
 
 -- ── 4 ──
 
-pub system-early : (f : List ℕ) (system last : ℕ) → system < last → tableAs.Broken ≡ systemTable f system last
+pub system-early : (f : List ℕ) (system last : ℕ) → system < last → tableAs.Broken 17 ≡ systemTable f system last
 unfolding systemTable
 system-early f system last h = rw (lt-ltb system last h)
 
-pub system-late : (f : List ℕ) (system last : ℕ) → last ≤ system → 65535 < system - last → tableAs.Broken ≡ systemTable f system last
+pub system-late : (f : List ℕ) (system last : ℕ) → last ≤ system → 65535 < system - last → tableAs.Broken 17 ≡ systemTable f system last
 unfolding systemTable
 system-late f system last h l = rw (le-ltb system last h, lt-ltb (last + 65535) system (omega arith))
 
@@ -81,25 +82,27 @@ table-found f at n end q = go (table (drop at f)) refl q
   where
     go : (p : Parsed (List Tag)) → table (drop at f) ≡ p → tablePlaceOf at p ≡ tableAs.Whole n end
         → (ts : List Tag) × (m : ℕ) × (table (drop at f) ≡ good ts m) × (length ts ≡ n) × (at + m ≡ end)
-    go bad e g = let z : _≡_ {A = ℕ} 0 1 = cc in absurd (omega arith)
+    go (bad i) e g = let z : _≡_ {A = ℕ} 0 1 = cc in absurd (omega arith)
     go (good ts m) e g = (ts, m, e, cc, cc)
 
-pub table-none : (f : List ℕ) (at : ℕ) → tablePlaceOf at (table (drop at f)) ≡ tableAs.Broken → table (drop at f) ≡ bad
+pub table-none : (f : List ℕ) (at k : ℕ) → tablePlaceOf at (table (drop at f)) ≡ tableAs.Broken k
+    → (m : ℕ) × (table (drop at f) ≡ bad m) × (at + m ≡ k)
 unfolding tablePlaceOf
-table-none f at q = go (table (drop at f)) refl q
+table-none f at k q = go (table (drop at f)) refl q
   where
-    go : (p : Parsed (List Tag)) → table (drop at f) ≡ p → tablePlaceOf at p ≡ tableAs.Broken → table (drop at f) ≡ bad
-    go bad e g = e
+    go : (p : Parsed (List Tag)) → table (drop at f) ≡ p → tablePlaceOf at p ≡ tableAs.Broken k → (m : ℕ) × (table (drop at f) ≡ bad m) × (at + m ≡ k)
+    go (bad m) e g = (m, e, cc)
     go (good ts m) e g = let z : _≡_ {A = ℕ} 0 1 = cc in absurd (omega arith)
 
-system-refused : (f : List ℕ) → systemTable f (systemOffset f) (lastOffset 0 (definedIn f)) ≡ tableAs.Broken → badSystem f ≡ true
-unfolding systemTable badSystem readSystem
-system-refused f e = go (ltb (systemOffset f) (lastOffset 0 (definedIn f)) || ltb (lastOffset 0 (definedIn f) + 65535) (systemOffset f)) e
+system-refused : (f : List ℕ) (k : ℕ) → systemTable f (systemOffset f) (lastOffset 0 (definedIn f)) ≡ tableAs.Broken k
+    → (badSystem f ≡ true) × (systemFault f ≡ k)
+unfolding systemTable badSystem systemFault readSystem faultOf
+system-refused f k e = go (farSystem f) e
   where
-    go : (b : Bool) → cond b tableAs.Broken (tablePlaceOf (systemOffset f) (table (drop (systemOffset f) f))) ≡ tableAs.Broken
-        → (b || isBad (table (drop (systemOffset f) f))) ≡ true
-    go true q = refl
-    go false q = rw (table-none f (systemOffset f) q)
+    go : (b : Bool) → cond b (tableAs.Broken 17) (tablePlaceOf (systemOffset f) (table (drop (systemOffset f) f))) ≡ tableAs.Broken k
+        → ((b || isBad (table (drop (systemOffset f) f))) ≡ true) × (cond b 17 (systemOffset f + faultOf (table (drop (systemOffset f) f))) ≡ k)
+    go true q = (refl, cc)
+    go false q = let (m, g, h) = table-none f (systemOffset f) k q in (rw g, rw g h)
 
 system-pass : (f : List ℕ) (n start : ℕ) → systemTable f (systemOffset f) (lastOffset 0 (definedIn f)) ≡ tableAs.Whole n start
     → (badSystem f ≡ false) × (length (valueOr [] (readSystem f)) ≡ n) × (walkStart f ≡ start)
@@ -110,30 +113,30 @@ system-pass f n start e = go (ltb (systemOffset f) (lastOffset 0 (definedIn f)) 
         → (isBad (table (drop (systemOffset f) f)) ≡ false) × (length (valueOr [] (readSystem f)) ≡ n) × (walkStart f ≡ start)
     found (ts, m, g, l, s) = rw g ((refl, l, s))
 
-    go : (b : Bool) → cond b tableAs.Broken (tablePlaceOf (systemOffset f) (table (drop (systemOffset f) f))) ≡ tableAs.Whole n start
+    go : (b : Bool) → cond b (tableAs.Broken 17) (tablePlaceOf (systemOffset f) (table (drop (systemOffset f) f))) ≡ tableAs.Whole n start
         → ((b || isBad (table (drop (systemOffset f) f))) ≡ false) × (length (valueOr [] (readSystem f)) ≡ n) × (walkStart f ≡ start)
     go true q = let z : _≡_ {A = ℕ} 0 1 = cc in absurd (omega arith)
     go false q = found (table-found f (systemOffset f) n start q)
 
 -- ── The first of the four that holds ──
 
-front-number : (f : List ℕ) (n : ℕ) → firstOf (frontLines f) ≡ suc n → frontAs.Refused (plain (suc n)) ≡ frontOf f
+front-number : (f : List ℕ) (n : ℕ) → firstOf (frontLines f) ≡ suc n → frontAs.Refused (placed (suc n) (openingPlace (suc n) f)) ≡ frontOf f
 unfolding frontOf frontBy
 front-number f n e = rw e
 
 pub front-not-fstf : (f : List ℕ) (a : Bool) → a ≡ notFstf f → a ≡ true → frontAs.Refused (plain 1) ≡ frontOf f
-unfolding frontLines
+unfolding frontLines openingPlace
 front-not-fstf f a p q = front-number f 0 (line-holds 1 (notFstf f) _ (sym p ∙ q))
 
 pub front-revision : (f : List ℕ) (a b : Bool) → a ≡ notFstf f → a ≡ false → b ≡ otherRevision f → b ≡ true → frontAs.Refused (plain 2) ≡ frontOf f
-unfolding frontLines
+unfolding frontLines openingPlace
 front-revision f a b p q r s = front-number f 1 (line-pass 1 (notFstf f) _ (sym p ∙ q) ∙ line-holds 2 (otherRevision f) _ (sym r ∙ s))
 
-pub front-sections : (f : List ℕ) (a b : Bool) (c : Sections) → a ≡ notFstf f → a ≡ false → b ≡ otherRevision f → b ≡ false → c ≡ sectionsOf f
-    → c ≡ sectionsAs.Broken → frontAs.Refused (plain 3) ≡ frontOf f
-unfolding frontLines
-front-sections f a b c p q r s t u =
-    front-number f 2 (line-pass 1 (notFstf f) _ (sym p ∙ q) ∙ line-pass 2 (otherRevision f) _ (sym r ∙ s)
+pub front-sections : (f : List ℕ) (a b : Bool) (c : Sections) (k : ℕ) (d : Refusal) → a ≡ notFstf f → a ≡ false → b ≡ otherRevision f → b ≡ false
+    → c ≡ sectionsOf f → c ≡ sectionsAs.Broken → k ≡ sectionsFault f → d ≡ placed 3 k → frontAs.Refused d ≡ frontOf f
+unfolding frontLines openingPlace
+front-sections f a b c k d p q r s t u v w =
+    ap frontAs.Refused (w ∙ ap (placed 3) v) ∙ front-number f 2 (line-pass 1 (notFstf f) _ (sym p ∙ q) ∙ line-pass 2 (otherRevision f) _ (sym r ∙ s)
     ∙ line-holds 3 (badSections f) _ (sections-refused f (sym t ∙ u)))
 
 -- what the code makes of the header and the sections it found
@@ -141,15 +144,16 @@ system-of : (f : List ℕ) (h : Header) (n last : ℕ) → notFstf f ≡ false �
     → systemTable f (h .system) last ≡ systemTable f (systemOffset f) (lastOffset 0 (definedIn f))
 system-of f h n last a p e = rw (p, header-is f a, sections-pass f n last e .2)
 
-pub front-system : (f : List ℕ) (a b : Bool) (c : Sections) (h : Header) (n last : ℕ) (t : TablePlace) → a ≡ notFstf f → a ≡ false
+pub front-system : (f : List ℕ) (a b : Bool) (c : Sections) (h : Header) (n last k : ℕ) (t : TablePlace) (d : Refusal) → a ≡ notFstf f → a ≡ false
     → b ≡ otherRevision f → b ≡ false → c ≡ sectionsOf f → c ≡ sectionsAs.Legal n last → h ≡ headerOf f → t ≡ systemTable f (h .system) last
-    → t ≡ tableAs.Broken → frontAs.Refused (plain 4) ≡ frontOf f
-unfolding frontLines
-front-system f a b c h n last t p q r s u v w x y =
-    front-number f 3
+    → t ≡ tableAs.Broken k → d ≡ placed 4 k → frontAs.Refused d ≡ frontOf f
+unfolding frontLines openingPlace
+front-system f a b c h n last k t d p q r s u v w x y o =
+    let (z, i) = system-refused f k (sym (system-of f h n last (sym p ∙ q) w (sym u ∙ v)) ∙ sym x ∙ y) in
+    ap frontAs.Refused (o ∙ ap (placed 4) (sym i)) ∙ front-number f 3
     (line-pass 1 (notFstf f) _ (sym p ∙ q) ∙ line-pass 2 (otherRevision f) _ (sym r ∙ s)
     ∙ line-pass 3 (badSections f) _ (sections-pass f n last (sym u ∙ v) .0)
-    ∙ line-holds 4 (badSystem f) _ (system-refused f (sym (system-of f h n last (sym p ∙ q) w (sym u ∙ v)) ∙ sym x ∙ y)))
+    ∙ line-holds 4 (badSystem f) _ z)
 
 front-none : (f : List ℕ) → FrontPasses f → firstOf (frontLines f) ≡ 0
 unfolding firstOf

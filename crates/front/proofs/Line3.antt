@@ -14,7 +14,7 @@ use Rattle.number.specs.Number.{readAt}
 use Rattle.number.proofs.Bytes.{and-true}
 use Rattle.number.proofs.Bools.{and-false}
 use Rattle.layout.specs.Recording.{mostSections, within, distinct}
-use Rattle.layout.specs.Reading.{Parsed, bad, good, Reader, valueOr, taken, _then_, only, times, number, Definition, definition, definedNames, definitions}
+use Rattle.layout.specs.Reading.{Parsed, bad, good, Reader, valueOr, taken, _then_, only, times, number, numberOfSections, Definition, definition, definedNames, definitions}
 use Rattle.layout.specs.Opening.{readDefinitions, definedIn, steps, offsetsLegal, lastOffset, badSections}
 use Rattle.layout.proofs.Readers.{then-takes}
 use Rattle.layout.proofs.Lists.{cond-same}
@@ -34,7 +34,7 @@ use Rattle.front.specs.declared.Sections.the-variants as sectionsAs
 
 -- ── Read, and not read ──
 
-sections-bad : (f : List ℕ) → readDefinitions f ≡ bad → sectionsOf f ≡ sectionsAs.Broken
+sections-bad : (f : List ℕ) {m : ℕ} → readDefinitions f ≡ bad m → sectionsOf f ≡ sectionsAs.Broken
 unfolding sectionsOf badSections
 sections-bad f e = rw e
 
@@ -53,8 +53,8 @@ sections-read f d ds n e = rw e (go (eqb (d .offset) (33 + n) && steps (d .offse
 abbrev counted : Reader (List Definition)
 counted = only (within 1 mostSections) (number 1) then λ k. times k definition
 
-read-bad : (f : List ℕ) → counted (drop 33 f) ≡ bad → readDefinitions f ≡ bad
-unfolding readDefinitions definitions
+read-bad : (f : List ℕ) {m : ℕ} → counted (drop 33 f) ≡ bad m → readDefinitions f ≡ bad m
+unfolding readDefinitions definitions numberOfSections
 read-bad f e = only-bad (λ ds. distinct (definedNames ds)) counted (drop 33 f) e
 
 pub sections-short : (f : List ℕ) → length f ≤ 33 → sectionsAs.Broken ≡ sectionsOf f
@@ -91,7 +91,7 @@ offsets-found f at n o end last q = go (times n definition (drop at f)) refl q
     go : (x : Parsed (List Definition)) → times n definition (drop at f) ≡ x → legalOffsets at o x ≡ offsets.Legal end last
         → (ds : List Definition) × (m : ℕ) × (times n definition (drop at f) ≡ good ds m) × (steps o ds ≡ true) × (at + m ≡ end)
         × (lastOffset o ds ≡ last)
-    go bad e g = let z : _≡_ {A = ℕ} 0 1 = cc in absurd (omega arith)
+    go (bad i) e g = let z : _≡_ {A = ℕ} 0 1 = cc in absurd (omega arith)
     go (good ds m) e g = pass ds m (steps o ds) refl e g
 
 -- ── The number of sections is right ──
@@ -102,9 +102,9 @@ module _ (f : List ℕ) (n : ℕ) (h : 33 < length f) (p : n ≡ readAt f 33 1) 
       rw p (only-pass (within 1 mostSections) (number 1) (drop 33 f) (readAt f 33 1) 1 (number-read f 33 1 (omega arith) (omega arith))
       (and-true (leb 1 (readAt f 33 1)) (leb (readAt f 33 1) 8) (le-leb 1 (readAt f 33 1) (omega arith)) (le-leb (readAt f 33 1) 8 (omega arith))))
 
-  list-bad : times n definition (drop 34 f) ≡ bad → sectionsAs.Broken ≡ sectionsOf f
-  list-bad e = sym (sections-bad f
-      (read-bad f (then-next-bad (only (within 1 mostSections) (number 1)) (λ j. times j definition) (drop 33 f) n 1 count-read
+  list-bad : {m : ℕ} → times n definition (drop 34 f) ≡ bad m → sectionsAs.Broken ≡ sectionsOf f
+  list-bad {m} e = sym (sections-bad f
+      (read-bad f (then-next-bad (only (within 1 mostSections) (number 1)) (λ j. times j definition) (drop 33 f) n 1 {m = m} count-read
       (rw (drop-drop 1 33 f) e))))
 
   list-good : (ds : List Definition) (m : ℕ) → times n definition (drop 34 f) ≡ good ds m → counted (drop 33 f) ≡ good ds (1 + m)
@@ -116,7 +116,7 @@ module _ (f : List ℕ) (n : ℕ) (h : 33 < length f) (p : n ≡ readAt f 33 1) 
       → sectionsOf f ≡ cond (distinctNames f 34 n row.Definition)
       (cond (eqb (d .offset) (34 + m) && steps (d .offset) ds) (sectionsAs.Legal n (lastOffset (d .offset) ds)) sectionsAs.Broken)
       sectionsAs.Broken
-  unfolding readDefinitions definitions
+  unfolding readDefinitions definitions numberOfSections
   sections-list d ds m e = rw (distinct-definitions f 34 n m (d ∷ ds) e) (go (distinct (definedNames (d ∷ ds))) refl)
     where
       go : (b : Bool) → distinct (definedNames (d ∷ ds)) ≡ b
@@ -134,7 +134,7 @@ module _ (f : List ℕ) (n : ℕ) (h : 33 < length f) (p : n ≡ readAt f 33 1) 
   sections-not d ds m e t = sym (sections-list d ds m e ∙ rw t (cond-same (distinctNames f 34 n row.Definition) sectionsAs.Broken))
 
   pub sections-unnamed : (r : DefinitionAt) → r ≡ definitionAt f 34 → r ≡ definitionAs.Broken → sectionsAs.Broken ≡ sectionsOf f
-  sections-unnamed r a b = list-bad (times-first-bad definition n (drop 34 f) k (definition-none f 34 (sym a ∙ b)))
+  sections-unnamed r a b = list-bad (times-first-bad definition n (drop 34 f) k (definition-none f 34 (sym a ∙ b) .1))
 
   offsets-wrong : (d : Definition) (a : ℕ) → definition (drop 34 f) ≡ good d a → offsetsAt f (34 + a) (n - 1) (d .offset) ≡ offsets.Broken
       → sectionsAs.Broken ≡ sectionsOf f
@@ -148,7 +148,7 @@ module _ (f : List ℕ) (n : ℕ) (h : 33 < length f) (p : n ≡ readAt f 33 1) 
 
       go : (x : Parsed (List Definition)) → times (n - 1) definition (drop (34 + a) f) ≡ x → legalOffsets (34 + a) (d .offset) x ≡ offsets.Broken
           → sectionsAs.Broken ≡ sectionsOf f
-      go bad g q = list-bad (times-later-bad definition n (drop 34 f) d a k e (rw (drop-drop a 34 f) g))
+      go (bad i) g q = list-bad (times-later-bad definition n (drop 34 f) d a {m = i} k e (rw (drop-drop a 34 f) g))
       go (good ds m) g q = fall ds m (steps (d .offset) ds) refl (times-cons definition n (drop 34 f) d a ds m k e (rw (drop-drop a 34 f) g)) q
 
   -- what the code found: all definitions, their offsets in order

@@ -12,14 +12,14 @@ use borrow.Author.Tests.{leb-true}
 use Rattle.number.specs.Number.{bytesOf, numberOf}
 use Rattle.number.proofs.Bytes.{length-bytesOf, both-true}
 use Rattle.layout.specs.Recording.{Tag, tagBytes, tableBytes, mostSections, within, distinct}
-use Rattle.layout.specs.Reading.{Parsed, bad, good, isBad, valueOr, taken, _then_, only, number, times, table, Definition, definition, definedNames, definitions}
-use Rattle.layout.specs.Opening.{firstOf, systemOffset, readDefinitions, definedIn, readSystem, walkStart, offsetsLegal, lastOffset, badSections, badSystem, frontLines}
+use Rattle.layout.specs.Reading.{Parsed, bad, good, isBad, valueOr, taken, _then_, only, number, times, table, numberOfSections, Definition, definition, definedNames, definitions}
+use Rattle.layout.specs.Opening.{firstOf, systemOffset, readDefinitions, definedIn, readSystem, walkStart, offsetsLegal, lastOffset, badSections, badSystem, openingPlace, frontLines}
 use Rattle.layout.proofs.Lists.{or-false, bytes-drop}
 use Rattle.layout.proofs.Lines.{FrontPasses, front-clear}
 use Rattle.layout.proofs.Exact.{table-exact}
 use Rattle.parts.proofs.Taken.{only-parts, tested-then}
 use Rattle.parts.proofs.Times.{times-length}
-use Rattle.refusal.specs.Refusal.{plain}
+use Rattle.refusal.specs.Refusal.{placed}
 use Rattle.refusal.specs.declared.Refusal.{Refusal}
 use Rattle.front.specs.Front.{frontHeld, frontBy, frontOf}
 use Rattle.front.specs.declared.FrontHeld.{FrontHeld}
@@ -31,16 +31,17 @@ pub front-passes : (f : List ℕ) (held : FrontHeld) → frontOf f ≡ frontAs.W
 unfolding frontOf frontBy
 front-passes f held e = go (firstOf (frontLines f)) refl e
   where
-    go : (n : ℕ) → firstOf (frontLines f) ≡ n → frontBy n (frontHeld f) ≡ frontAs.Whole held → FrontPasses f × (held ≡ frontHeld f)
+    go : (n : ℕ) → firstOf (frontLines f) ≡ n → frontBy n (openingPlace n f) (frontHeld f) ≡ frontAs.Whole held → FrontPasses f × (held ≡ frontHeld f)
     go zero q g = (front-clear f [] (ap firstOf (append-nil (frontLines f)) ∙ q) .0, cc)
     go (suc n) q g = let z : _≡_ {A = ℕ} 0 1 = cc in absurd (omega arith)
 
-pub front-refuses : (f : List ℕ) (n : Refusal) → frontOf f ≡ frontAs.Refused n → (m : ℕ) × (n ≡ plain (suc m)) × (firstOf (frontLines f) ≡ suc m)
+pub front-refuses : (f : List ℕ) (n : Refusal) → frontOf f ≡ frontAs.Refused n
+    → (m : ℕ) × (n ≡ placed (suc m) (openingPlace (suc m) f)) × (firstOf (frontLines f) ≡ suc m)
 unfolding frontOf frontBy
 front-refuses f n e = go (firstOf (frontLines f)) refl e
   where
-    go : (j : ℕ) → firstOf (frontLines f) ≡ j → frontBy j (frontHeld f) ≡ frontAs.Refused n
-        → (m : ℕ) × (n ≡ plain (suc m)) × (firstOf (frontLines f) ≡ suc m)
+    go : (j : ℕ) → firstOf (frontLines f) ≡ j → frontBy j (openingPlace j f) (frontHeld f) ≡ frontAs.Refused n
+        → (m : ℕ) × (n ≡ placed (suc m) (openingPlace (suc m) f)) × (firstOf (frontLines f) ≡ suc m)
     go zero q g = let z : _≡_ {A = ℕ} 0 1 = cc in absurd (omega arith)
     go (suc j) q g = (j, cc, q)
 
@@ -61,7 +62,7 @@ table-ends f at ts m b e =
     )
 
 read-of : {A : Type 0} (p : Parsed A) → isBad p ≡ false → (x : A) × (n : ℕ) × (p ≡ good x n)
-read-of bad e = let z : _≡_ {A = ℕ} 0 1 = cc in absurd (omega arith)
+read-of (bad m) e = let z : _≡_ {A = ℕ} 0 1 = cc in absurd (omega arith)
 read-of (good x n) e = (x, n, refl)
 
 pub start-within : (f : List ℕ) → areBytes f ≡ true → badSystem f ≡ false → walkStart f ≤ length f
@@ -74,7 +75,7 @@ start-within f b e = go (read-of (readSystem f)
     go (ts, m, q) = rw q (table-ends f (systemOffset f) ts m b q)
 
 pub few-sections : (f : List ℕ) → badSections f ≡ false → length (definedIn f) ≤ 8
-unfolding badSections definedIn valueOr readDefinitions definitions
+unfolding badSections definedIn valueOr readDefinitions definitions numberOfSections
 few-sections f e = go (read-of (readDefinitions f) (or-false (isBad (readDefinitions f))
     (not (offsetsLegal (33 + taken (readDefinitions f)) (definedIn f))) e .0))
   where

@@ -1,12 +1,16 @@
 // What stands ahead of the frames: the lines of refusal 1 to 4 in their order, with which opening and repair both begin.
 use header::Header;
+use parts::Place;
 use refusal::Refusal;
 use rows::Row;
 use strings::Text;
 use tables::TablePlace;
 ghost use mathlib.Core.Path.{_≡_};
-ghost use Rattle.layout.specs.Opening.{notFstf, otherRevision};
-ghost use Rattle.front.specs.Front.{definitionAt, offsetsAt, sectionsOf, systemTable, frontOf, frontRefusal};
+ghost use lib.ListN.{drop};
+ghost use Rattle.layout.specs.Reading.{times, definition};
+ghost use Rattle.layout.specs.Opening.{notFstf, otherRevision, sectionsFault};
+ghost use Rattle.parts.specs.Parts.{endOf};
+ghost use Rattle.front.specs.Front.{definitionAt, offsetsAt, sectionsOf, firstElsewhere, systemTable, frontOf, frontRefusal};
 
 // 1: "under 34 bytes, or the first four differ"
 fn not_fstf(file: &[u8]) -> bool
@@ -125,6 +129,64 @@ fn sections_in(file: &[u8]) -> Sections
     }
 }
 
+// ── Where the sections' definitions break the layout ──
+
+// Where n definitions end, whatever their names and offsets.
+fn definitions_end(file: &[u8], at: usize, n: usize) -> Place
+    ensures { λ r. ⌜ r ≡ endOf at (times n definition (drop at (now (file .entry)))) ⌝ }
+{
+    let mut place = at;
+    let mut left = n;
+    while 0 < left {
+        let found = definition_at(file, place);
+        let DefinitionAt::Whole { next, offset: _ } = found else {
+            return Place::Broken;
+        };
+        place = next;
+        left -= 1;
+    }
+    Place::End(place)
+}
+
+// Whether the definitions can all be read, and end elsewhere than at this offset.
+fn first_elsewhere(file: &[u8], offset: usize) -> bool
+    ensures { λ r. ⌜ r ≡ firstElsewhere (now (file .entry)) offset ⌝ }
+{
+    if file.len() <= Header::LENGTH {
+        return false;
+    }
+    let count = number::read(file, Header::LENGTH, 1) as usize;
+    if count < 1 {
+        return false;
+    }
+    if Header::MOST_SECTIONS < count {
+        return false;
+    }
+    let read = definitions_end(file, Header::LENGTH + 1, count);
+    let Place::End(end) = read else {
+        return false;
+    };
+    if offset == end {
+        return false;
+    }
+    true
+}
+
+// 3's place: the first offset's field where it is not the definitions' end; else the first fault front to back, of which each offset is held to the one
+// ahead of it, and the first to itself.
+fn sections_fault(file: &[u8]) -> usize
+    ensures { λ r. ⌜ r ≡ sectionsFault (now (file .entry)) ⌝ }
+{
+    let first = definition_at(file, Header::LENGTH + 1);
+    let DefinitionAt::Whole { next, offset } = first else {
+        return faults::first_fault(file, Header::LENGTH, Row::Definition, 0);
+    };
+    if first_elsewhere(file, offset) {
+        return next - 8;
+    }
+    faults::first_fault(file, Header::LENGTH, Row::Definition, offset)
+}
+
 // ── The front ──
 
 // 4: "its offset is before the last configuration's or more than 65,535 after it, or the table is malformed or runs past the end"
@@ -132,10 +194,10 @@ fn system_table(file: &[u8], system: usize, last: usize) -> TablePlace
     ensures { λ r. ⌜ r ≡ systemTable (now (file .entry)) system last ⌝ }
 {
     if system < last {
-        return TablePlace::Broken;
+        return TablePlace::Broken(Header::SYSTEM_PLACE);
     }
     if Header::LONGEST_CONFIGURATION < system - last {
-        return TablePlace::Broken;
+        return TablePlace::Broken(Header::SYSTEM_PLACE);
     }
     tables::table(file, system)
 }
@@ -165,19 +227,18 @@ pub fn open_front(file: &[u8]) -> Front
     }
     let defined = sections_in(file);
     let Sections::Legal { count, last } = defined else {
-        return Front::Refused(Refusal::SECTIONS);
+        return Front::Refused(Refusal::SECTIONS.at(sections_fault(file)));
     };
     let header = Header::parse(file);
-    let table = system_table(file, header.system, last);
-    let TablePlace::Whole(tags, start) = table else {
-        return Front::Refused(Refusal::SYSTEM_TABLE);
-    };
-    Front::Whole(FrontHeld {
-        sections: count,
-        system: header.system,
-        system_tags: tags,
-        start,
-    })
+    match system_table(file, header.system, last) {
+        TablePlace::Whole(tags, start) => Front::Whole(FrontHeld {
+            sections: count,
+            system: header.system,
+            system_tags: tags,
+            start,
+        }),
+        TablePlace::Broken(place) => Front::Refused(Refusal::SYSTEM_TABLE.at(place)),
+    }
 }
 
 // What a front is refused with.

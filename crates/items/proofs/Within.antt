@@ -110,7 +110,7 @@ unfolding tagFound tagFrom partsOf tagPlaceOf
 tag-within f at i n l v m e = counted (ltb i (readAt f at 4)) e
   where
     parts : (p : ℕ) (x : Parsed Tag) → tag (drop p f) ≡ x → partsOf p x ≡ tagAs.At n l v m → (n + l ≤ length f) × (v + m ≤ length f)
-    parts p bad g u = let z : _≡_ {A = ℕ} 0 1 = cc in absurd (omega arith)
+    parts p (bad j) g u = let z : _≡_ {A = ℕ} 0 1 = cc in absurd (omega arith)
     parts p (good t k) g u =
         let w = tag-parts f p (length (t .name)) (length (t .value)) (rw g) .0 in
         let a : n ≡ p + 1 = cc u in

@@ -13,7 +13,7 @@ use lib.Pow.{areBytes}
 use borrow.Author.Tests.{lt-ltb, le-ltb, not-true}
 use Rattle.number.proofs.Bytes.{both-true}
 use Rattle.layout.specs.Recording.{Tag, mostTags, tableBytes, every, same, among, distinct, tagNames, legalTag, legalTable}
-use Rattle.layout.specs.Reading.{Parsed, bad, good, exactly, table}
+use Rattle.layout.specs.Reading.{Parsed, bad, good, exactly, table, faultOf}
 use Rattle.layout.specs.Items.{Part, noTag, nameStart, valueStart}
 use Rattle.layout.specs.Browser.{Browsed, tag, end, refused, tagAt, browse, cursorAfter, numberOfTag, tagNamed}
 use Rattle.layout.proofs.Lists.{or-false, or-right, cond-true, cond-false, same-refl}
@@ -31,12 +31,12 @@ partBytes bytes p = take (p .len) (drop (p .start) bytes)
 pub data Told : Type 0 where
   aTag : Tag → Told
   theEnd : Told
-  aRefusal : ℕ → Told
+  aRefusal : (number place : ℕ) → Told
 
 unfoldable pub told : List ℕ → Browsed → Told
 told bytes (tag n v) = aTag (record { name = partBytes bytes n; value = partBytes bytes v })
 told bytes end = theEnd
-told bytes (refused n) = aRefusal n
+told bytes (refused n p) = aRefusal n p
 
 -- the browser asked k times, from number i on, each time with the cursor that the time before left
 unfoldable pub asked : (bytes : List ℕ) → (i k : ℕ) → List Told
@@ -71,10 +71,10 @@ number-none name (t ∷ ts) h =
     cond-false (same name (t .name)) 0 _ (o .0) ∙ ap suc (number-none name ts (o .1))
 
 -- a tag or the end is no refusal
-no-refusal : (b : Bool) (ts : List Tag) (i : ℕ) → cond b (tagAt ts i) end ≡ refused 7 → ⊥
+no-refusal : (b : Bool) (ts : List Tag) (i p : ℕ) → cond b (tagAt ts i) end ≡ refused 7 p → ⊥
 unfolding tagAt
-no-refusal true ts i e = let z : _≡_ {A = ℕ} 0 1 = cc in omega arith
-no-refusal false ts i e = let z : _≡_ {A = ℕ} 0 1 = cc in omega arith
+no-refusal true ts i p e = let z : _≡_ {A = ℕ} 0 1 = cc in omega arith
+no-refusal false ts i p e = let z : _≡_ {A = ℕ} 0 1 = cc in omega arith
 
 -- ── A legal table ──
 
@@ -171,32 +171,32 @@ module _ (ts : List Tag) (l : legalTable ts ≡ true) where
 
 -- ── Refused ──
 
--- The browser is refused 7, whatever number it holds, exactly where the bytes are not exactly a legal table;
+-- The browser is refused 7, at the first fault and whatever number it holds, exactly where the bytes are not exactly a legal table;
 pub browse-refused : (bytes : List ℕ) (i : ℕ)
     → areBytes bytes ≡ true
-    → (browse bytes i ≡ refused 7)
+    → (browse bytes i ≡ refused 7 (faultOf (exactly table bytes)))
     ↔ (((ts : List Tag) × (legalTable ts ≡ true) × (tableBytes ts ≡ bytes)) → ⊥)
-unfolding browse
+unfolding browse faultOf
 browse-refused bytes i h = (λ e t. never t e, λ d. go (exactly table bytes) refl d)
   where
-    never : ((ts : List Tag) × (legalTable ts ≡ true) × (tableBytes ts ≡ bytes)) → browse bytes i ≡ refused 7 → ⊥
-    never (ts, l, q) e = no-refusal (ltb i (length ts)) ts i (sym (browse-at ts l i) ∙ ap (λ (s : List ℕ). browse s i) q ∙ e)
+    never : ((ts : List Tag) × (legalTable ts ≡ true) × (tableBytes ts ≡ bytes)) → browse bytes i ≡ refused 7 (faultOf (exactly table bytes)) → ⊥
+    never (ts, l, q) e = no-refusal (ltb i (length ts)) ts i _ (sym (browse-at ts l i) ∙ ap (λ (s : List ℕ). browse s i) q ∙ e)
 
-    go : (p : Parsed (List Tag)) → exactly table bytes ≡ p → (((ts : List Tag) × (legalTable ts ≡ true) × (tableBytes ts ≡ bytes)) → ⊥) → browse bytes i ≡ refused 7
-    go bad e d = rw (e, browse)
+    go : (p : Parsed (List Tag)) → exactly table bytes ≡ p → (((ts : List Tag) × (legalTable ts ≡ true) × (tableBytes ts ≡ bytes)) → ⊥) → browse bytes i ≡ refused 7 (faultOf (exactly table bytes))
+    go (bad m) e d = rw (e, browse, faultOf)
     go (good ts n) e d = let g = exactly-gives legalTable tableBytes table table-exact bytes ts n h e in absurd (d (ts, g .0, sym (g .1)))
 
 -- and so is the look for a name.
 pub named-refused : (bytes name : List ℕ)
     → areBytes bytes ≡ true
-    → (tagNamed bytes name ≡ refused 7)
+    → (tagNamed bytes name ≡ refused 7 (faultOf (exactly table bytes)))
     ↔ (((ts : List Tag) × (legalTable ts ≡ true) × (tableBytes ts ≡ bytes)) → ⊥)
-unfolding tagNamed
+unfolding tagNamed faultOf
 named-refused bytes name h = (λ e t. never t e, λ d. go (exactly table bytes) refl d)
   where
-    never : ((ts : List Tag) × (legalTable ts ≡ true) × (tableBytes ts ≡ bytes)) → tagNamed bytes name ≡ refused 7 → ⊥
-    never (ts, l, q) e = no-refusal (ltb (numberOfTag name ts) (length ts)) ts (numberOfTag name ts) (sym (named-at ts l name) ∙ ap (λ (s : List ℕ). tagNamed s name) q ∙ e)
+    never : ((ts : List Tag) × (legalTable ts ≡ true) × (tableBytes ts ≡ bytes)) → tagNamed bytes name ≡ refused 7 (faultOf (exactly table bytes)) → ⊥
+    never (ts, l, q) e = no-refusal (ltb (numberOfTag name ts) (length ts)) ts (numberOfTag name ts) _ (sym (named-at ts l name) ∙ ap (λ (s : List ℕ). tagNamed s name) q ∙ e)
 
-    go : (p : Parsed (List Tag)) → exactly table bytes ≡ p → (((ts : List Tag) × (legalTable ts ≡ true) × (tableBytes ts ≡ bytes)) → ⊥) → tagNamed bytes name ≡ refused 7
-    go bad e d = rw (e, tagNamed)
+    go : (p : Parsed (List Tag)) → exactly table bytes ≡ p → (((ts : List Tag) × (legalTable ts ≡ true) × (tableBytes ts ≡ bytes)) → ⊥) → tagNamed bytes name ≡ refused 7 (faultOf (exactly table bytes))
+    go (bad m) e d = rw (e, tagNamed, faultOf)
     go (good ts n) e d = let g = exactly-gives legalTable tableBytes table table-exact bytes ts n h e in absurd (d (ts, g .0, sym (g .1)))

@@ -11,13 +11,13 @@ use lib.Dec.{ltb}
 use borrow.Author.Tests.{ltb-true, ltb-false}
 use Rattle.number.specs.Number.{numberOf}
 use Rattle.layout.specs.Recording.{Tag, shortString, tagBytes, mostTags, within, distinct, tagNames, legalTagName, legalTagValue}
-use Rattle.layout.specs.Reading.{Parsed, bad, good, give, _then_, only, times, exactly, number, block, string, table}
+use Rattle.layout.specs.Reading.{Parsed, bad, good, give, _then_, only, times, exactly, number, block, string, tagName, tagValue, numberOfTags, tableFault, table}
 use Rattle.layout.specs.Reading as read
 use Rattle.layout.specs.Items.{noTag, nameStart, valueStart}
 use Rattle.layout.specs.Browser.{Browsed, tagAt, browse}
 use Rattle.layout.specs.Browser as browser
 use Rattle.layout.specs.Cursor.{Cursor, at, end, refused, standsAt, firstTag, nextTag}
-use Rattle.layout.proofs.Readers.{onward-good, cond-good, then-good, number-good, block-good, times-suc-good, exactly-good}
+use Rattle.layout.proofs.Readers.{onward-good, cond-good, then-good, number-good, block-good, times-suc-good, exactly-good, placed-good}
 
 -- ── What is said ──
 
@@ -25,7 +25,7 @@ use Rattle.layout.proofs.Readers.{onward-good, cond-good, then-good, nu
 unfoldable pub shows : Cursor → Browsed
 shows (at name value left) = browser.tag name value
 shows end = browser.end
-shows (refused n) = browser.refused n
+shows (refused n p) = browser.refused n p
 
 -- the cursor moved k times
 unfoldable pub moved : (bytes : List ℕ) → (k : ℕ) → Cursor → Cursor
@@ -37,26 +37,26 @@ unfolding moved nextTag
 moved-end bytes zero = refl
 moved-end bytes (suc k) = moved-end bytes k
 
-moved-refused : (bytes : List ℕ) (k n : ℕ) → moved bytes k (refused n) ≡ refused n
+moved-refused : (bytes : List ℕ) (k n p : ℕ) → moved bytes k (refused n p) ≡ refused n p
 unfolding moved nextTag
-moved-refused bytes zero n = refl
-moved-refused bytes (suc k) n = moved-refused bytes k n
+moved-refused bytes zero n p = refl
+moved-refused bytes (suc k) n p = moved-refused bytes k n p
 
 -- ── How many bytes a tag takes ──
 
 only-good : {A : Type 0} (ok : A → Bool) (p : read.Reader A) (s : List ℕ) (x : A) (n : ℕ) → only ok p s ≡ good x n → p s ≡ good x n
 unfolding only
-only-good {A} ok p s x n e = outer (onward-good (p s) (λ a m. cond (ok a) (good a m) bad) x n e)
+only-good {A} ok p s x n e = outer (onward-good (p s) (λ a m. cond (ok a) (good a m) (bad 0)) x n e)
   where
     inner : (a : A) (m : ℕ) → p s ≡ good a m → ((ok a ≡ true) × (a ≡ x) × (m ≡ n)) → p s ≡ good x n
     inner a m f (t, g, h) = cc
 
-    outer : ((a : A) × (m : ℕ) × (p s ≡ good a m) × (cond (ok a) (good a m) bad ≡ good x n)) → p s ≡ good x n
-    outer (a, m, f, g) = inner a m f (cond-good (ok a) a x m n g)
+    outer : ((a : A) × (m : ℕ) × (p s ≡ good a m) × (cond (ok a) (good a m) (bad 0) ≡ good x n)) → p s ≡ good x n
+    outer (a, m, f, g) = inner a m f (cond-good 0 (ok a) a x m n g)
 
 string-taken : (s v : List ℕ) (n : ℕ) → string s ≡ good v n → n ≡ 1 + length v
 unfolding string
-string-taken s v n e = outer (then-good (number 1) block s v n e)
+string-taken s v n e = outer (then-good (number 1) block s v n (placed-good length (number 1 then block) s v n e))
   where
     inner : (a m k : ℕ) → n ≡ m + k → ((1 ≤ length s) × (numberOf (take 1 s) ≡ a) × (1 ≡ m)) → ((a ≤ length (drop m s)) × (take a (drop m s) ≡ v) × (a ≡ k)) → n ≡ 1 + length v
     inner a m k h (l, i, j) (o, p, q) =
@@ -68,21 +68,21 @@ string-taken s v n e = outer (then-good (number 1) block s v n e)
 
 -- one byte and the name, one byte and the value
 tag-taken : (s : List ℕ) (t : Tag) (n : ℕ) → read.tag s ≡ good t n → n ≡ 1 + length (t .name) + 1 + length (t .value)
-unfolding read.tag give
-tag-taken s t n e = name (then-good (only legalTagName string) (λ a. only legalTagValue string then λ v. give (record { name = a; value = v })) s t n e)
+unfolding read.tag tagName tagValue give
+tag-taken s t n e = name (then-good tagName (λ a. tagValue then λ v. give (record { name = a; value = v })) s t n e)
   where
-    value : (a : List ℕ) (m k : ℕ) → m ≡ 1 + length a → n ≡ m + k → ((v : List ℕ) × (i : ℕ) × (j : ℕ) × (only legalTagValue string (drop m s) ≡ good v i) × (give (record { name = a; value = v }) (drop i (drop m s)) ≡ good t j) × (k ≡ i + j)) → n ≡ 1 + length (t .name) + 1 + length (t .value)
+    value : (a : List ℕ) (m k : ℕ) → m ≡ 1 + length a → n ≡ m + k → ((v : List ℕ) × (i : ℕ) × (j : ℕ) × (tagValue (drop m s) ≡ good v i) × (give (record { name = a; value = v }) (drop i (drop m s)) ≡ good t j) × (k ≡ i + j)) → n ≡ 1 + length (t .name) + 1 + length (t .value)
     value a m k h l (v, i, j, o, p, q) =
-        let y : i ≡ 1 + length v = string-taken (drop m s) v i (only-good legalTagValue string (drop m s) v i o) in
+        let y : i ≡ 1 + length v = string-taken (drop m s) v i (only-good legalTagValue string (drop m s) v i (placed-good _ (only legalTagValue string) (drop m s) v i o)) in
         let z : 0 ≡ j = cc in
         let w : record { name = a; value = v } ≡ t = cc in
         let x : length a ≡ length (t .name) = ap (λ (t : Tag). length (t .name)) w in
         let u : length v ≡ length (t .value) = ap (λ (t : Tag). length (t .value)) w in
         omega arith
 
-    name : ((a : List ℕ) × (m : ℕ) × (k : ℕ) × (only legalTagName string s ≡ good a m) × ((only legalTagValue string then λ v. give (record { name = a; value = v })) (drop m s) ≡ good t k) × (n ≡ m + k)) → n ≡ 1 + length (t .name) + 1 + length (t .value)
+    name : ((a : List ℕ) × (m : ℕ) × (k : ℕ) × (tagName s ≡ good a m) × ((tagValue then λ v. give (record { name = a; value = v })) (drop m s) ≡ good t k) × (n ≡ m + k)) → n ≡ 1 + length (t .name) + 1 + length (t .value)
     name (a, m, k, f, g, h) =
-        value a m k (string-taken s a m (only-good legalTagName string s a m f)) h (then-good (only legalTagValue string) (λ v. give (record { name = a; value = v })) (drop m s) t k g)
+        value a m k (string-taken s a m (only-good legalTagName string s a m (placed-good _ (only legalTagName string) s a m f))) h (then-good tagValue (λ v. give (record { name = a; value = v })) (drop m s) t k g)
 
 -- ── Where a cursor stands ──
 
@@ -90,9 +90,9 @@ pub stands-none : (bytes : List ℕ) (place : ℕ) → standsAt bytes place 0 �
 unfolding standsAt
 stands-none bytes place = refl
 
-pub stands-bad : (bytes : List ℕ) (place left : ℕ) → read.tag (drop place bytes) ≡ bad → standsAt bytes place (suc left) ≡ end
+pub stands-bad : (bytes : List ℕ) (place left m : ℕ) → read.tag (drop place bytes) ≡ bad m → standsAt bytes place (suc left) ≡ end
 unfolding standsAt
-stands-bad bytes place left e = rw (e, standsAt)
+stands-bad bytes place left m e = rw (e, standsAt)
 
 pub stands-tag : (bytes : List ℕ) (place left : ℕ) (t : Tag) (n : ℕ) → read.tag (drop place bytes) ≡ good t n → standsAt bytes place (suc left) ≡ at (record { start = place + 1; len = length (t .name) }) (record { start = place + 1 + length (t .name) + 1; len = length (t .value) }) left
 unfolding standsAt
@@ -161,8 +161,8 @@ times-length {A} p (suc k) s ys m e = go (λ s xs m. times-length p k s xs m) (t
 
 -- the tags of a table stand behind its number
 tags-read : (bytes : List ℕ) (ts : List Tag) (n : ℕ) → table bytes ≡ good ts n → (m : ℕ) × (times (length ts) read.tag (drop 4 bytes) ≡ good ts m)
-unfolding table
-tags-read bytes ts n e = outer (then-good (only (within 0 mostTags) (number 4)) (λ n. times n read.tag) bytes ts n (only-good (λ ts. distinct (tagNames ts)) (only (within 0 mostTags) (number 4) then λ n. times n read.tag) bytes ts n e))
+unfolding table numberOfTags
+tags-read bytes ts n e = outer (then-good (only (within 0 mostTags) (number 4)) (λ n. times n read.tag) bytes ts n (only-good (λ ts. distinct (tagNames ts)) (only (within 0 mostTags) (number 4) then λ n. times n read.tag) bytes ts n (placed-good tableFault _ bytes ts n e)))
   where
     inner : (a m k : ℕ) → times a read.tag (drop m bytes) ≡ good ts k → ((4 ≤ length bytes) × (numberOf (take 4 bytes) ≡ a) × (4 ≡ m)) → (m : ℕ) × (times (length ts) read.tag (drop 4 bytes) ≡ good ts m)
     inner a m k g (l, i, j) =
@@ -184,7 +184,7 @@ cursor-browses bytes k = go (exactly table bytes) refl
     at-tag ts false h = rw (tag-past 4 ts k (ltb-false k (length ts) h))
 
     go : (p : Parsed (List Tag)) → exactly table bytes ≡ p → shows (moved bytes k (firstTag bytes)) ≡ browse bytes k
-    go bad e = rw (e, firstTag, browse, moved-refused bytes k 7)
+    go (bad m) e = rw (e, firstTag, browse, moved-refused bytes k 7 m)
     go (good ts n) e =
         let (m, t) = tags-read bytes ts n (exactly-good table bytes ts n e .0) in
         rw (e, firstTag, browse, moved-from bytes ts 4 m k t) (at-tag ts (ltb k (length ts)) refl)

@@ -76,7 +76,7 @@ opening-table r m l h = go (table (drop at (take m (opening r)))) refl (drop-cut
         ap table (drop-at before (tableBytes (r .system)) at e) ∙ rw append-nil at (table-exact .takes (r .system) [] (l .systemLegal))
 
     go : (v : Parsed (List Tag)) → table (drop at (take m (opening r))) ≡ v → (t : List ℕ) × (drop at (take m (opening r)) ++ t ≡ drop at (opening r)) → isBad v ≡ true
-    go bad e c = refl
+    go (bad i) e c = refl
     go (good ts n) e (t, c) =
         let w = table-local (drop at (take m (opening r))) t ts n e in
         let a : table (drop at (opening r)) ≡ good ts n = rw c at (w .1) in

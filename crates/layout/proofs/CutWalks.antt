@@ -13,9 +13,9 @@ use borrow.Author.Tests.{le-leb, lt-leb, lt-ltb, ne-eqb}
 use Rattle.number.specs.Number.{bytesOf, numberOf}
 use Rattle.number.proofs.Bytes.{both-true}
 use Rattle.layout.specs.Recording.{Frame, frameBytes, frameMark, indexBytes, entriesBytes, firstTime, mostFrames, every, legalFrame}
-use Rattle.layout.specs.Reading.{Parsed, bad, good, Reader, onward, give, _then_, only, times, number, block, string, tag, table, sized, frame, walk}
+use Rattle.layout.specs.Reading.{Parsed, bad, good, isBad, Reader, onward, behind, give, _then_, only, placed, times, number, block, string, tagName, tagValue, numberOfTags, tag, table, sized, frame, walk}
 use Rattle.layout.proofs.Lists.{cond-true, cond-false, le-or-lt, every-take}
-use Rattle.layout.proofs.Readers.{onward-good, onward-takes, cond-good, then-good, then-takes, number-is, number-good, block-is, block-good, times-suc-good, times-suc-takes}
+use Rattle.layout.proofs.Readers.{onward-good, onward-takes, cond-good, then-good, then-takes, number-is, number-good, block-is, block-good, times-suc-good, times-suc-takes, placed-good, placed-takes}
 use Rattle.layout.proofs.Exact.{number-exact, frame-exact}
 use Rattle.layout.proofs.Stores.{take-append}
 use Rattle.layout.proofs.Walks.{took, walk-stops, Walked}
@@ -26,8 +26,8 @@ use Rattle.layout.proofs.Walks.{took, walk-stops, Walked}
 abbrev pub Local : {A : Type 0} → Reader A → Type 0
 Local {A} p = (s t : List ℕ) (x : A) (n : ℕ) → p s ≡ good x n → (n ≤ length s) × (p (s ++ t) ≡ good x n)
 
-never : {A B : Type 0} (x : A) (n : ℕ) → bad ≡ good x n → B
-never x n e = let z : _≡_ {A = ℕ} 0 1 = cc in absurd (omega arith)
+never : {A B : Type 0} (v : Parsed A) (x : A) (n : ℕ) → isBad v ≡ true → v ≡ good x n → B
+never v x n b e = let z : _≡_ {A = ℕ} 0 1 = cc in absurd (omega arith)
 
 number-local : (w : ℕ) → Local (number w)
 number-local w s t x n e = go (number-good w s x n e)
@@ -51,12 +51,15 @@ give-local a s t x n e = let m : 0 ≡ n = cc in (omega arith, e)
 
 only-local : {A : Type 0} (ok : A → Bool) (p : Reader A) → Local p → Local (only ok p)
 unfolding only
-only-local {A} ok p l s t x n e = go (onward-good (p s) (λ a m. cond (ok a) (good a m) bad) x n e)
+only-local {A} ok p l s t x n e = go (onward-good (p s) (λ a m. cond (ok a) (good a m) (bad 0)) x n e)
   where
-    go : ((a : A) × (m : ℕ) × (p s ≡ good a m) × (cond (ok a) (good a m) bad ≡ good x n)) → (n ≤ length s) × (only ok p (s ++ t) ≡ good x n)
+    go : ((a : A) × (m : ℕ) × (p s ≡ good a m) × (cond (ok a) (good a m) (bad 0) ≡ good x n)) → (n ≤ length s) × (only ok p (s ++ t) ≡ good x n)
     go (a, m, q, g) =
         let h = l s t a m q in
-        (omega (arith, h .0, cond-good (ok a) a x m n g .2), onward-takes p (λ b i. cond (ok b) (good b i) bad) (s ++ t) a m (h .1) ∙ g)
+        (omega (arith, h .0, cond-good 0 (ok a) a x m n g .2), onward-takes p (λ b i. cond (ok b) (good b i) (bad 0)) (s ++ t) a m (h .1) ∙ g)
+
+placed-local : {A : Type 0} (at : List ℕ → ℕ) (p : Reader A) → Local p → Local (placed at p)
+placed-local at p l s t x n e = let h = l s t x n (placed-good at p s x n e) in (h .0, placed-takes at p (s ++ t) x n (h .1))
 
 then-local : {A B : Type 0} (p : Reader A) (next : A → Reader B) → Local p → ((a : A) → Local (next a)) → Local (p then next)
 then-local {A} {B} p next l k s t x n e = go (then-good p next s x n e)
@@ -89,33 +92,33 @@ frame-local k =
 
 string-local : Local string
 unfolding string
-string-local = then-local _ _ (number-local 1) block-local
+string-local = placed-local _ _ (then-local _ _ (number-local 1) block-local)
 
 -- a table that is read stays the same with more bytes behind it
 pub table-local : Local table
-unfolding table tag
+unfolding table tag tagName tagValue numberOfTags
 table-local =
-    only-local _ _ (then-local _ _ (only-local _ _ (number-local 4)) λ n.
-    times-local n _ (then-local _ _ (only-local _ _ string-local) λ name.
-    then-local _ _ (only-local _ _ string-local) λ value.
-    give-local _))
+    placed-local _ _ (only-local _ _ (then-local _ _ (only-local _ _ (number-local 4)) λ n.
+    times-local n _ (then-local _ _ (placed-local _ _ (only-local _ _ string-local)) λ name.
+    then-local _ _ (placed-local _ _ (only-local _ _ string-local)) λ value.
+    give-local _)))
 
 -- no frame at the front, and none after a cut
-pub cut-none : (k i : ℕ) (s : List ℕ) → frame k s ≡ bad → frame k (take i s) ≡ bad
+pub cut-none : (k i : ℕ) (s : List ℕ) → isBad (frame k s) ≡ true → isBad (frame k (take i s)) ≡ true
 cut-none k i s e = go (frame k (take i s)) refl
   where
-    go : (v : Parsed Frame) → frame k (take i s) ≡ v → frame k (take i s) ≡ bad
-    go bad q = q
+    go : (v : Parsed Frame) → frame k (take i s) ≡ v → isBad (frame k (take i s)) ≡ true
+    go (bad m) q = rw q
     go (good f n) q =
         let h : frame k (take i s ++ drop i s) ≡ good f n = frame-local k (take i s) (drop i s) f n q .1 in
-        never f n (sym e ∙ rw take-append-drop at h)
+        never (frame k s) f n e (rw take-append-drop at h)
 
 -- "a whole frame stands at a place if all its bytes are there": a cut frame is no frame
-pub cut-frame : (k j : ℕ) (f : Frame) → legalFrame k f ≡ true → j < length (frameBytes f) → frame k (take j (frameBytes f)) ≡ bad
+pub cut-frame : (k j : ℕ) (f : Frame) → legalFrame k f ≡ true → j < length (frameBytes f) → isBad (frame k (take j (frameBytes f))) ≡ true
 cut-frame k j f l h = go (frame k (take j (frameBytes f))) refl
   where
-    go : (v : Parsed Frame) → frame k (take j (frameBytes f)) ≡ v → frame k (take j (frameBytes f)) ≡ bad
-    go bad q = q
+    go : (v : Parsed Frame) → frame k (take j (frameBytes f)) ≡ v → isBad (frame k (take j (frameBytes f))) ≡ true
+    go (bad m) q = rw q
     go (good g n) q =
         let w = frame-local k (take j (frameBytes f)) (drop j (frameBytes f)) g n q in
         let a : frame k (frameBytes f) ≡ good g n = rw take-append-drop at (w .1) in
@@ -124,7 +127,7 @@ cut-frame k j f l h = go (frame k (take j (frameBytes f))) refl
         absurd (omega (arith, w .0, length-take j (frameBytes f)))
 
 -- the index is no frame: its first number is at most 1,000,000, the mark is not
-pub index-none : (k at : ℕ) (fs : List Frame) (rest : List ℕ) → length fs ≤ mostFrames → frame k (indexBytes at fs ++ rest) ≡ bad
+pub index-none : (k at : ℕ) (fs : List Frame) (rest : List ℕ) → length fs ≤ mostFrames → isBad (frame k (indexBytes at fs ++ rest)) ≡ true
 unfolding indexBytes frame _then_ only onward
 index-none k at fs rest h =
     let e : number 4 (bytesOf 4 (length fs) ++ (entriesBytes (firstTime fs) at fs ++ rest)) ≡ good (length fs) (length (bytesOf 4 (length fs))) = number-exact 4 .takes (length fs) (entriesBytes (firstTime fs) at fs ++ rest) (lt-ltb (length fs) (256 ^ 4) (omega arith)) in
@@ -174,24 +177,24 @@ complete-most j (suc i) (f ∷ fs) l h =
     omega (arith, complete-more j f fs (omega arith), complete-most (j - length (frameBytes f)) i fs (omega arith) (omega arith))
 
 -- A cut row of frames with no frame behind it: the complete ones, and then no frame.
-pub cut-row : (k j : ℕ) (fs : List Frame) (rest : List ℕ) → every (legalFrame k) fs ≡ true → frame k rest ≡ bad → (left : List ℕ) × (take j (flatMap frameBytes fs ++ rest) ≡ flatMap frameBytes (take (complete j fs) fs) ++ left) × (frame k left ≡ bad)
+pub cut-row : (k j : ℕ) (fs : List Frame) (rest : List ℕ) → every (legalFrame k) fs ≡ true → isBad (frame k rest) ≡ true → (left : List ℕ) × (take j (flatMap frameBytes fs ++ rest) ≡ flatMap frameBytes (take (complete j fs) fs) ++ left) × (isBad (frame k left) ≡ true)
 unfolding flatMap every
 cut-row k j [] rest l b = (take j rest, rw take-nil, cut-none k j rest b)
 cut-row k j (f ∷ fs) rest l b = go (le-or-lt (length (frameBytes f)) j) (cut-row k (j - length (frameBytes f)) fs rest (both-true (legalFrame k f) (every (legalFrame k) fs) l .1) b)
   where
-    go : (length (frameBytes f) ≤ j) ⊎ (j < length (frameBytes f)) → ((left : List ℕ) × (take (j - length (frameBytes f)) (flatMap frameBytes fs ++ rest) ≡ flatMap frameBytes (take (complete (j - length (frameBytes f)) fs) fs) ++ left) × (frame k left ≡ bad)) → (left : List ℕ) × (take j (flatMap frameBytes (f ∷ fs) ++ rest) ≡ flatMap frameBytes (take (complete j (f ∷ fs)) (f ∷ fs)) ++ left) × (frame k left ≡ bad)
+    go : (length (frameBytes f) ≤ j) ⊎ (j < length (frameBytes f)) → ((left : List ℕ) × (take (j - length (frameBytes f)) (flatMap frameBytes fs ++ rest) ≡ flatMap frameBytes (take (complete (j - length (frameBytes f)) fs) fs) ++ left) × (isBad (frame k left) ≡ true)) → (left : List ℕ) × (take j (flatMap frameBytes (f ∷ fs) ++ rest) ≡ flatMap frameBytes (take (complete j (f ∷ fs)) (f ∷ fs)) ++ left) × (isBad (frame k left) ≡ true)
     go (inl h) (left, e, n) =
         (left, rw (complete-more j f fs h, append-assoc, append-assoc, take-append, take-all, e), n)
     go (inr h) more = (take j (frameBytes f), rw (complete-none j f fs h, append-assoc, take-append-le j (frameBytes f) _ (omega arith)), cut-frame k j f (both-true (legalFrame k f) (every (legalFrame k) fs) l .0) h)
 
 -- The walk over a cut row of frames, with no frame behind it, takes just the complete ones, and they stand at the front.
-pub walk-cut : (most k j : ℕ) (fs : List Frame) (rest : List ℕ) → length fs ≤ most → every (legalFrame k) fs ≡ true → frame k rest ≡ bad → (walk most k (take j (flatMap frameBytes fs ++ rest)) ≡ took (take (complete j fs) fs)) × Walked most k (take j (flatMap frameBytes fs ++ rest)) (took (take (complete j fs) fs))
+pub walk-cut : (most k j : ℕ) (fs : List Frame) (rest : List ℕ) → length fs ≤ most → every (legalFrame k) fs ≡ true → isBad (frame k rest) ≡ true → (walk most k (take j (flatMap frameBytes fs ++ rest)) ≡ took (take (complete j fs) fs)) × Walked most k (take j (flatMap frameBytes fs ++ rest)) (took (take (complete j fs) fs))
 unfolding took
 walk-cut most k j fs rest m l b =
     let c = cut-row k j fs rest l b in
     go (c .0) (c .1) (c .2)
   where
-    go : (left : List ℕ) → take j (flatMap frameBytes fs ++ rest) ≡ flatMap frameBytes (take (complete j fs) fs) ++ left → frame k left ≡ bad → (walk most k (take j (flatMap frameBytes fs ++ rest)) ≡ took (take (complete j fs) fs)) × Walked most k (take j (flatMap frameBytes fs ++ rest)) (took (take (complete j fs) fs))
+    go : (left : List ℕ) → take j (flatMap frameBytes fs ++ rest) ≡ flatMap frameBytes (take (complete j fs) fs) ++ left → isBad (frame k left) ≡ true → (walk most k (take j (flatMap frameBytes fs ++ rest)) ≡ took (take (complete j fs) fs)) × Walked most k (take j (flatMap frameBytes fs ++ rest)) (took (take (complete j fs) fs))
     go left e n =
         let few : length (take (complete j fs) fs) ≤ most = rw length-take (omega arith) in
         let legal : every (legalFrame k) (take (complete j fs) fs) ≡ true = every-take (legalFrame k) (complete j fs) fs l in

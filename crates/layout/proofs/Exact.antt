@@ -12,10 +12,10 @@ use lib.Pow.{areBytes}
 use borrow.Author.Tests.{ltb-true, lt-ltb, leb-true, le-leb, eqb-true, eq-eqb}
 use Rattle.number.specs.Number.{bytesOf}
 use Rattle.layout.specs.Recording.{Section, Tag, Frame, shortString, tagBytes, tableBytes, sizedBytes, frameHeadBytes, frameBytes, frameMark, longestSection, mostSections, mostTags, within, every, distinct, legalSectionName, legalTagName, legalTagValue, isNameByte, isTagByte, tagNames, legalTag, legalTable, legalFrame}
-use Rattle.layout.specs.Reading.{good, Reader, times, exactly, number, string, Definition, definition, definedNames, definitions, tag, table, sized, frame}
-use Rattle.layout.specs.Recorder.{setUpSection, setUpList}
+use Rattle.layout.specs.Reading.{good, Reader, times, exactly, number, string, stringFault, sectionName, tagName, tagValue, numberOfTags, tableFault, numberOfSections, Definition, definition, definedNames, definitions, tag, table, sized, frame}
+use Rattle.layout.specs.Recorder.{configured, setUpSection, setUpList}
 use Rattle.number.proofs.Bytes.{both-true, and-true}
-use Rattle.layout.proofs.Readers.{Reads, reads-alike, give-reads, number-reads, block-reads, only-reads, then-reads, times-reads, exactly-good, exactly-is}
+use Rattle.layout.proofs.Readers.{Reads, reads-alike, give-reads, number-reads, block-reads, only-reads, placed-reads, then-reads, times-reads, exactly-good, exactly-is}
 
 pub record Exact {A : Type 0} (ok : A → Bool) (bytes : A → List ℕ) (p : Reader A) : Type 0 where
   pub takes : (x : A) (rest : List ℕ) → ok x ≡ true → p (bytes x ++ rest) ≡ good x (length (bytes x))
@@ -52,7 +52,7 @@ one-byte n h = ap (λ (b : ℕ). b ∷ []) (omega arith)
 pub string-exact : Exact (λ s. leb (length s) 255) shortString string
 unfolding shortString string
 string-exact =
-    exact (then-reads length (number-reads 1) block-reads (λ n s h k. sym k))
+    exact (placed-reads length (then-reads length (number-reads 1) block-reads (λ n s h k. sym k)))
     (λ s. (λ h. le-leb (length s) 255 (omega (arith, h .0)), λ h. (omega (arith, leb-true (length s) 255 h), refl)))
     (λ s h. ap (λ (l : List ℕ). l ++ s) (one-byte (length s) (omega (arith, h .0))))
 
@@ -83,11 +83,11 @@ unfolding legalTagValue
 value-short v = short 0 255 (length v) (every isTagByte v)
 
 pub tag-exact : Exact legalTag tagBytes tag
-unfolding legalTag tagBytes tag
+unfolding legalTag tagBytes tag tagName tagValue
 tag-exact =
     exact
-    (then-reads (λ t. t .name) (only-reads legalTagName (reads string-exact))
-    (λ n. then-reads (λ t. t .value) (only-reads legalTagValue (reads string-exact)) (λ v. give-reads (record { name = n; value = v })) (λ v t o g. sym (ap (λ (t : Tag). t .value) g)))
+    (then-reads (λ t. t .name) (placed-reads (stringFault 1 isTagByte) (only-reads legalTagName (reads string-exact)))
+    (λ n. then-reads (λ t. t .value) (placed-reads (stringFault 0 isTagByte) (only-reads legalTagValue (reads string-exact))) (λ v. give-reads (record { name = n; value = v })) (λ v t o g. sym (ap (λ (t : Tag). t .value) g)))
     (λ n t o g. sym (ap (λ (t : Tag). t .name) (g .1))))
     (λ t. (
       λ h. and-true (legalTagName (t .name)) (legalTagValue (t .value)) (h .0 .1) (h .1 .0 .1),
@@ -96,9 +96,9 @@ tag-exact =
     (λ t h. rw append-nil)
 
 pub table-exact : Exact legalTable tableBytes table
-unfolding legalTable tableBytes table
+unfolding legalTable tableBytes table numberOfTags
 table-exact =
-    exact (only-reads (λ ts. distinct (tagNames ts)) (then-reads length (only-reads (within 0 mostTags) (number-reads 4)) (λ n. times-reads legalTag n (reads tag-exact)) (λ n ts o g. sym (g .0))))
+    exact (placed-reads tableFault (only-reads (λ ts. distinct (tagNames ts)) (then-reads length (only-reads (within 0 mostTags) (number-reads 4)) (λ n. times-reads legalTag n (reads tag-exact)) (λ n ts o g. sym (g .0)))))
     (λ ts. (
       λ h. three-true (leb (length ts) mostTags) (every legalTag ts) (distinct (tagNames ts)) (both-true (leb 0 (length ts)) (leb (length ts) mostTags) (h .0 .0 .1) .1) (h .0 .1 .1) (h .1),
       λ h. let b = all-three (leb (length ts) mostTags) (every legalTag ts) (distinct (tagNames ts)) h in
@@ -165,10 +165,10 @@ unfolding legalSectionName
 sectionName-short n = short 1 255 (length n) (every isNameByte n)
 
 pub definition-exact : Exact legalDefinition definitionBytes definition
-unfolding legalDefinition definitionBytes definition
+unfolding legalDefinition definitionBytes definition sectionName
 definition-exact =
     exact
-    (then-reads (λ d. d .name) (only-reads legalSectionName (reads string-exact))
+    (then-reads (λ d. d .name) (placed-reads (stringFault 1 isNameByte) (only-reads legalSectionName (reads string-exact)))
     (λ n. then-reads (λ d. d .offset) (number-reads 8) (λ at. give-reads (record { name = n; offset = at })) (λ at d o g. sym (ap (λ (d : Definition). d .offset) g)))
     (λ n d o g. sym (ap (λ (d : Definition). d .name) (g .1))))
     (λ d. (
@@ -178,7 +178,7 @@ definition-exact =
     (λ d h. rw append-nil)
 
 pub definitions-exact : Exact legalDefinitions (λ ds. length ds ∷ flatMap definitionBytes ds) definitions
-unfolding legalDefinitions definitions
+unfolding legalDefinitions definitions numberOfSections
 definitions-exact =
     exact (only-reads (λ ds. distinct (definedNames ds)) (then-reads length (only-reads (within 1 mostSections) (number-reads 1)) (λ n. times-reads legalDefinition n (reads definition-exact)) (λ n ds o g. sym (g .0))))
     (λ ds. (
@@ -197,7 +197,7 @@ unfoldable pub setUpSectionFits : Section → Bool
 setUpSectionFits s = leb (length (s .name)) 255 && leb (length (s .configuration)) 65535
 
 pub setUpSection-exact : Exact setUpSectionFits setUpSectionBytes setUpSection
-unfolding setUpSectionFits setUpSectionBytes setUpSection
+unfolding setUpSectionFits setUpSectionBytes setUpSection configured
 setUpSection-exact =
     exact
     (then-reads (λ s. s .name) (reads string-exact)

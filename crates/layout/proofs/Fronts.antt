@@ -363,7 +363,7 @@ table-some ts = simp (length-append, length-bytesOf) (omega arith)
 -- what was read, and its bytes
 pub read-good : {A : Type 0} (else : A) (p : Parsed A) → isBad p ≡ false → p ≡ good (valueOr else p) (taken p)
 unfolding valueOr taken
-read-good else bad h = let z : _≡_ {A = ℕ} 0 1 = cc in absurd (omega arith)
+read-good else (bad m) h = let z : _≡_ {A = ℕ} 0 1 = cc in absurd (omega arith)
 read-good else (good a n) h = refl
 
 -- the sections and the system tags that a file shows

@@ -1,9 +1,11 @@
 pub mod Examples
+pub mod PositionExamples
 pub mod Limits
 pub mod Lists
 pub mod Outputs
 pub mod Readers
 pub mod Exact
+pub mod FirstFaults
 pub mod Walks
 pub mod Lines
 pub mod Orders
@@ -34,3 +36,4 @@ pub mod Fresh
 pub mod Browsing
 pub mod Cursors
 pub mod Entries
+pub mod Positions

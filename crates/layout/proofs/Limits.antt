@@ -11,11 +11,11 @@ use lib.Pow.{areBytes}
 use borrow.Author.Tests.{leb-true, le-leb}
 use Rattle.number.specs.Number.{bytesOf, numberOf}
 use Rattle.layout.specs.Recording.{Frame, Recording, Legal, legalSection, legalTag, legalTable, legalFrame, userStart, longestConfiguration, mostTags, longestSection, mostFrames, largestTable, largestUserOffset, fileMark, shortString, headerBytes, definitionListBytes, definitionsEnd, definitionsBytes, configurationsBytes, frontBytes, tableBytes, tagBytes, sizedBytes, frameHeadBytes, frameBytes, entryBytes, entriesBytes, firstTime, indexBytes, indexLength, every, same, among, distinct, isNameByte, isTagByte, legalSectionName, legalTagName, legalTagValue, tagNames, sectionNames, follows, follow, inOrder}
-use Rattle.layout.specs.Reading.{Reader, good, isBad, onward, give, _then_, only, times, exactly, valueOr, taken, number, block, string, definition, definedNames, definitions, tag, table, sized, frame, stopped, longer, walk}
+use Rattle.layout.specs.Reading.{Reader, good, isBad, onward, behind, give, _then_, only, faultAt, placed, times, exactly, valueOr, taken, faultOf, number, block, string, outside, stringFault, sectionName, tagName, tagValue, keeping, rowsFault, countedFault, numberOfSections, numberOfTags, tableFault, definition, definedNames, definitions, tag, table, sized, frame, stopped, longer, walk}
 use Rattle.layout.specs.Opening.{firstOf, field, headerCount, indexOffset, systemOffset, userOffset, readDefinitions, definedIn, readSystem, readUser, walkStart, walkOf, counted, notFstf, otherRevision, steps, offsetsLegal, lastOffset, badSections, badSystem, notClosed, badIndex, badUser, frontLines, openingLines, refusal, nextOffset, sectionsFrom, shown}
-use Rattle.layout.specs.Recorder.{Stage, fresh, running, closing, closed, State, Piece, isFresh, isRunning, takesClose, pieceNumber, tooLong, brokenState, answer, setUpSection, setUpList, sectionsOf, badSetUp, firstPiece, beginLines, begun, begin, framePiece, badShape, badClock, addLines, firstAfter, added, noted, add, closingPieces, closingPiece, notesShort, stageAfter, closeLines, closedBy, close}
+use Rattle.layout.specs.Recorder.{Stage, fresh, running, closing, closed, State, Piece, isFresh, isRunning, takesClose, pieceNumber, tooLong, brokenState, answer, configured, setUpSection, setUpList, sectionsOf, badSetUp, firstPiece, beginLines, begun, begin, framePiece, badShape, badClock, addLines, firstAfter, added, noted, add, closingPieces, closingPiece, notesShort, stageAfter, closeLines, closedBy, close}
 use Rattle.layout.specs.Storage.{closes, freshState, pieceOf, passedOn, called, session}
-use Rattle.layout.specs.Saving.{tagValue, malformed, entryOf, seenOf, change, changeNames, sheet}
+use Rattle.layout.specs.Saving.{malformed, entryOf, seenOf, kind, seenPart, newPart, numberOfChanges, sheetFault, change, changeNames, sheet}
 use Rattle.layout.proofs.Exact.{sized-exact}
 use Rattle.layout.proofs.Examples.{theFile, Row, row, holdsAt}
 
@@ -186,7 +186,7 @@ limitRows =
 
 -- the numbers and classes of document 01 hold of the definitions
 pub limits : T (every holdsAt limitRows)
-unfolding bit reads counting definedAs setUpAs letters sectionsOfCount beginsBy taggedAs stateWith closesBy addsBy frameAt pieceBytes changesFrom sheetOfCount sheetAs limitRows theFile row holdsAt map bytesOf numberOf flatMap fileMark shortString headerBytes definitionListBytes definitionsEnd definitionsBytes configurationsBytes frontBytes tableBytes tagBytes sizedBytes frameHeadBytes frameBytes entryBytes entriesBytes firstTime indexBytes every same among distinct isNameByte isTagByte legalSectionName legalTagName legalTagValue tagNames sectionNames follows follow inOrder onward give _then_ only times exactly valueOr taken number block string definition definedNames definitions tag table sized frame stopped longer walk firstOf field headerCount indexOffset systemOffset userOffset readDefinitions definedIn readSystem readUser walkStart walkOf counted notFstf otherRevision steps offsetsLegal lastOffset badSections badSystem notClosed badIndex badUser frontLines openingLines refusal nextOffset sectionsFrom shown isFresh isRunning takesClose pieceNumber tooLong brokenState answer setUpSection setUpList sectionsOf badSetUp firstPiece beginLines begun begin framePiece badShape badClock addLines firstAfter added noted add closingPieces closingPiece notesShort stageAfter closeLines closedBy close pieceOf passedOn called session tagValue malformed entryOf seenOf change changeNames sheet
+unfolding bit reads counting definedAs setUpAs letters sectionsOfCount beginsBy taggedAs stateWith closesBy addsBy frameAt pieceBytes changesFrom sheetOfCount sheetAs limitRows theFile row holdsAt map bytesOf numberOf flatMap fileMark shortString headerBytes definitionListBytes definitionsEnd definitionsBytes configurationsBytes frontBytes tableBytes tagBytes sizedBytes frameHeadBytes frameBytes entryBytes entriesBytes firstTime indexBytes every same among distinct isNameByte isTagByte legalSectionName legalTagName legalTagValue tagNames sectionNames follows follow inOrder onward behind give _then_ only faultAt placed times exactly valueOr taken faultOf number block string outside stringFault sectionName tagName tagValue keeping rowsFault countedFault numberOfSections numberOfTags tableFault definition definedNames definitions tag table sized frame stopped longer walk firstOf field headerCount indexOffset systemOffset userOffset readDefinitions definedIn readSystem readUser walkStart walkOf counted notFstf otherRevision steps offsetsLegal lastOffset badSections badSystem notClosed badIndex badUser frontLines openingLines refusal nextOffset sectionsFrom shown isFresh isRunning takesClose pieceNumber tooLong brokenState answer configured setUpSection setUpList sectionsOf badSetUp firstPiece beginLines begun begin framePiece badShape badClock addLines firstAfter added noted add closingPieces closingPiece notesShort stageAfter closeLines closedBy close pieceOf passedOn called session malformed entryOf seenOf kind seenPart newPart numberOfChanges sheetFault change changeNames sheet
 limits = tt
 
 -- ── The same of long lists ──

@@ -14,7 +14,7 @@ use borrow.Author.Tests.{leb-true, le-leb, eqb-true, eq-eqb}
 use Rattle.number.specs.Number.{bytesOf, numberOf}
 use Rattle.number.proofs.Bytes.{both-true, and-true, length-bytesOf, numberOf-bytesOf, numberOf-less, bytesOf-numberOf}
 use Rattle.layout.specs.Recording.{every}
-use Rattle.layout.specs.Reading.{Parsed, bad, good, Reader, onward, give, _then_, only, times, exactly, number, block}
+use Rattle.layout.specs.Reading.{Parsed, bad, good, Reader, onward, behind, give, _then_, only, times, exactly, faultAt, placed, number, block}
 use Rattle.layout.proofs.Lists.{cond-true, bytes-drop, bytes-take}
 
 -- what p reads is Ok and stands encoded at the front; and what is Ok is read back, whatever follows
@@ -26,22 +26,27 @@ pub record Reads {A : Type 0} (Ok : A → Type 0) (bytes : A → List ℕ) (p : 
 
 pub onward-good : {A B : Type 0} (x : Parsed A) (next : A → ℕ → Parsed B) (b : B) (k : ℕ) → onward x next ≡ good b k → (a : A) × (n : ℕ) × (x ≡ good a n) × (next a n ≡ good b k)
 unfolding onward
-onward-good bad next b k e = let z : _≡_ {A = ℕ} 0 1 = cc in absurd (omega arith)
+onward-good (bad m) next b k e = let z : _≡_ {A = ℕ} 0 1 = cc in absurd (omega arith)
 onward-good (good a n) next b k e = (a, n, refl, e)
 
-pub cond-good : {A : Type 0} (t : Bool) (a b : A) (n k : ℕ) → cond t (good a n) bad ≡ good b k → (t ≡ true) × (a ≡ b) × (n ≡ k)
-cond-good true a b n k e = (refl, cc, cc)
-cond-good false a b n k e = let z : _≡_ {A = ℕ} 0 1 = cc in absurd (omega arith)
+pub behind-good : {A : Type 0} (n : ℕ) (x : Parsed A) (b : A) (k : ℕ) → behind n x ≡ good b k → (m : ℕ) × (x ≡ good b m) × (k ≡ n + m)
+unfolding behind
+behind-good n (bad m) b k e = let z : _≡_ {A = ℕ} 0 1 = cc in absurd (omega arith)
+behind-good n (good a m) b k e = (m, cc, cc)
+
+pub cond-good : {A : Type 0} (q : ℕ) (t : Bool) (a b : A) (n k : ℕ) → cond t (good a n) (bad q) ≡ good b k → (t ≡ true) × (a ≡ b) × (n ≡ k)
+cond-good q true a b n k e = (refl, cc, cc)
+cond-good q false a b n k e = let z : _≡_ {A = ℕ} 0 1 = cc in absurd (omega arith)
 
 pub then-good : {A B : Type 0} (p : Reader A) (next : A → Reader B) (s : List ℕ) (b : B) (k : ℕ) → (p then next) s ≡ good b k → (a : A) × (n : ℕ) × (m : ℕ) × (p s ≡ good a n) × (next a (drop n s) ≡ good b m) × (k ≡ n + m)
 unfolding _then_
-then-good {A} {B} p next s b k e = outer (onward-good (p s) (λ a n. onward (next a (drop n s)) (λ b′ m. good b′ (n + m))) b k e)
+then-good {A} {B} p next s b k e = outer (onward-good (p s) (λ a n. behind n (next a (drop n s))) b k e)
   where
-    inner : (a : A) (n : ℕ) → p s ≡ good a n → ((b′ : B) × (m : ℕ) × (next a (drop n s) ≡ good b′ m) × (good b′ (n + m) ≡ good b k)) → (a : A) × (n : ℕ) × (m : ℕ) × (p s ≡ good a n) × (next a (drop n s) ≡ good b m) × (k ≡ n + m)
-    inner a n f (b′, m, g, h) = (a, n, m, f, cc, cc)
+    inner : (a : A) (n : ℕ) → p s ≡ good a n → ((m : ℕ) × (next a (drop n s) ≡ good b m) × (k ≡ n + m)) → (a : A) × (n : ℕ) × (m : ℕ) × (p s ≡ good a n) × (next a (drop n s) ≡ good b m) × (k ≡ n + m)
+    inner a n f (m, g, h) = (a, n, m, f, g, h)
 
-    outer : ((a : A) × (n : ℕ) × (p s ≡ good a n) × (onward (next a (drop n s)) (λ b′ m. good b′ (n + m)) ≡ good b k)) → (a : A) × (n : ℕ) × (m : ℕ) × (p s ≡ good a n) × (next a (drop n s) ≡ good b m) × (k ≡ n + m)
-    outer (a, n, f, g) = inner a n f (onward-good (next a (drop n s)) (λ b′ m. good b′ (n + m)) b k g)
+    outer : ((a : A) × (n : ℕ) × (p s ≡ good a n) × (behind n (next a (drop n s)) ≡ good b k)) → (a : A) × (n : ℕ) × (m : ℕ) × (p s ≡ good a n) × (next a (drop n s) ≡ good b m) × (k ≡ n + m)
+    outer (a, n, f, g) = inner a n f (behind-good n (next a (drop n s)) b k g)
 
 -- two encodings, one behind the other at the front
 pub joined : (s x y : List ℕ) (n m : ℕ) → n ≡ length x → s ≡ x ++ drop n s → m ≡ length y → drop n s ≡ y ++ drop m (drop n s) → (n + m ≡ length (x ++ y)) × (s ≡ x ++ y ++ drop (n + m) s)
@@ -54,7 +59,7 @@ unfolding onward
 onward-takes p next s a n e = rw e
 
 pub then-takes : {A B : Type 0} (p : Reader A) (next : A → Reader B) (s : List ℕ) (a : A) (b : B) (n m : ℕ) → p s ≡ good a n → next a (drop n s) ≡ good b m → (p then next) s ≡ good b (n + m)
-unfolding _then_ onward
+unfolding _then_ onward behind
 then-takes p next s a b n m e f = rw (e, f)
 
 -- ── Exact readers, put together ──
@@ -76,25 +81,25 @@ give-reads {A} a = record { takes = λ x rest h. cc; gives = λ s x n h q. (cc, 
 
 pub number-is : (w : ℕ) (s : List ℕ) → w ≤ length s → number w s ≡ good (numberOf (take w s)) w
 unfolding number
-number-is w s h = cond-true (leb w (length s)) (good (numberOf (take w s)) w) bad (le-leb w (length s) h)
+number-is w s h = cond-true (leb w (length s)) (good (numberOf (take w s)) w) (bad 0) (le-leb w (length s) h)
 
 pub number-good : (w : ℕ) (s : List ℕ) (n k : ℕ) → number w s ≡ good n k → (w ≤ length s) × (numberOf (take w s) ≡ n) × (w ≡ k)
 unfolding number
 number-good w s n k e = (leb-true w (length s) (c .0), c .1, c .2)
   where
     c : (leb w (length s) ≡ true) × (numberOf (take w s) ≡ n) × (w ≡ k)
-    c = cond-good (leb w (length s)) (numberOf (take w s)) n w k e
+    c = cond-good 0 (leb w (length s)) (numberOf (take w s)) n w k e
 
 pub block-is : (n : ℕ) (s : List ℕ) → n ≤ length s → block n s ≡ good (take n s) n
 unfolding block
-block-is n s h = cond-true (leb n (length s)) (good (take n s) n) bad (le-leb n (length s) h)
+block-is n s h = cond-true (leb n (length s)) (good (take n s) n) (bad 0) (le-leb n (length s) h)
 
 pub block-good : (n : ℕ) (s x : List ℕ) (k : ℕ) → block n s ≡ good x k → (n ≤ length s) × (take n s ≡ x) × (n ≡ k)
 unfolding block
 block-good n s x k e = (leb-true n (length s) (c .0), c .1, c .2)
   where
     c : (leb n (length s) ≡ true) × (take n s ≡ x) × (n ≡ k)
-    c = cond-good (leb n (length s)) (take n s) x n k e
+    c = cond-good 0 (leb n (length s)) (take n s) x n k e
 
 pub number-reads : (w : ℕ) → Reads (λ n. n < 256 ^ w) (bytesOf w) (number w)
 number-reads w = record { takes = takes; gives = λ s n k h q. gives s n k h (number-good w s n k q) }
@@ -128,20 +133,40 @@ block-reads n = record { takes = takes; gives = λ s x k h q. gives s x k (block
 
 pub only-reads : {A : Type 0} {Ok : A → Type 0} {bytes : A → List ℕ} {p : Reader A} (test : A → Bool) → Reads Ok bytes p → Reads (λ x. Ok x × (test x ≡ true)) bytes (only test p)
 unfolding only
-only-reads {A} {Ok} {bytes} {p} test e = record { takes = takes; gives = λ s x n h q. outer s x n h (onward-good (p s) (λ a m. cond (test a) (good a m) bad) x n q) }
+only-reads {A} {Ok} {bytes} {p} test e = record { takes = takes; gives = λ s x n h q. outer s x n h (onward-good (p s) (λ a m. cond (test a) (good a m) (bad 0)) x n q) }
   where
     takes : (x : A) (rest : List ℕ) → (Ok x × (test x ≡ true)) → only test p (bytes x ++ rest) ≡ good x (length (bytes x))
     takes x rest (o, t) =
-        onward-takes p (λ a m. cond (test a) (good a m) bad) (bytes x ++ rest) x (length (bytes x)) (e .takes x rest o)
-        ∙ cond-true (test x) (good x (length (bytes x))) bad t
+        onward-takes p (λ a m. cond (test a) (good a m) (bad 0)) (bytes x ++ rest) x (length (bytes x)) (e .takes x rest o)
+        ∙ cond-true (test x) (good x (length (bytes x))) (bad 0) t
 
     inner : (s : List ℕ) (x a : A) (n m : ℕ) → areBytes s ≡ true → p s ≡ good a m → ((test a ≡ true) × (a ≡ x) × (m ≡ n)) → (Ok x × (test x ≡ true)) × (n ≡ length (bytes x)) × (s ≡ bytes x ++ drop n s)
     inner s x a n m h q (t, f, g) =
         let r : Ok x × (n ≡ length (bytes x)) × (s ≡ bytes x ++ drop n s) = e .gives s x n h (cc) in
         ((r .0, cc), r .1, r .2)
 
-    outer : (s : List ℕ) (x : A) (n : ℕ) → areBytes s ≡ true → ((a : A) × (m : ℕ) × (p s ≡ good a m) × (cond (test a) (good a m) bad ≡ good x n)) → (Ok x × (test x ≡ true)) × (n ≡ length (bytes x)) × (s ≡ bytes x ++ drop n s)
-    outer s x n h (a, m, q, c) = inner s x a n m h q (cond-good (test a) a x m n c)
+    outer : (s : List ℕ) (x : A) (n : ℕ) → areBytes s ≡ true → ((a : A) × (m : ℕ) × (p s ≡ good a m) × (cond (test a) (good a m) (bad 0) ≡ good x n)) → (Ok x × (test x ≡ true)) × (n ≡ length (bytes x)) × (s ≡ bytes x ++ drop n s)
+    outer s x n h (a, m, q, c) = inner s x a n m h q (cond-good 0 (test a) a x m n c)
+
+-- where a fault is found leaves what is read as it is
+pub placed-good : {A : Type 0} (at : List ℕ → ℕ) (p : Reader A) (s : List ℕ) (x : A) (n : ℕ) → placed at p s ≡ good x n → p s ≡ good x n
+unfolding placed faultAt
+placed-good {A} at p s x n e = go (p s) e
+  where
+    go : (v : Parsed A) → faultAt (at s) v ≡ good x n → v ≡ good x n
+    go (bad m) q = let z : _≡_ {A = ℕ} 0 1 = cc in absurd (omega arith)
+    go (good a m) q = q
+
+pub placed-takes : {A : Type 0} (at : List ℕ → ℕ) (p : Reader A) (s : List ℕ) (x : A) (n : ℕ) → p s ≡ good x n → placed at p s ≡ good x n
+unfolding placed faultAt
+placed-takes at p s x n e = rw e
+
+pub placed-reads : {A : Type 0} {Ok : A → Type 0} {bytes : A → List ℕ} {p : Reader A} (at : List ℕ → ℕ) → Reads Ok bytes p → Reads Ok bytes (placed at p)
+placed-reads {A} {Ok} {bytes} {p} at e =
+    record {
+      takes = λ x rest h. placed-takes at p (bytes x ++ rest) x (length (bytes x)) (e .takes x rest h);
+      gives = λ s x n h q. e .gives s x n h (placed-good at p s x n q);
+    }
 
 -- `first` is what of the whole value p has read
 pub then-reads : {A C : Type 0} {OkA : A → Type 0} {OkC : A → C → Type 0} {bytesA : A → List ℕ} {bytesC : C → List ℕ} {p : Reader A} {next : A → Reader C} (first : C → A) → Reads OkA bytesA p → ((a : A) → Reads (OkC a) bytesC (next a)) → ((a : A) (c : C) → OkA a → OkC a c → a ≡ first c) → Reads (λ c. OkA (first c) × OkC (first c) c) (λ c. bytesA (first c) ++ bytesC c) (p then next)
@@ -163,18 +188,18 @@ then-reads {A} {C} {OkA} {OkC} {bytesA} {bytesC} {p} {next} first e es firsts =
 -- ── One behind the other, as often as asked ──
 
 pub times-suc-takes : {A : Type 0} (p : Reader A) (k : ℕ) (s : List ℕ) (x : A) (xs : List A) (n m : ℕ) → p s ≡ good x n → times k p (drop n s) ≡ good xs m → times (suc k) p s ≡ good (x ∷ xs) (n + m)
-unfolding times onward
+unfolding times onward behind
 times-suc-takes p k s x xs n m e f = rw (e, f)
 
 pub times-suc-good : {A : Type 0} (p : Reader A) (k : ℕ) (s : List ℕ) (ys : List A) (j : ℕ) → times (suc k) p s ≡ good ys j → (x : A) × (xs : List A) × (n : ℕ) × (m : ℕ) × (p s ≡ good x n) × (times k p (drop n s) ≡ good xs m) × (x ∷ xs ≡ ys) × (n + m ≡ j)
 unfolding times
-times-suc-good {A} p k s ys j e = outer (onward-good (p s) (λ x n. onward (times k p (drop n s)) (λ xs m. good (x ∷ xs) (n + m))) ys j e)
+times-suc-good {A} p k s ys j e = outer (onward-good (p s) (λ x n. behind n (onward (times k p (drop n s)) (λ xs m. good (x ∷ xs) m))) ys j e)
   where
-    inner : (x : A) (n : ℕ) → p s ≡ good x n → ((xs : List A) × (m : ℕ) × (times k p (drop n s) ≡ good xs m) × (good (x ∷ xs) (n + m) ≡ good ys j)) → (x : A) × (xs : List A) × (n : ℕ) × (m : ℕ) × (p s ≡ good x n) × (times k p (drop n s) ≡ good xs m) × (x ∷ xs ≡ ys) × (n + m ≡ j)
-    inner x n f (xs, m, g, h) = (x, xs, n, m, f, g, cc, cc)
+    inner : (x : A) (n i : ℕ) → p s ≡ good x n → j ≡ n + i → ((xs : List A) × (m : ℕ) × (times k p (drop n s) ≡ good xs m) × (good (x ∷ xs) m ≡ good ys i)) → (x : A) × (xs : List A) × (n : ℕ) × (m : ℕ) × (p s ≡ good x n) × (times k p (drop n s) ≡ good xs m) × (x ∷ xs ≡ ys) × (n + m ≡ j)
+    inner x n i f w (xs, m, g, h) = let y : m ≡ i = cc in (x, xs, n, m, f, g, cc, omega arith)
 
-    outer : ((x : A) × (n : ℕ) × (p s ≡ good x n) × (onward (times k p (drop n s)) (λ xs m. good (x ∷ xs) (n + m)) ≡ good ys j)) → (x : A) × (xs : List A) × (n : ℕ) × (m : ℕ) × (p s ≡ good x n) × (times k p (drop n s) ≡ good xs m) × (x ∷ xs ≡ ys) × (n + m ≡ j)
-    outer (x, n, f, g) = inner x n f (onward-good (times k p (drop n s)) (λ xs m. good (x ∷ xs) (n + m)) ys j g)
+    outer : ((x : A) × (n : ℕ) × (p s ≡ good x n) × (behind n (onward (times k p (drop n s)) (λ xs m. good (x ∷ xs) m)) ≡ good ys j)) → (x : A) × (xs : List A) × (n : ℕ) × (m : ℕ) × (p s ≡ good x n) × (times k p (drop n s) ≡ good xs m) × (x ∷ xs ≡ ys) × (n + m ≡ j)
+    outer (x, n, f, g) = let b = behind-good n (onward (times k p (drop n s)) (λ xs m. good (x ∷ xs) m)) ys j g in inner x n (b .0) f (b .2) (onward-good (times k p (drop n s)) (λ xs m. good (x ∷ xs) m) ys (b .0) (b .1))
 
 module _ {A : Type 0} (ok : A → Bool) (bytes : A → List ℕ) (p : Reader A) (e : Reads (λ x. ok x ≡ true) bytes p) where
   times-takes : (xs : List A) (rest : List ℕ) → every ok xs ≡ true → times (length xs) p (flatMap bytes xs ++ rest) ≡ good xs (length (flatMap bytes xs))
@@ -220,16 +245,16 @@ times-reads {A} {bytes} {p} ok k e =
 
 pub exactly-good : {A : Type 0} (p : Reader A) (s : List ℕ) (x : A) (n : ℕ) → exactly p s ≡ good x n → (p s ≡ good x n) × (n ≡ length s)
 unfolding exactly
-exactly-good {A} p s x n e = outer (onward-good (p s) (λ a m. cond (eqb m (length s)) (good a m) bad) x n e)
+exactly-good {A} p s x n e = outer (onward-good (p s) (λ a m. cond (eqb m (length s)) (good a m) (bad m)) x n e)
   where
     inner : (a : A) (m : ℕ) → p s ≡ good a m → ((eqb m (length s) ≡ true) × (a ≡ x) × (m ≡ n)) → (p s ≡ good x n) × (n ≡ length s)
     inner a m f (t, g, h) = (cc, cc (eqb-true m (length s) t))
 
-    outer : ((a : A) × (m : ℕ) × (p s ≡ good a m) × (cond (eqb m (length s)) (good a m) bad ≡ good x n)) → (p s ≡ good x n) × (n ≡ length s)
-    outer (a, m, f, g) = inner a m f (cond-good (eqb m (length s)) a x m n g)
+    outer : ((a : A) × (m : ℕ) × (p s ≡ good a m) × (cond (eqb m (length s)) (good a m) (bad m) ≡ good x n)) → (p s ≡ good x n) × (n ≡ length s)
+    outer (a, m, f, g) = inner a m f (cond-good m (eqb m (length s)) a x m n g)
 
 pub exactly-is : {A : Type 0} (p : Reader A) (s : List ℕ) (x : A) → p s ≡ good x (length s) → exactly p s ≡ good x (length s)
 unfolding exactly
 exactly-is p s x e =
-    onward-takes p (λ a m. cond (eqb m (length s)) (good a m) bad) s x (length s) e
-    ∙ cond-true (eqb (length s) (length s)) (good x (length s)) bad (eq-eqb (length s) (length s) refl)
+    onward-takes p (λ a m. cond (eqb m (length s)) (good a m) (bad m)) s x (length s) e
+    ∙ cond-true (eqb (length s) (length s)) (good x (length s)) (bad (length s)) (eq-eqb (length s) (length s) refl)

@@ -11,7 +11,7 @@ use Rattle.layout.specs.Recording.{Tag}
 use Rattle.layout.specs.Opening.{firstOf}
 use Rattle.layout.specs.Recorder.{State, piece, Step, filled, answer, beginLines, begin, addLines, add, closeLines, close}
 use Rattle.layout.specs.Repair.{Repair, repairRefusal, repairAnswer, repair}
-use Rattle.layout.specs.Saving.{changesOf, conflictPlace, userTags, saveRefusal, saveAnswer, save}
+use Rattle.layout.specs.Saving.{saveRefusal, savePlace, saveAnswer, save}
 use Rattle.layout.proofs.Lists.{cond-true, cond-false}
 
 -- an output into which nothing is filled
@@ -107,17 +107,15 @@ save-number f sheet room = go (saveRefusal f sheet room) _ _
     go zero place ts = refl
     go (suc m) place ts = refl
 
--- refused, it has no table and leaves the output as it was; "11 also its place", any other number none.
+-- refused, it has no table, leaves the output as it was, and carries the place that goes with its number.
 pub save-refused : (f sheet out : List ℕ) (n : ℕ)
     → save f sheet (length out) .refused ≡ suc n
     → (save f sheet (length out) .table ≡ [])
     × (filled out (save f sheet (length out) .table) ≡ out)
-    × (suc n ≡ 11 → save f sheet (length out) .place ≡ conflictPlace (userTags f) (changesOf sheet))
-    × ((suc n ≡ 11 → ⊥) → save f sheet (length out) .place ≡ 0)
+    × (save f sheet (length out) .place ≡ savePlace (suc n) f sheet)
 unfolding save saveAnswer
-save-refused f sheet out n h = go (saveRefusal f sheet (length out)) _ _ h
+save-refused f sheet out n h = go (saveRefusal f sheet (length out)) _ h
   where
-    go : (m place : ℕ) (ts : List Tag) → saveAnswer m place ts .refused ≡ suc n → (saveAnswer m place ts .table ≡ []) × (filled out (saveAnswer m place ts .table) ≡ out) × (suc n ≡ 11 → saveAnswer m place ts .place ≡ place) × ((suc n ≡ 11 → ⊥) → saveAnswer m place ts .place ≡ 0)
-    go zero place ts k = absurd (omega (arith, k))
-    go (suc m) place ts k =
-        (refl, filled-none out, λ e. cond-true (eqb (suc m) 11) place 0 (eq-eqb (suc m) 11 (omega (arith, k, e))), λ d. cond-false (eqb (suc m) 11) place 0 (ne-eqb (suc m) 11 (λ e. d (omega (arith, k, e)))))
+    go : (m : ℕ) (ts : List Tag) → saveAnswer m (savePlace m f sheet) ts .refused ≡ suc n → (saveAnswer m (savePlace m f sheet) ts .table ≡ []) × (filled out (saveAnswer m (savePlace m f sheet) ts .table) ≡ out) × (saveAnswer m (savePlace m f sheet) ts .place ≡ savePlace (suc n) f sheet)
+    go zero ts k = absurd (omega (arith, k))
+    go (suc m) ts k = (refl, filled-none out, ap (λ (i : ℕ). savePlace i f sheet) k)

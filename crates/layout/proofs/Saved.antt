@@ -13,10 +13,10 @@ use borrow.Author.Tests.{ltb-false, leb-true, le-ltb}
 use Rattle.number.proofs.Bytes.{both-true}
 use Rattle.number.specs.Number.{numberOf}
 use Rattle.layout.specs.Recording.{Tag, Recording, Legal, mostTags, every, distinct, tagNames, legalTag, legalTable, tableBytes, frontBytes, frameBytes, indexBytes, framesStart, framesEnd, userStart, encode}
-use Rattle.layout.specs.Reading.{Parsed, bad, good, onward, _then_, only, times, number, exactly, table, isBad, valueOr}
+use Rattle.layout.specs.Reading.{Parsed, bad, good, onward, behind, _then_, only, faultAt, placed, times, number, exactly, table, isBad, valueOr}
 use Rattle.layout.specs.Opening.{Line, line, firstOf, frontLines, openingLines, refusal, shown, userOffset, readUser, badUser}
 use Rattle.layout.specs.Recorder.{noRoom}
-use Rattle.layout.specs.Saving.{nobodyLooked, Change, sheet, changeNames, changesOf, lookUp, agrees, conflicts, someConflict, conflictPlace, userTags, newTable, saveLines, saveRefusal, saveAnswer, save}
+use Rattle.layout.specs.Saving.{nobodyLooked, Change, numberOfChanges, sheet, changeNames, changesOf, lookUp, agrees, conflicts, someConflict, conflictPlace, userTags, newTable, saveLines, savePlace, saveRefusal, saveAnswer, save}
 use Rattle.layout.proofs.Lists.{or-false, or-right, not-or, bytes-drop}
 use Rattle.layout.proofs.Exact.{table-exact, exactly-gives}
 use Rattle.layout.proofs.Lines.{line-pass, line-holds, opening-pass, opens-passes}
@@ -45,7 +45,11 @@ table-is (suc n) place ts e = absurd (omega arith)
 place-is : (n place : ℕ) (ts : List Tag) → saveAnswer n place ts .refused ≡ 11 → saveAnswer n place ts .place ≡ place
 unfolding saveAnswer
 place-is zero place ts e = absurd (omega arith)
-place-is (suc n) place ts e = rw e
+place-is (suc n) place ts e = refl
+
+place-eleven : (n : ℕ) (f bytes : List ℕ) → n ≡ 11 → savePlace n f bytes ≡ conflictPlace (userTags f) (changesOf bytes)
+unfolding savePlace
+place-eleven n f bytes e = rw e
 
 -- the four lines that a save has past those of opening
 unfoldable pub sheetLines : (f sheet : List ℕ) → (room : ℕ) → List Line
@@ -197,7 +201,7 @@ unfolding save sheetLines openingLines frontLines without
 save-conflict f bytes room r =
     let o = save-order f bytes room 11 refl r in
     let p = line-other 10 _ _ 11 (omega arith) (o .1) in
-    rw (place-is (saveRefusal f bytes room) _ _ r) (lowest-conflict (userTags f) (changesOf bytes) (line-own 11 _ _ (omega arith) refl (p .1)))
+    rw (place-is (saveRefusal f bytes room) _ _ r, place-eleven (saveRefusal f bytes room) f bytes (sym (refused-is (saveRefusal f bytes room) _ _) ∙ r)) (lowest-conflict (userTags f) (changesOf bytes) (line-own 11 _ _ (omega arith) refl (p .1)))
 
 -- ── The file of a save ──
 
@@ -207,7 +211,7 @@ unfolding userTags shown badUser readUser valueOr
 user-stands f h o = go (exactly table (drop (userOffset f) f)) refl (opens-passes f o .user)
   where
     go : (p : Parsed (List Tag)) → exactly table (drop (userOffset f) f) ≡ p → isBad p ≡ false → (legalTable (valueOr [] p) ≡ true) × (drop (userOffset f) f ≡ tableBytes (valueOr [] p))
-    go bad e b = let z : _≡_ {A = ℕ} 0 1 = cc in absurd (omega arith)
+    go (bad m) e b = let z : _≡_ {A = ℕ} 0 1 = cc in absurd (omega arith)
     go (good ts n) e b = exactly-gives legalTable tableBytes table table-exact (drop (userOffset f) f) ts n (bytes-drop (userOffset f) f h) e
 
 -- another legal user table makes another legal recording, whose file differs only there
@@ -263,7 +267,7 @@ saved-opens f bytes room h a = rw (table-is _ _ _ a, ← e) (legal-opens (withUs
 
 -- a sheet of no changes is well formed
 sheet-none : exactly sheet (0 ∷ []) ≡ good [] 1
-unfolding exactly sheet only _then_ onward times number numberOf distinct changeNames
+unfolding exactly sheet placed faultAt numberOfChanges only _then_ onward behind times number numberOf distinct changeNames
 sheet-none = refl
 
 table-few : (ts : List Tag) → legalTable ts ≡ true → length ts ≤ mostTags

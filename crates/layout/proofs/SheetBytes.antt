@@ -10,10 +10,10 @@ use lib.Dec.{leb, eqb}
 use lib.Pow.{areBytes}
 use borrow.Author.Tests.{leb-true, eqb-true, eqb-false}
 use Rattle.number.proofs.Bytes.{both-true}
-use Rattle.layout.specs.Recording.{shortString, within, every, distinct, legalTagName, legalTagValue}
-use Rattle.layout.specs.Reading.{Parsed, bad, good, Reader, _then_, give, exactly, number, isBad, valueOr}
-use Rattle.layout.specs.Saving.{Entry, absent, holds, Seen, saw, nobodyLooked, Change, mostChanges, tagValue, malformed, entryOf, seenOf, change, changeNames, sheet, changesOf, newBytes, seenBytes, changeBytes, sheetBytes}
-use Rattle.layout.proofs.Readers.{Reads, reads-alike, give-reads, number-reads, only-reads, then-reads, times-reads}
+use Rattle.layout.specs.Recording.{shortString, within, every, distinct, isTagByte, legalTagName, legalTagValue}
+use Rattle.layout.specs.Reading.{Parsed, bad, good, Reader, _then_, give, exactly, stringFault, tagName, tagValue, isBad, valueOr}
+use Rattle.layout.specs.Saving.{Entry, absent, holds, Seen, saw, nobodyLooked, Change, mostChanges, malformed, entryOf, seenOf, kind, seenPart, newPart, change, changeNames, numberOfChanges, sheetFault, sheet, changesOf, newBytes, seenBytes, changeBytes, sheetBytes}
+use Rattle.layout.proofs.Readers.{Reads, reads-alike, give-reads, number-reads, only-reads, placed-reads, then-reads, times-reads}
 use Rattle.layout.proofs.Exact.{Exact, reads, exact, one-byte, string-exact, within-zero, all-three, three-true, name-short, value-short, exactly-gives, exactly-takes}
 use Rattle.layout.proofs.Applied.{legalEntry}
 
@@ -72,7 +72,7 @@ value-reads : Reads (λ e. (entryKind e ≡ 1) × (legalEntry e ≡ true)) entry
 unfolding tagValue entryKind legalEntry entryRest entryValue
 value-reads =
     reads-alike
-    (then-reads entryValue (only-reads legalTagValue (reads string-exact)) (λ v. give-reads (holds v)) (λ v e o g. rw g))
+    (then-reads entryValue (placed-reads (stringFault 0 isTagByte) (only-reads legalTagValue (reads string-exact))) (λ v. give-reads (holds v)) (λ v e o g. rw g))
     (λ e. (there e, back e))
     (λ e h. bytes e h)
   where
@@ -161,27 +161,36 @@ seen-reads kind = go (eqb kind 2) refl
 
 -- ── The parts of a change ──
 
-pub new-exact : Exact legalEntry newBytes (number 1 then entryOf)
-unfolding newBytes entryKind entryRest
+pub new-exact : Exact legalEntry newBytes newPart
+unfolding newBytes entryKind entryRest newPart kind
 new-exact =
-    exact (then-reads entryKind (number-reads 1) entry-reads (λ n e o g. sym (g .0)))
-    (λ e. (λ h. h .1 .1, λ h. (kind-small e, (refl, h))))
+    exact (then-reads entryKind (only-reads (within 0 1) (number-reads 1)) entry-reads (λ n e o g. sym (g .0)))
+    (λ e. (λ h. h .1 .1, λ h. ((kind-small e, known e), (refl, h))))
     (λ e h. ap (λ (l : List ℕ). l ++ entryRest e) (one-byte (entryKind e) (kind-small e)) ∙ whole e)
   where
+    known : (e : Entry) → within 0 1 (entryKind e) ≡ true
+    known absent = refl
+    known (holds v) = refl
+
     whole : (e : Entry) → entryKind e ∷ entryRest e ≡ newBytes e
     whole absent = refl
     whole (holds v) = refl
 
-pub seen-exact : Exact legalSeen seenBytes (number 1 then seenOf)
-unfolding seenKind seenRest seenBytes entryKind entryRest newBytes legalSeen
+pub seen-exact : Exact legalSeen seenBytes seenPart
+unfolding seenPart kind seenKind seenRest seenBytes entryKind entryRest newBytes legalSeen
 seen-exact =
-    exact (then-reads seenKind (number-reads 1) seen-reads (λ n s o g. sym (g .0)))
-    (λ s. (λ h. h .1 .1, λ h. (small s, (refl, h))))
+    exact (then-reads seenKind (only-reads (within 0 2) (number-reads 1)) seen-reads (λ n s o g. sym (g .0)))
+    (λ s. (λ h. h .1 .1, λ h. ((small s, known s), (refl, h))))
     (λ s h. ap (λ (l : List ℕ). l ++ seenRest s) (one-byte (seenKind s) (small s)) ∙ whole s)
   where
     small : (s : Seen) → seenKind s < 256
     small (saw e) = kind-small e
     small nobodyLooked = omega arith
+
+    known : (s : Seen) → within 0 2 (seenKind s) ≡ true
+    known (saw absent) = refl
+    known (saw (holds v)) = refl
+    known nobodyLooked = refl
 
     whole : (s : Seen) → seenKind s ∷ seenRest s ≡ seenBytes s
     whole (saw absent) = refl
@@ -189,10 +198,10 @@ seen-exact =
     whole nobodyLooked = refl
 
 pub change-exact : Exact legalRow changeBytes change
-unfolding legalRow changeBytes change
+unfolding legalRow changeBytes change tagName
 change-exact =
     exact
-    (then-reads (λ c. c .name) (only-reads legalTagName (reads string-exact))
+    (then-reads (λ c. c .name) (placed-reads (stringFault 1 isTagByte) (only-reads legalTagName (reads string-exact)))
     (λ n. then-reads (λ c. c .seen) (reads seen-exact)
     (λ s. then-reads (λ c. c .new) (reads new-exact) (λ e. give-reads (record { name = n; seen = s; new = e })) (λ e c o g. sym (ap (λ (c : Change). c .new) g)))
     (λ s c o g. sym (ap (λ (c : Change). c .seen) (g .1))))
@@ -206,9 +215,9 @@ change-exact =
 -- ── A sheet ──
 
 pub sheet-exact : Exact legalSheet sheetBytes sheet
-unfolding legalSheet sheetBytes sheet
+unfolding legalSheet sheetBytes sheet numberOfChanges
 sheet-exact =
-    exact (only-reads (λ cs. distinct (changeNames cs)) (then-reads length (only-reads (within 0 mostChanges) (number-reads 1)) (λ n. times-reads legalRow n (reads change-exact)) (λ n cs o g. sym (g .0))))
+    exact (placed-reads sheetFault (only-reads (λ cs. distinct (changeNames cs)) (then-reads length (only-reads (within 0 mostChanges) (number-reads 1)) (λ n. times-reads legalRow n (reads change-exact)) (λ n cs o g. sym (g .0)))))
     (λ cs. (
       λ h. three-true (leb (length cs) mostChanges) (every legalRow cs) (distinct (changeNames cs)) (both-true (leb 0 (length cs)) (leb (length cs) mostChanges) (h .0 .0 .1) .1) (h .0 .1 .1) (h .1),
       λ h. let b = all-three (leb (length cs) mostChanges) (every legalRow cs) (distinct (changeNames cs)) h in
@@ -231,5 +240,5 @@ unfolding changesOf valueOr
 sheet-given bytes h k = go (exactly sheet bytes) refl k
   where
     go : (p : Parsed (List Change)) → exactly sheet bytes ≡ p → isBad p ≡ false → (legalSheet (valueOr [] p) ≡ true) × (sheetBytes (valueOr [] p) ≡ bytes)
-    go bad e b = let z : _≡_ {A = ℕ} 0 1 = cc in absurd (omega arith)
+    go (bad m) e b = let z : _≡_ {A = ℕ} 0 1 = cc in absurd (omega arith)
     go (good cs n) e b = let g = exactly-gives legalSheet sheetBytes sheet sheet-exact bytes cs n h e in (g .0, sym (g .1))

@@ -9,9 +9,9 @@ use lib.ListN.{drop}
 use lib.Dec.{eqb}
 use Rattle.number.proofs.Bytes.{and-true}
 use Rattle.layout.specs.Recording.{every, distinct, legalTagName, legalTagValue}
-use Rattle.layout.specs.Reading.{Parsed, bad, good, Reader, _then_, only, give, exactly, times, isBad, valueOr}
-use Rattle.layout.specs.Saving.{absent, holds, Change, tagValue, malformed, entryOf, change, changeNames, sheet, changesOf}
-use Rattle.layout.proofs.Readers.{onward-good, cond-good, then-good, times-suc-good, exactly-good}
+use Rattle.layout.specs.Reading.{Parsed, bad, good, Reader, _then_, only, placed, give, exactly, times, tagName, tagValue, isBad, valueOr}
+use Rattle.layout.specs.Saving.{absent, holds, Change, malformed, entryOf, seenPart, newPart, change, changeNames, sheetFault, sheet, changesOf}
+use Rattle.layout.proofs.Readers.{onward-good, cond-good, then-good, times-suc-good, exactly-good, placed-good}
 use Rattle.layout.proofs.Applied.{legalEntry, legalChange}
 
 -- ── What a reader gives passes a test ──
@@ -28,16 +28,19 @@ give-gives ok a h s x n e = let y : a ≡ x = cc in rw (← y) h
 
 pub only-good : {A : Type 0} (test : A → Bool) (p : Reader A) (s : List ℕ) (x : A) (n : ℕ) → only test p s ≡ good x n → (test x ≡ true) × (p s ≡ good x n)
 unfolding only
-only-good {A} test p s x n e = outer (onward-good (p s) (λ a m. cond (test a) (good a m) bad) x n e)
+only-good {A} test p s x n e = outer (onward-good (p s) (λ a m. cond (test a) (good a m) (bad 0)) x n e)
   where
     inner : (a : A) (m : ℕ) → p s ≡ good a m → ((test a ≡ true) × (a ≡ x) × (m ≡ n)) → (test x ≡ true) × (p s ≡ good x n)
     inner a m q (t, f, g) = (cc, cc)
 
-    outer : ((a : A) × (m : ℕ) × (p s ≡ good a m) × (cond (test a) (good a m) bad ≡ good x n)) → (test x ≡ true) × (p s ≡ good x n)
-    outer (a, m, q, c) = inner a m q (cond-good (test a) a x m n c)
+    outer : ((a : A) × (m : ℕ) × (p s ≡ good a m) × (cond (test a) (good a m) (bad 0) ≡ good x n)) → (test x ≡ true) × (p s ≡ good x n)
+    outer (a, m, q, c) = inner a m q (cond-good 0 (test a) a x m n c)
 
 pub only-gives : {A : Type 0} (test : A → Bool) (p : Reader A) → Gives test (only test p)
 only-gives test p s x n e = only-good test p s x n e .0
+
+placed-gives : {A : Type 0} (ok : A → Bool) (at : List ℕ → ℕ) (p : Reader A) → Gives ok p → Gives ok (placed at p)
+placed-gives ok at p g s x n e = g s x n (placed-good at p s x n e)
 
 pub then-gives : {A B : Type 0} (first : A → Bool) (ok : B → Bool) (p : Reader A) (next : A → Reader B) → Gives first p → ((a : A) → first a ≡ true → Gives ok (next a)) → Gives ok (p then next)
 then-gives {A} {B} first ok p next g h s x n e = go (then-good p next s x n e)
@@ -61,13 +64,13 @@ entry-gives kind = go (eqb kind 0) (eqb kind 1)
   where
     go : (a b : Bool) → Gives legalEntry (cond a (give absent) (cond b (tagValue then λ v. give (holds v)) malformed))
     go true b = give-gives legalEntry absent refl
-    go false true = then-gives legalTagValue legalEntry _ _ (only-gives legalTagValue _) (λ v h. give-gives legalEntry (holds v) h)
+    go false true = then-gives legalTagValue legalEntry _ _ (placed-gives legalTagValue _ _ (only-gives legalTagValue _)) (λ v h. give-gives legalEntry (holds v) h)
     go false false = λ s x n e. let z : _≡_ {A = ℕ} 0 1 = cc in absurd (omega arith)
 
 change-gives : Gives legalChange change
-unfolding change legalChange
+unfolding change legalChange tagName newPart
 change-gives =
-    then-gives legalTagName legalChange _ _ (only-gives legalTagName _) (λ m h.
+    then-gives legalTagName legalChange _ _ (placed-gives legalTagName _ _ (only-gives legalTagName _)) (λ m h.
     then-gives (λ x. true) legalChange _ _ (any-gives _) (λ s t.
     then-gives legalEntry legalChange _ _ (then-gives (λ x. true) legalEntry _ _ (any-gives _) (λ kind t. entry-gives kind)) (λ e i.
     give-gives legalChange _ (and-true (legalTagName m) (legalEntry e) h i))))
@@ -78,7 +81,7 @@ unfolding changesOf sheet valueOr
 sheet-legal bytes h = go (exactly sheet bytes) refl h
   where
     go : (p : Parsed (List Change)) → exactly sheet bytes ≡ p → isBad p ≡ false → (every legalChange (valueOr [] p) ≡ true) × (distinct (changeNames (valueOr [] p)) ≡ true)
-    go bad e b = let z : _≡_ {A = ℕ} 0 1 = cc in absurd (omega arith)
+    go (bad m) e b = let z : _≡_ {A = ℕ} 0 1 = cc in absurd (omega arith)
     go (good cs n) e b =
-        let o = only-good (λ ds. distinct (changeNames ds)) _ bytes cs n (exactly-good sheet bytes cs n e .0) in
+        let o = only-good (λ ds. distinct (changeNames ds)) _ bytes cs n (placed-good sheetFault _ bytes cs n (exactly-good sheet bytes cs n e .0)) in
         (then-gives (λ x. true) (every legalChange) _ _ (any-gives _) (λ k t. times-gives legalChange change change-gives k) bytes cs n (o .1), o .0)

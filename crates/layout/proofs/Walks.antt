@@ -12,7 +12,7 @@ use lib.Seq.{drop-append-seam, drop-drop}
 use lib.Pow.{areBytes}
 use Rattle.number.proofs.Bytes.{both-true, and-true}
 use Rattle.layout.specs.Recording.{Frame, frameBytes, every, legalFrame}
-use Rattle.layout.specs.Reading.{Parsed, bad, good, frame, Walk, stopped, longer, walk}
+use Rattle.layout.specs.Reading.{Parsed, bad, good, isBad, frame, Walk, stopped, longer, walk}
 use Rattle.layout.proofs.Lists.{bytes-drop}
 use Rattle.layout.proofs.Exact.{frame-exact}
 
@@ -23,10 +23,14 @@ unfolding walk
 walk-none k s = refl
 
 -- no frame here: the walk stops
-pub walk-stop : (most k : ℕ) (s : List ℕ) → frame k s ≡ bad → walk most k s ≡ stopped
+pub walk-stop : (most k : ℕ) (s : List ℕ) → isBad (frame k s) ≡ true → walk most k s ≡ stopped
 unfolding walk
 walk-stop zero k s e = refl
-walk-stop (suc most) k s e = rw (e, walk)
+walk-stop (suc most) k s e = go (frame k s) refl e
+  where
+    go : (v : Parsed Frame) → frame k s ≡ v → isBad v ≡ true → walk (suc most) k s ≡ stopped
+    go (bad m) q b = rw (q, walk)
+    go (good f n) q b = let z : _≡_ {A = ℕ} 0 1 = cc in absurd (omega arith)
 
 -- a frame here: it is taken, and the walk goes on behind it
 pub walk-step : (most k : ℕ) (s : List ℕ) (f : Frame) (n : ℕ) → frame k s ≡ good f n → walk (suc most) k s ≡ longer f n (walk most k (drop n s))
@@ -62,7 +66,7 @@ pub walk-exactly : (fs : List Frame) (k : ℕ) (rest : List ℕ) → every (lega
 walk-exactly fs k rest h = ap (λ (n : ℕ). walk n k (flatMap frameBytes fs ++ rest)) (sym (add-zero (length fs))) ∙ walk-over fs 0 k rest h ∙ ap (after fs) (walk-none k rest) ∙ after-stopped fs
 
 -- no frame behind them: the walk stops exactly there, however many it may take
-pub walk-stops : (fs : List Frame) (most k : ℕ) (rest : List ℕ) → length fs ≤ most → every (legalFrame k) fs ≡ true → frame k rest ≡ bad → walk most k (flatMap frameBytes fs ++ rest) ≡ took fs
+pub walk-stops : (fs : List Frame) (most k : ℕ) (rest : List ℕ) → length fs ≤ most → every (legalFrame k) fs ≡ true → isBad (frame k rest) ≡ true → walk most k (flatMap frameBytes fs ++ rest) ≡ took fs
 walk-stops fs most k rest m h b =
     let e : most ≡ length fs + (most - length fs) = omega arith in
     ap (λ (n : ℕ). walk n k (flatMap frameBytes fs ++ rest)) e ∙ walk-over fs (most - length fs) k rest h ∙ ap (after fs) (walk-stop (most - length fs) k rest b) ∙ after-stopped fs
@@ -95,7 +99,7 @@ walk-gives zero k s h = rw walk-none (stopped-walked zero k s)
 walk-gives (suc most) k s h = go (frame k s) refl (λ t b. walk-gives most k t b)
   where
     go : (p : Parsed Frame) → frame k s ≡ p → ((t : List ℕ) → areBytes t ≡ true → Walked most k t (walk most k t)) → Walked (suc most) k s (walk (suc most) k s)
-    go bad e more = rw (walk-stop (suc most) k s e) (stopped-walked (suc most) k s)
+    go (bad m) e more = rw (walk-stop (suc most) k s (rw e)) (stopped-walked (suc most) k s)
     go (good f n) e more =
         let g = frame-exact k .gives s f n h e in
         rw (walk-step most k s f n e) (longer-walked most k s f n (walk most k (drop n s)) (g .0) (g .1) (g .2) (more (drop n s) (bytes-drop n s h)))

@@ -12,7 +12,7 @@ use Rattle.layout.specs.Items.{Part, noTag, nameStart, valueStart}
 pub data Browsed : Type 0 where
   tag : (name value : Part) → Browsed
   end : Browsed
-  refused : ℕ → Browsed
+  refused : (number place : ℕ) → Browsed
 
 unfoldable pub tagAt : List Tag → ℕ → Browsed
 tagAt ts i =
@@ -22,13 +22,13 @@ tagAt ts i =
 -- "it holds the next tag's number, and from the count on it gives the end"
 unfoldable pub browse : (bytes : List ℕ) → (next : ℕ) → Browsed
 browse bytes i =
-    elim (exactly table bytes) [ bad ↦ refused 7 | good ts n ↦ cond (ltb i (length ts)) (tagAt ts i) end ]
+    elim (exactly table bytes) [ bad m ↦ refused 7 m | good ts n ↦ cond (ltb i (length ts)) (tagAt ts i) end ]
 
 -- the cursor after it: one further where there was a tag, and else as it was
 unfoldable pub cursorAfter : Browsed → ℕ → ℕ
 cursorAfter (tag name value) i = i + 1
 cursorAfter end i = i
-cursorAfter (refused n) i = i
+cursorAfter (refused n p) i = i
 
 -- the number of the tag of that name, or the count where there is none
 unfoldable pub numberOfTag : List ℕ → List Tag → ℕ
@@ -38,4 +38,4 @@ numberOfTag name (t ∷ ts) = cond (same name (t .name)) 0 (suc (numberOfTag nam
 -- the tag of a name, or the end where there is none
 unfoldable pub tagNamed : (bytes name : List ℕ) → Browsed
 tagNamed bytes name =
-    elim (exactly table bytes) [ bad ↦ refused 7 | good ts n ↦ cond (ltb (numberOfTag name ts) (length ts)) (tagAt ts (numberOfTag name ts)) end ]
+    elim (exactly table bytes) [ bad m ↦ refused 7 m | good ts n ↦ cond (ltb (numberOfTag name ts) (length ts)) (tagAt ts (numberOfTag name ts)) end ]

@@ -1,12 +1,12 @@
 -- "Refusal numbers": an order of them, lines 1 to 7 each under its name, and what a file that opens shows. The other lines stand with their calls.
 use Prim.Native.Nat.{ℕ, _+_, _-_}
-use mathlib.Core.Bool.{Bool, true, false, not, _||_, _&&_}
+use mathlib.Core.Bool.{Bool, true, false, not, _||_, _&&_, cond}
 use mathlib.Core.List.{List, [], _∷_, _++_}
 use lib.ListN.{length, take, drop, getD}
 use lib.Dec.{leb, ltb, eqb}
 use Rattle.number.specs.Number.{numberOf}
 use Rattle.layout.specs.Recording.{Section, Tag, Recording, countPlace, indexPlace, systemPlace, userPlace, headerLength, longestConfiguration, mostFrames, largestUserOffset, fileMark, revision, same, inOrder, indexBytes}
-use Rattle.layout.specs.Reading.{Definition, definitions, table, Parsed, isBad, valueOr, taken, exactly, Walk, walk}
+use Rattle.layout.specs.Reading.{Definition, Reader, Parsed, bad, good, _then_, only, times, number, sectionName, numberOfSections, definition, definitions, table, countedFault, isBad, valueOr, taken, faultOf, exactly, Walk, walk}
 
 -- ── An order of refusals ──
 
@@ -73,10 +73,13 @@ notFstf f = ltb (length f) (headerLength + 1) || not (same (take 4 f) fileMark)
 unfoldable pub otherRevision : List ℕ → Bool
 otherRevision f = not (eqb (getD f 4 0) revision)
 
--- from each offset to the next: never falling, and at most 65,535 bytes
+-- from an offset to the next: never falling, and at most 65,535 bytes
+abbrev pub step : (at next : ℕ) → Bool
+step at next = leb at next && leb (next - at) longestConfiguration
+
 unfoldable pub steps : ℕ → List Definition → Bool
 steps at [] = true
-steps at (d ∷ ds) = leb at (d .offset) && leb (d .offset - at) longestConfiguration && steps (d .offset) ds
+steps at (d ∷ ds) = step at (d .offset) && steps (d .offset) ds
 
 -- "the first offset is the end of the definitions; offsets never fall"
 unfoldable pub offsetsLegal : (end : ℕ) → List Definition → Bool
@@ -91,12 +94,14 @@ lastOffset at (d ∷ ds) = lastOffset (d .offset) ds
 unfoldable pub badSections : List ℕ → Bool
 badSections f = isBad (readDefinitions f) || not (offsetsLegal (headerLength + taken (readDefinitions f)) (definedIn f))
 
+-- its offset is before the last configuration's or more than 65,535 after it
+abbrev pub farSystem : List ℕ → Bool
+farSystem f = ltb (systemOffset f) (lastOffset 0 (definedIn f)) || ltb (lastOffset 0 (definedIn f) + longestConfiguration) (systemOffset f)
+
 -- 4 "its offset is before the last configuration's or more than 65,535 after it, or the table is malformed or runs past the end"
 unfoldable pub badSystem : List ℕ → Bool
 badSystem f =
-    ltb (systemOffset f) (lastOffset 0 (definedIn f))
-    || ltb (lastOffset 0 (definedIn f) + longestConfiguration) (systemOffset f)
-    || isBad (readSystem f)
+    farSystem f || isBad (readSystem f)
 
 -- 5 "index or user offset is zero, past the file's length, or user offset over its limit"
 unfoldable pub notClosed : List ℕ → Bool
@@ -130,6 +135,42 @@ openingLines f = frontLines f ++ (line 5 (notClosed f) ∷ line 6 (badIndex f) �
 -- "opening tests 1 to 7 in number order": the first number whose line holds, 0 where the file opens
 unfoldable pub refusal : List ℕ → ℕ
 refusal f = firstOf (openingLines f)
+
+-- ── Where the fault is ──
+
+-- the first offset's field, and the offset
+unfoldable pub firstOffsetPlace : List ℕ → ℕ
+firstOffsetPlace f = headerLength + 1 + taken (sectionName (drop (headerLength + 1) f))
+
+unfoldable pub firstOffset : List ℕ → ℕ
+firstOffset f = field (firstOffsetPlace f) 8 f
+
+-- the definitions' end, and whether the first offset is not there: known where all can be read, whatever their names
+unfoldable pub firstOffsetWrong : List ℕ → Bool
+firstOffsetWrong f =
+    elim ((numberOfSections then λ k. times k definition) (drop headerLength f)) [ bad m ↦ false | good ds n ↦ not (eqb (firstOffset f) (headerLength + n)) ]
+
+-- an offset behind another
+unfoldable pub offsetBehind : (at : ℕ) → Reader ℕ
+offsetBehind at = only (step at) (number 8)
+
+-- 3: the first offset's field; else the first of a string that fails, bytes that run out, a name used twice, an offset that breaks its rule
+unfoldable pub sectionsFault : List ℕ → ℕ
+sectionsFault f =
+    cond (firstOffsetWrong f) (firstOffsetPlace f)
+    (headerLength + countedFault numberOfSections sectionName offsetBehind (firstOffset f) (drop headerLength f))
+
+-- 4: the header's field, or in the table
+unfoldable pub systemFault : List ℕ → ℕ
+systemFault f = cond (farSystem f) systemPlace (systemOffset f + faultOf (readSystem f))
+
+-- 7
+unfoldable pub userFault : List ℕ → ℕ
+userFault f = userOffset f + faultOf (readUser f)
+
+-- the place that goes with opening's answer; 0 where its number has none
+unfoldable pub openingPlace : (refused : ℕ) → List ℕ → ℕ
+openingPlace n f = cond (eqb n 3) (sectionsFault f) (cond (eqb n 4) (systemFault f) (cond (eqb n 7) (userFault f) 0))
 
 -- ── What a file that opens shows ──
 

@@ -7,7 +7,7 @@ use lib.Seq.{sets}
 use lib.Dec.{leb, ltb, eqb}
 use Rattle.number.specs.Number.{bytesOf}
 use Rattle.layout.specs.Recording.{Section, countPlace, indexPlace, userPlace, mostSections, mostFrames, largestTable, within, every, distinct, legalSectionName, sectionNames, follows, frontBytes, frameHeadBytes, entryBytes, indexLength, tableBytes}
-use Rattle.layout.specs.Reading.{Reader, _then_, give, exactly, times, number, block, string, sized, table, isBad, valueOr}
+use Rattle.layout.specs.Reading.{Reader, _then_, give, exactly, times, number, block, string, sectionName, numberOfSections, keeping, countedFault, sized, table, isBad, valueOr, faultOf}
 use Rattle.layout.specs.Opening.{Line, line, firstOf}
 
 -- ── The state ──
@@ -99,9 +99,12 @@ noRoom room piece = ltb room piece
 
 -- ── To begin: 12, 10, 3, 4, 9 ──
 
+unfoldable pub configured : Reader (List ℕ)
+configured = number 2 then block
+
 -- "per section a name, a UInt16 configuration length, the configuration"
 unfoldable pub setUpSection : Reader Section
-setUpSection = string then λ n. (number 2 then block) then λ c. give (record { name = n; configuration = c })
+setUpSection = string then λ n. configured then λ c. give (record { name = n; configuration = c })
 
 -- a set-up list, whatever its count and names
 unfoldable pub setUpList : Reader (List Section)
@@ -139,6 +142,13 @@ beginLines st setUp system notes room =
     ∷ line 4 (badSystemGiven system)
     ∷ line 9 (noRoom room (length (firstPiece setUp system)) || noRoom (length notes) 4)
     ∷ []
+
+-- the place of the refusal: 10 and 3 in the set-up list, 4 in the table; else 0
+unfoldable pub beginPlace : (refused : ℕ) → (setUp system : List ℕ) → ℕ
+beginPlace n setUp system =
+    cond (eqb n 10) (faultOf (exactly setUpList setUp))
+    (cond (eqb n 3) (countedFault numberOfSections sectionName (keeping configured) 0 setUp)
+    (cond (eqb n 4) (faultOf (exactly table system)) 0))
 
 unfoldable pub begun : (setUp system : List ℕ) → State
 begun setUp system =

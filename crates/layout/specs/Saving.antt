@@ -4,9 +4,9 @@ use mathlib.Core.Bool.{Bool, true, false, not, _||_, cond}
 use mathlib.Core.List.{List, [], _∷_, _++_, map, flatMap}
 use lib.ListN.{length}
 use lib.Dec.{ltb, eqb}
-use Rattle.layout.specs.Recording.{Tag, mostTags, shortString, within, same, among, distinct, legalTagName, legalTagValue, tagNames, tableBytes}
-use Rattle.layout.specs.Reading.{Reader, bad, _then_, only, give, exactly, times, number, string, isBad, valueOr}
-use Rattle.layout.specs.Opening.{Line, line, firstOf, openingLines, shown}
+use Rattle.layout.specs.Recording.{Tag, mostTags, shortString, within, same, among, distinct, tagNames, tableBytes}
+use Rattle.layout.specs.Reading.{Reader, bad, _then_, only, placed, give, exactly, times, number, tagName, tagValue, keeping, countedFault, isBad, valueOr, faultOf}
+use Rattle.layout.specs.Opening.{Line, line, firstOf, openingLines, openingPlace, shown}
 use Rattle.layout.specs.Recorder.{noRoom}
 
 -- ── Sheets ──
@@ -29,11 +29,8 @@ pub record Change : Type 0 where
 abbrev pub mostChanges : ℕ
 mostChanges = 64
 
-unfoldable pub tagValue : Reader (List ℕ)
-tagValue = only legalTagValue string
-
 unfoldable pub malformed : {A : Type 0} → Reader A
-malformed s = bad
+malformed s = bad 0
 
 -- what a kind byte asks for
 unfoldable pub entryOf : (kind : ℕ) → Reader Entry
@@ -42,16 +39,30 @@ entryOf kind = cond (eqb kind 0) (give absent) (cond (eqb kind 1) (tagValue then
 unfoldable pub seenOf : (kind : ℕ) → Reader Seen
 seenOf kind = cond (eqb kind 2) (give nobodyLooked) (entryOf kind then λ e. give (saw e))
 
+-- a kind byte
+unfoldable pub kind : (most : ℕ) → Reader ℕ
+kind most = only (within 0 most) (number 1)
+
+unfoldable pub seenPart : Reader Seen
+seenPart = kind 2 then seenOf
+
+unfoldable pub newPart : Reader Entry
+newPart = kind 1 then entryOf
+
 unfoldable pub change : Reader Change
-change =
-    only legalTagName string then λ n. (number 1 then seenOf) then λ s. (number 1 then entryOf) then λ e.
-    give (record { name = n; seen = s; new = e })
+change = tagName then λ n. seenPart then λ s. newPart then λ e. give (record { name = n; seen = s; new = e })
 
 unfoldable pub changeNames : List Change → List (List ℕ)
 changeNames = map (λ c. c .name)
 
+unfoldable pub numberOfChanges : Reader ℕ
+numberOfChanges = only (within 0 mostChanges) (number 1)
+
+unfoldable pub sheetFault : List ℕ → ℕ
+sheetFault = countedFault numberOfChanges tagName (keeping (seenPart then λ s. newPart)) 0
+
 unfoldable pub sheet : Reader (List Change)
-sheet = only (λ cs. distinct (changeNames cs)) (only (within 0 mostChanges) (number 1) then λ n. times n change)
+sheet = placed sheetFault (only (λ cs. distinct (changeNames cs)) (numberOfChanges then λ n. times n change))
 
 unfoldable pub changesOf : List ℕ → List Change
 changesOf bytes = valueOr [] (exactly sheet bytes)
@@ -153,10 +164,15 @@ saveLines f bytes room =
     ∷ line 9 (noRoom room (length (tableBytes (newTable f bytes))))
     ∷ [])
 
+-- the place of the refusal: 10's "the first fault", 11's "the lowest such place", and those of opening; else 0
+unfoldable pub savePlace : (refused : ℕ) → (f sheet : List ℕ) → ℕ
+savePlace n f bytes =
+    cond (eqb n 10) (faultOf (exactly sheet bytes)) (cond (eqb n 11) (conflictPlace (userTags f) (changesOf bytes)) (openingPlace n f))
+
 unfoldable pub saveRefusal : (f sheet : List ℕ) → (room : ℕ) → ℕ
 saveRefusal f bytes room = firstOf (saveLines f bytes room)
 
--- the refusal number, 0 for none; 11's place; and the new user table in file form
+-- the refusal number, 0 for none; its place; and the new user table in file form
 pub record Save : Type 0 where
   pub refused : ℕ
   pub place : ℕ
@@ -164,7 +180,7 @@ pub record Save : Type 0 where
 
 unfoldable pub saveAnswer : (refused place : ℕ) → List Tag → Save
 saveAnswer zero place ts = record { refused = 0; place = 0; table = tableBytes ts }
-saveAnswer (suc n) place ts = record { refused = suc n; place = cond (eqb (suc n) 11) place 0; table = [] }
+saveAnswer (suc n) place ts = record { refused = suc n; place = place; table = [] }
 
 unfoldable pub save : (f sheet : List ℕ) → (room : ℕ) → Save
-save f bytes room = saveAnswer (saveRefusal f bytes room) (conflictPlace (userTags f) (changesOf bytes)) (newTable f bytes)
+save f bytes room = saveAnswer (saveRefusal f bytes room) (savePlace (saveRefusal f bytes room) f bytes) (newTable f bytes)

@@ -44,7 +44,7 @@ name-same a b here len there other r h k e f =
 -- ── The first row with a name ──
 
 module _ (name : List ℕ) (k : Row) (s : List ℕ) (i at : ℕ) where
-  found-bad : (left : ℕ) → 0 < left → rowName k (drop at s) ≡ bad → found name left (rowName k) s i at ≡ Nothing
+  found-bad : (left : ℕ) {m : ℕ} → 0 < left → rowName k (drop at s) ≡ bad m → found name left (rowName k) s i at ≡ Nothing
   unfolding found
   found-bad zero h e = absurd (omega arith)
   found-bad (suc left) h e = rw (e, found)
@@ -64,7 +64,7 @@ module _ (name : List ℕ) (k : Row) (s : List ℕ) (i at : ℕ) where
 
   pub found-broken : (left : ℕ) (all : NameFound) (r : RowPlace) → 0 < left → r ≡ rowOf at (rowName k (drop at s)) → r ≡ rowPlace.Broken
       → found name left (rowName k) s i at ≡ all → Nothing ≡ all
-  found-broken left all r h e f g = sym (found-bad left h (row-broken (rowName k (drop at s)) at (sym e ∙ f))) ∙ g
+  found-broken left all r h e f g = sym (found-bad left h (row-broken (rowName k (drop at s)) at (sym e ∙ f) .1)) ∙ g
 
   pub found-hit : (left len end : ℕ) (all : NameFound) (r : RowPlace) (q : Bool) → 0 < left → r ≡ rowOf at (rowName k (drop at s))
       → r ≡ rowPlace.Whole len end → q ≡ same name (take len (drop (at + 1) s)) → q ≡ true → found name left (rowName k) s i at ≡ all
@@ -123,14 +123,14 @@ among-found name (suc n) p s i at = go (p (drop at s)) (among-found name n p s (
     pick false rest f e = e
 
     go : (r : Parsed (List ℕ)) → ((next : ℕ) → among name (names n p (drop next s)) ≡ isFound (found name n p s (i + 1) next))
-        → among name (elim r [ bad ↦ [] | good v m ↦ v ∷ names n p (drop m (drop at s)) ]) ≡ isFound
-        (elim r [ bad ↦ Nothing | good v m ↦ cond (same name v) (At i at) (found name n p s (i + 1) (at + m)) ])
-    go bad ih = refl
+        → among name (elim r [ bad j ↦ [] | good v m ↦ v ∷ names n p (drop m (drop at s)) ]) ≡ isFound
+        (elim r [ bad j ↦ Nothing | good v m ↦ cond (same name v) (At i at) (found name n p s (i + 1) (at + m)) ])
+    go (bad j) ih = refl
     go (good v m) ih =
         pick (same name v) (among name (names n p (drop m (drop at s)))) (found name n p s (i + 1) (at + m)) (rw (drop-drop m at s) (ih (at + m)))
 
 module _ (k : Row) (s : List ℕ) (at : ℕ) where
-  pub names-bad : (left : ℕ) → 0 < left → rowName k (drop at s) ≡ bad → names left (rowName k) (drop at s) ≡ []
+  pub names-bad : (left : ℕ) {m : ℕ} → 0 < left → rowName k (drop at s) ≡ bad m → names left (rowName k) (drop at s) ≡ []
   unfolding names
   names-bad zero h e = absurd (omega arith)
   names-bad (suc left) h e = rw (e, names)
@@ -151,7 +151,7 @@ module _ (k : Row) (s : List ℕ) (at : ℕ) where
   pub distinct-broken : (left : ℕ) (all : Bool) (r : RowPlace) → 0 < left → r ≡ rowOf at (rowName k (drop at s)) → r ≡ rowPlace.Broken
       → distinct (names left (rowName k) (drop at s)) ≡ all → true ≡ all
   unfolding distinct
-  distinct-broken left all r h e f g = rw (names-bad left h (row-broken (rowName k (drop at s)) at (sym e ∙ f))) at g
+  distinct-broken left all r h e f g = rw (names-bad left h (row-broken (rowName k (drop at s)) at (sym e ∙ f) .1)) at g
 
   -- what finding a row's name among the later ones says
   distinct-good : (left len end : ℕ) (r : RowPlace) (f : NameFound) → 0 < left → r ≡ rowOf at (rowName k (drop at s)) → r ≡ rowPlace.Whole len end

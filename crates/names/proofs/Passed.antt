@@ -101,7 +101,7 @@ module _ (s : List ℕ) (k : Row) (at passed place left n : ℕ) where
       rw (
         ← e,
         h .rows left,
-        names-bad k s place left l (row-broken (rowName k (drop place s)) place (sym f ∙ g)),
+        names-bad k s place left l (row-broken (rowName k (drop place s)) place (sym f ∙ g) .1),
         append-nil (names passed (rowName k) (drop at s)),
       ) (sym (h .differ))
 

@@ -9,11 +9,12 @@ use lib.ListN.{length, take, drop}
 use lib.Dec.{leb, eqb}
 use borrow.Author.Tests.{eqb-true}
 use Rattle.number.specs.Number.{numberOf}
-use Rattle.layout.specs.Recording.{Section, Tag, distinct, tagNames, sectionNames, legalSectionName, legalTagName, legalTagValue}
-use Rattle.layout.specs.Reading.{Reader, bad, good, _then_, only, times, give, number, block, string, Definition, definition, definedNames, tag}
-use Rattle.layout.specs.Recorder.{setUpSection}
-use Rattle.layout.specs.Saving.{Change, Seen, Entry, nobodyLooked, absent, saw, holds, change, changeNames, entryOf, seenOf, tagValue, malformed}
+use Rattle.layout.specs.Recording.{Section, Tag, within, distinct, tagNames, sectionNames}
+use Rattle.layout.specs.Reading.{Reader, bad, good, _then_, times, give, number, block, string, sectionName, tagName, tagValue, Definition, definition, definedNames, tag}
+use Rattle.layout.specs.Recorder.{configured, setUpSection}
+use Rattle.layout.specs.Saving.{Change, Seen, Entry, nobodyLooked, absent, saw, holds, change, changeNames, entryOf, seenOf, kind, seenPart, newPart, malformed}
 use Rattle.layout.proofs.Readers.{then-takes}
+use Rattle.strings.proofs.Named.{section-keeps, name-keeps, value-keeps}
 use Rattle.rows.specs.Rows.{entry, rest, rowName}
 use Rattle.names.specs.Names.{names, distinctNames}
 use Rattle.rows.specs.declared.Row.{Row}
@@ -42,34 +43,31 @@ named-row k p q make ps leads name nm t y m e =
     row-of k t v r n j (ps t v n f) l
     ∙ ap (λ (w : List ℕ). good w (n + j)) (sym (ap name o ∙ nm v x)) ∙ ap (good (name y)) (sym h)))
 
-legal-string : (ok : List ℕ → Bool) (t v : List ℕ) (n : ℕ) → only ok string t ≡ good v n → string t ≡ good v n
-legal-string ok t v n e = only-parts ok string t v n e .0
-
 pub tag-row : (t : List ℕ) (x : Tag) (n : ℕ) → tag t ≡ good x n → rowName row.Tag t ≡ good (x .name) n
 unfolding tag rest
 tag-row =
-    named-row row.Tag (only legalTagName string) (only legalTagValue string) (λ n v. record { name = n; value = v }) (legal-string legalTagName)
-    (λ t x n e. (x, legal-string legalTagValue t x n e)) (λ t. t .name) (λ v x. refl)
+    named-row row.Tag tagName tagValue (λ n v. record { name = n; value = v }) (name-keeps .text)
+    (λ t x n e. (x, value-keeps .text t x n e)) (λ t. t .name) (λ v x. refl)
 
 -- a number takes as many bytes as a block of its width
 number-block : (w : ℕ) (t : List ℕ) (x n : ℕ) → number w t ≡ good x n → block w t ≡ good (take w t) n
 unfolding number block
 number-block w t x n e = go (leb w (length t)) e
   where
-    go : (b : Bool) → cond b (good (numberOf (take w t)) w) bad ≡ good x n → cond b (good (take w t) w) bad ≡ good (take w t) n
+    go : (b : Bool) → cond b (good (numberOf (take w t)) w) (bad 0) ≡ good x n → cond b (good (take w t) w) (bad 0) ≡ good (take w t) n
     go true h = let j : w ≡ n = cc in ap (good (take w t)) j
     go false h = let z : _≡_ {A = ℕ} 0 1 = cc in absurd (omega arith)
 
 pub definition-row : (t : List ℕ) (x : Definition) (n : ℕ) → definition t ≡ good x n → rowName row.Definition t ≡ good (x .name) n
 unfolding definition rest
 definition-row =
-    named-row row.Definition (only legalSectionName string) (number 8) (λ n at. record { name = n; offset = at }) (legal-string legalSectionName)
+    named-row row.Definition sectionName (number 8) (λ n at. record { name = n; offset = at }) (section-keeps .text)
     (λ t x n e. (take 8 t, number-block 8 t x n e)) (λ d. d .name) (λ v x. refl)
 
 pub set-up-row : (t : List ℕ) (x : Section) (n : ℕ) → setUpSection t ≡ good x n → rowName row.SetUp t ≡ good (x .name) n
-unfolding setUpSection rest
+unfolding setUpSection configured rest
 set-up-row =
-    named-row row.SetUp string (number 2 then block) (λ n c. record { name = n; configuration = c }) (λ t v n e. e)
+    named-row row.SetUp string configured (λ n c. record { name = n; configuration = c }) (λ t v n e. e)
     (λ t x n e. (x, e)) (λ s. s .name) (λ v x. refl)
 
 -- the value of an entry, or none, by its kind
@@ -81,14 +79,14 @@ unfolding entryValue give
 no-value kind m t e z = ([], rw (e, z))
 
 pub entry-leads : (kind m : ℕ) (t : List ℕ) (x : Entry) → entryOf kind t ≡ good x m → (r : List ℕ) × (entryValue kind t ≡ good r m)
-unfolding entryOf entryValue malformed give tagValue
+unfolding entryOf entryValue malformed give
 entry-leads kind m t x e = go (eqb kind 0) (eqb kind 1) refl refl e
   where
     go : (a b : Bool) → eqb kind 0 ≡ a → eqb kind 1 ≡ b → cond a (give absent) (cond b (tagValue then λ v. give (holds v)) malformed) t ≡ good x m
         → (r : List ℕ) × (entryValue kind t ≡ good r m)
     go true true p q h = let z : _≡_ {A = ℕ} 0 1 = sym (eqb-true kind 0 p) ∙ eqb-true kind 1 q in absurd (omega arith)
     go true false p q h = no-value kind m t q cc
-    go false true p q h = give-parts tagValue holds t x m h (λ v i o. (v, rw q (only-parts legalTagValue string t v m i .0)))
+    go false true p q h = give-parts tagValue holds t x m h (λ v i o. (v, rw q (value-keeps .text t v m i)))
     go false false p q h = let z : _≡_ {A = ℕ} 0 1 = cc in absurd (omega arith)
 
 pub seen-leads : (kind m : ℕ) (t : List ℕ) (x : Seen) → seenOf kind t ≡ good x m → (r : List ℕ) × (entryValue kind t ≡ good r m)
@@ -102,25 +100,25 @@ seen-leads kind m t x e = go (eqb kind 2) (eqb kind 1) refl refl e
     go false b p q h = give-parts (entryOf kind) saw t x m h (λ en i o. entry-leads kind m t en i)
 
 pub kind-leads : {A : Type 0} (q : ℕ → Reader A) → ((kind m : ℕ) (t : List ℕ) (x : A) → q kind t ≡ good x m
-    → (r : List ℕ) × (entryValue kind t ≡ good r m)) → (t : List ℕ) (x : A) (m : ℕ) → (number 1 then q) t ≡ good x m
+    → (r : List ℕ) × (entryValue kind t ≡ good r m)) → (most : ℕ) (t : List ℕ) (x : A) (m : ℕ) → (kind most then q) t ≡ good x m
     → (r : List ℕ) × (entry t ≡ good r m)
-unfolding entry entryValue
-kind-leads q leads t x m e =
-    then-parts (number 1) q t x m e (λ kind n k f g h.
-    let (r, l) = leads kind k (drop n t) x g in
-    (r, then-takes (number 1) (λ kind. cond (eqb kind 1) string (give [])) t kind r n k f l ∙ ap (good r) (sym h)))
+unfolding entry entryValue kind
+kind-leads q leads most t x m e =
+    then-parts (kind most) q t x m e (λ j n k f g h.
+    let (r, l) = leads j k (drop n t) x g in
+    (r, then-takes (number 1) (λ i. cond (eqb i 1) string (give [])) t j r n k (only-parts (within 0 most) (number 1) t j n f .0) l ∙ ap (good r) (sym h)))
 
 pub change-row : (t : List ℕ) (x : Change) (n : ℕ) → change t ≡ good x n → rowName row.Change t ≡ good (x .name) n
-unfolding change rest
+unfolding change seenPart newPart rest
 change-row t x n e =
-    then-parts (only legalTagName string) (λ name. (number 1 then seenOf) then λ s. (number 1 then entryOf) then λ e. give
+    then-parts tagName (λ name. seenPart then λ s. newPart then λ e. give
     (record { name = name; seen = s; new = e })) t x n e (λ v a b f g h.
-    then-parts (number 1 then seenOf) (λ s. (number 1 then entryOf) then λ e. give (record { name = v; seen = s; new = e })) (drop a t) x b g
+    then-parts seenPart (λ s. newPart then λ e. give (record { name = v; seen = s; new = e })) (drop a t) x b g
     (λ s c d i j k.
-    give-parts (number 1 then entryOf) (λ e. record { name = v; seen = s; new = e }) (drop c (drop a t)) x d j (λ en l o.
-    let (y, p) = kind-leads seenOf seen-leads (drop a t) s c i in
-    let (z, q) = kind-leads entryOf entry-leads (drop c (drop a t)) en d l in
-    row-of row.Change t v z a (c + d) (legal-string legalTagName t v a f) (then-takes entry (λ seen. entry) (drop a t) y z c d p q)
+    give-parts newPart (λ e. record { name = v; seen = s; new = e }) (drop c (drop a t)) x d j (λ en l o.
+    let (y, p) = kind-leads seenOf seen-leads 2 (drop a t) s c i in
+    let (z, q) = kind-leads entryOf entry-leads 1 (drop c (drop a t)) en d l in
+    row-of row.Change t v z a (c + d) (name-keeps .text t v a f) (then-takes entry (λ seen. entry) (drop a t) y z c d p q)
     ∙ ap (λ (w : List ℕ). good w (a + (c + d))) (sym (ap (λ (u : Change). u .name) o)) ∙ ap (good (x .name)) (omega arith))))
 
 -- ── Rows that were read ──

@@ -15,13 +15,13 @@ use Rattle.rows.specs.Rows.{rowName}
 -- the names of n rows, up to the first that is broken
 unfoldable pub names : ℕ → Reader (List ℕ) → List ℕ → List (List ℕ)
 names zero p s = []
-names (suc n) p s = elim (p s) [ bad ↦ [] | good name m ↦ name ∷ names n p (drop m s) ]
+names (suc n) p s = elim (p s) [ bad j ↦ [] | good name m ↦ name ∷ names n p (drop m s) ]
 
 -- the first of n rows with a name, the first of them having a number and a place
 unfoldable pub found : (name : List ℕ) → (n : ℕ) → Reader (List ℕ) → (s : List ℕ) → (number at : ℕ) → NameFound
 found name zero p s i at = Nothing
 found name (suc n) p s i at =
-    elim (p (drop at s)) [ bad ↦ Nothing | good other m ↦ cond (same name other) (At i at) (found name n p s (i + 1) (at + m)) ]
+    elim (p (drop at s)) [ bad j ↦ Nothing | good other m ↦ cond (same name other) (At i at) (found name n p s (i + 1) (at + m)) ]
 
 -- the first of n rows of s with the name that stands in `a`; nothing where the name is not all there
 unfoldable pub findName : (a : List ℕ) → (here len : ℕ) → (s : List ℕ) → (at n : ℕ) → Row → NameFound

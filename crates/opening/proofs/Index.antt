@@ -182,7 +182,7 @@ frames-elsewhere f k index first left at entry last all z e q =
 frames-fewer : (f : List ℕ) (k index first left at entry last : ℕ) → 0 < left → frameEnd f at k ≡ Broken
     → otherFrames f k index first left at entry last ≡ true
 unfolding otherFrames otherWalk stopped
-frames-fewer f k index first left at entry last h p = rw (walk-stop left k (drop at f) (not-ended f at k p), lt-ltb 0 left h)
+frames-fewer f k index first left at entry last h p = rw (walk-stop left k (drop at f) (rw (not-ended f at k p .1)), lt-ltb 0 left h)
 
 -- what is asked of a frame from `at` to `next`, and of the walk behind it
 abbrev asked : Walk → List ℕ → (index first left at entry last next time size : ℕ) → Bool

@@ -14,8 +14,8 @@ use mir.Syntax.{w8}
 use mir.Val.{Fits}
 use Rattle.number.proofs.Bytes.{slice-bytes}
 use Rattle.layout.specs.Recording.{Tag, largestUserOffset, inOrder, same, indexBytes}
-use Rattle.layout.specs.Reading.{bad, good, valueOr, exactly, onward, table, Definition}
-use Rattle.layout.specs.Opening.{Line, line, firstOf, headerCount, indexOffset, systemOffset, userOffset, definedIn, readUser, walkStart, walkOf, counted, notFstf, notClosed, badIndex, badUser, frontLines, openingLines, refusal, sectionsFrom, shown}
+use Rattle.layout.specs.Reading.{bad, good, valueOr, faultOf, exactly, onward, table, Definition}
+use Rattle.layout.specs.Opening.{Line, line, firstOf, headerCount, indexOffset, systemOffset, userOffset, definedIn, readUser, walkStart, walkOf, counted, notFstf, notClosed, badIndex, badUser, userFault, openingPlace, frontLines, openingLines, refusal, sectionsFrom, shown}
 use Rattle.layout.proofs.Lists.{bytes-drop}
 use Rattle.layout.proofs.Lines.{line-pass, line-holds, FrontPasses, front-pass, passes-opens, lines-first}
 use Rattle.layout.proofs.Walks.{walk-gives}
@@ -23,7 +23,7 @@ use Rattle.tables.specs.Tables.{tablePlaceOf}
 use Rattle.tables.specs.declared.TablePlace.{TablePlace}
 use Rattle.tables.specs.declared.TablePlace.the-variants as tableAs
 use Rattle.front.proofs.Fronts.{header-is, table-found, table-none}
-use Rattle.refusal.specs.Refusal.{plain}
+use Rattle.refusal.specs.Refusal.{placed, plain}
 use Rattle.refusal.specs.declared.Refusal.{Refusal}
 use Rattle.opening.specs.Opened.{notClosedBy, badIndexIn, badIndexBy, heldOf, openBy, openOf, openRefusal}
 use Rattle.front.specs.Front.{frontHeld, frontOf, frontRefusal}
@@ -39,7 +39,7 @@ use Rattle.front.proofs.Passed.{front-passes, front-refuses, start-within, few-
 
 -- ── What the front's answer says ──
 
-open-number : (f : List ℕ) (n : ℕ) → refusal f ≡ suc n → openingAs.Refused (plain (suc n)) ≡ openOf f
+open-number : (f : List ℕ) (n : ℕ) → refusal f ≡ suc n → openingAs.Refused (placed (suc n) (openingPlace (suc n) f)) ≡ openOf f
 unfolding openOf openBy
 open-number f n e = rw e
 
@@ -48,7 +48,7 @@ pub open-front-refused : (f : List ℕ) (r : Front) (n m : Refusal) → r ≡ fr
 unfolding refusal openingLines
 open-front-refused f r n m p q s = go (front-refuses f n (sym p ∙ q)) (s ∙ ap frontRefusal q)
   where
-    go : ((j : ℕ) × (n ≡ plain (suc j)) × (firstOf (frontLines f) ≡ suc j)) → m ≡ n → openingAs.Refused m ≡ openOf f
+    go : ((j : ℕ) × (n ≡ placed (suc j) (openingPlace (suc j) f)) × (firstOf (frontLines f) ≡ suc j)) → m ≡ n → openingAs.Refused m ≡ openOf f
     go (j, k, e) l = rw (l, k) (open-number f j (lines-first (frontLines f) _ j e))
 
 -- ── The tests behind the front ──
@@ -63,14 +63,14 @@ unfolding badIndexBy badIndexIn badIndex counted walkOf
 index-is f e = rw (header-is f e)
 
 -- the user table, by where the table at its offset ends
-user-none : (f : List ℕ) → table (drop (userOffset f) f) ≡ bad → badUser f ≡ true
-unfolding badUser readUser exactly onward
-user-none f e = rw e
+user-none : (f : List ℕ) (m : ℕ) → table (drop (userOffset f) f) ≡ bad m → (badUser f ≡ true) × (userFault f ≡ userOffset f + m)
+unfolding badUser userFault readUser exactly onward faultOf
+user-none f m e = rw e (refl, refl)
 
 user-long : (f : List ℕ) (ts : List Tag) (m : ℕ) → userOffset f ≤ length f → table (drop (userOffset f) f) ≡ good ts m
-    → (userOffset f + m ≡ length f → ⊥) → badUser f ≡ true
-unfolding badUser readUser exactly onward
-user-long f ts m l e u = rw (e, ne-eqb m (length (drop (userOffset f) f)) (λ q. u (omega (arith, length-drop (userOffset f) f))))
+    → (userOffset f + m ≡ length f → ⊥) → (badUser f ≡ true) × (userFault f ≡ userOffset f + m)
+unfolding badUser userFault readUser exactly onward faultOf
+user-long f ts m l e u = rw (e, ne-eqb m (length (drop (userOffset f) f)) (λ q. u (omega (arith, length-drop (userOffset f) f)))) (refl, refl)
 
 user-read : (f : List ℕ) (ts : List Tag) (m : ℕ) → table (drop (userOffset f) f) ≡ good ts m → userOffset f + m ≡ length f → readUser f ≡ good ts m
 unfolding readUser exactly onward
@@ -123,7 +123,7 @@ module _ (f : List ℕ) (r : Front) (held : FrontHeld) (h : Header) (p : r ≡ f
   held-start b = rw held-is (start-within f (slice-bytes f b) (passes .system))
 
   pub open-not-closed : (b : Bool) → b ≡ notClosedBy f h → b ≡ true → openingAs.Refused (plain 5) ≡ openOf f
-  unfolding refusal openingLines
+  unfolding refusal openingLines openingPlace
   open-not-closed b t u = open-number f 4 (front-pass f _ passes
       ∙ line-holds 5 (notClosed f) _ (sym (closed-is f (passes .mark)) ∙ sym (ap (notClosedBy f) s) ∙ sym t ∙ u))
 
@@ -148,32 +148,36 @@ module _ (f : List ℕ) (r : Front) (held : FrontHeld) (h : Header) (p : r ≡ f
     index-of = rw (held-is, s) (index-is f (passes .mark))
 
     pub open-bad-index : (c : Bool) → c ≡ badIndexBy f h (held .sections) (held .start) → c ≡ true → openingAs.Refused (plain 6) ≡ openOf f
-    unfolding refusal openingLines
+    unfolding refusal openingLines openingPlace
     open-bad-index c v w = open-number f 5 (behind _ ∙ line-holds 6 (badIndex f) _ (sym index-of ∙ sym v ∙ w))
 
     module _ (c : Bool) (v : c ≡ badIndexBy f h (held .sections) (held .start)) (w : c ≡ false) where
       index-right : badIndex f ≡ false
       index-right = sym index-of ∙ sym v ∙ w
 
-      refused-7 : badUser f ≡ true → openingAs.Refused (plain 7) ≡ openOf f
-      unfolding refusal openingLines
-      refused-7 e = open-number f 6 (behind _ ∙ line-pass 6 (badIndex f) _ index-right ∙ line-holds 7 (badUser f) _ e)
+      refused-7 : (k : ℕ) (d : Refusal) → badUser f ≡ true → userFault f ≡ k → d ≡ placed 7 k → openingAs.Refused d ≡ openOf f
+      unfolding refusal openingLines openingPlace
+      refused-7 k d e i o = ap openingAs.Refused (o ∙ ap (placed 7) (sym i))
+          ∙ open-number f 6 (behind _ ∙ line-pass 6 (badIndex f) _ index-right ∙ line-holds 7 (badUser f) _ e)
 
       table-of : (t : TablePlace) → t ≡ tablePlaceOf (h .user) (table (drop (h .user) f))
           → t ≡ tablePlaceOf (userOffset f) (table (drop (userOffset f) f))
       table-of t e = e ∙ ap (λ (at : ℕ). tablePlaceOf at (table (drop at f))) (ap (λ (x : Header). x .user) header)
 
-      pub open-bad-user : (t : TablePlace) → t ≡ tablePlaceOf (h .user) (table (drop (h .user) f)) → t ≡ tableAs.Broken
-          → openingAs.Refused (plain 7) ≡ openOf f
-      open-bad-user t e g = refused-7 (user-none f (table-none f (userOffset f) (sym (table-of t e) ∙ g)))
+      pub open-bad-user : (t : TablePlace) (k : ℕ) (d : Refusal) → t ≡ tablePlaceOf (h .user) (table (drop (h .user) f)) → t ≡ tableAs.Broken k
+          → d ≡ placed 7 k → openingAs.Refused d ≡ openOf f
+      open-bad-user t k d e g o =
+          let (m, a, i) = table-none f (userOffset f) k (sym (table-of t e) ∙ g) in
+          let (b, j) = user-none f m a in
+          refused-7 k d b (j ∙ i) o
 
-      pub open-long-user : (t : TablePlace) (tags end : ℕ) → t ≡ tablePlaceOf (h .user) (table (drop (h .user) f)) → t ≡ tableAs.Whole tags end
-          → (end ≡ length f → ⊥) → openingAs.Refused (plain 7) ≡ openOf f
-      open-long-user t tags end e g x = go (table-found f (userOffset f) tags end (sym (table-of t e) ∙ g))
+      pub open-long-user : (t : TablePlace) (tags end : ℕ) (d : Refusal) → t ≡ tablePlaceOf (h .user) (table (drop (h .user) f))
+          → t ≡ tableAs.Whole tags end → (end ≡ length f → ⊥) → d ≡ placed 7 end → openingAs.Refused d ≡ openOf f
+      open-long-user t tags end d e g x o = go (table-found f (userOffset f) tags end (sym (table-of t e) ∙ g))
         where
           go : ((ts : List Tag) × (m : ℕ) × (table (drop (userOffset f) f) ≡ good ts m) × (length ts ≡ tags) × (userOffset f + m ≡ end))
-              → openingAs.Refused (plain 7) ≡ openOf f
-          go (ts, m, a, i, j) = refused-7 (user-long f ts m user-there a (λ k. x (sym j ∙ k)))
+              → openingAs.Refused d ≡ openOf f
+          go (ts, m, a, i, j) = let (b, k) = user-long f ts m user-there a (λ k. x (sym j ∙ k)) in refused-7 end d b (k ∙ j) o
 
       pub opened : (t : TablePlace) (tags end : ℕ) → ((i : ℕ) → Fits w8 (getD f i 0)) → t ≡ tablePlaceOf (h .user) (table (drop (h .user) f))
           → t ≡ tableAs.Whole tags end → end ≡ length f → openingAs.Opened
@@ -212,15 +216,17 @@ pub open-opens : (f : List ℕ) (held : Held) → openOf f ≡ openingAs.Opened 
 unfolding openOf openBy
 open-opens f held e = go (refusal f) e
   where
-    go : (n : ℕ) → openBy n (heldOf f) ≡ openingAs.Opened held → (n ≡ 0) × (held ≡ heldOf f)
+    go : (n : ℕ) → openBy n (openingPlace n f) (heldOf f) ≡ openingAs.Opened held → (n ≡ 0) × (held ≡ heldOf f)
     go zero g = (refl, cc)
     go (suc n) g = let z : _≡_ {A = ℕ} 0 1 = cc in absurd (omega arith)
 
-pub open-refuses : (f : List ℕ) (n : Refusal) → openOf f ≡ openingAs.Refused n → (m : ℕ) × (n ≡ plain (suc m)) × (refusal f ≡ suc m)
+pub open-refuses : (f : List ℕ) (n : Refusal) → openOf f ≡ openingAs.Refused n
+    → (m : ℕ) × (n ≡ placed (suc m) (openingPlace (suc m) f)) × (refusal f ≡ suc m)
 unfolding openOf openBy
 open-refuses f n e = go (refusal f) refl e
   where
-    go : (j : ℕ) → refusal f ≡ j → openBy j (heldOf f) ≡ openingAs.Refused n → (m : ℕ) × (n ≡ plain (suc m)) × (refusal f ≡ suc m)
+    go : (j : ℕ) → refusal f ≡ j → openBy j (openingPlace j f) (heldOf f) ≡ openingAs.Refused n
+        → (m : ℕ) × (n ≡ placed (suc m) (openingPlace (suc m) f)) × (refusal f ≡ suc m)
     go zero q g = let z : _≡_ {A = ℕ} 0 1 = cc in absurd (omega arith)
     go (suc j) q g = (j, cc, q)
 

@@ -6,14 +6,14 @@ use lib.ListN.{length, take, drop}
 use lib.Dec.{ltb, eqb}
 use Rattle.number.specs.Number.{bytesOf, readAt}
 use Rattle.layout.specs.Recording.{mostFrames, largestUserOffset, same, follows, follow, inOrder, entriesBytes, indexBytes}
-use Rattle.layout.specs.Opening.{indexOffset, systemOffset, userOffset, walkStart, refusal, shown}
+use Rattle.layout.specs.Opening.{indexOffset, systemOffset, userOffset, walkStart, refusal, openingPlace, shown}
 use Rattle.layout.specs.Reading.{Walk, walk}
 use Rattle.header.specs.declared.Header.{Header}
 use Rattle.parts.specs.declared.Place.{Place}
 use Rattle.parts.specs.declared.Place.the-variants as place
 use Rattle.times.specs.Times.{sinceFirst}
 use Rattle.frames.specs.Frames.{frameEnd}
-use Rattle.refusal.specs.Refusal.{plain}
+use Rattle.refusal.specs.Refusal.{placed, plain}
 use Rattle.refusal.specs.declared.Refusal.{Refusal}
 use Rattle.opening.specs.declared.Held.{Held}
 use Rattle.opening.specs.declared.Noted.{Noted}
@@ -85,13 +85,13 @@ heldOf f =
       user = userOffset f;
     }
 
-unfoldable pub openBy : (refusal : ℕ) → Held → Opening
-openBy zero h = openingAs.Opened h
-openBy (suc n) h = openingAs.Refused (plain (suc n))
+unfoldable pub openBy : (refusal place : ℕ) → Held → Opening
+openBy zero p h = openingAs.Opened h
+openBy (suc n) p h = openingAs.Refused (placed (suc n) p)
 
 -- the first of the lines 1 to 7 that holds; else what the file holds
 unfoldable pub openOf : List ℕ → Opening
-openOf f = openBy (refusal f) (heldOf f)
+openOf f = openBy (refusal f) (openingPlace (refusal f) f) (heldOf f)
 
 -- what an opening is refused with; the number is 0 for none
 abbrev pub openRefusal : Opening → Refusal

@@ -188,23 +188,24 @@ pub fn open(file: &[u8]) -> Opening
     if bad_index(file, header, held.sections, held.start) {
         return Opening::Refused(Refusal::INDEX);
     }
-    let table = tables::table(file, header.user);
-    let TablePlace::Whole(tags, end) = table else {
-        return Opening::Refused(Refusal::USER_TABLE);
-    };
-    if end != file.len() {
-        return Opening::Refused(Refusal::USER_TABLE);
+    match tables::table(file, header.user) {
+        TablePlace::Whole(tags, end) => {
+            if end != file.len() {
+                return Opening::Refused(Refusal::USER_TABLE.at(end));
+            }
+            Opening::Opened(Held {
+                frames: header.count,
+                sections: held.sections,
+                system_tags: held.system_tags,
+                user_tags: tags,
+                system: held.system,
+                start: held.start,
+                index: header.index,
+                user: header.user,
+            })
+        }
+        TablePlace::Broken(place) => Opening::Refused(Refusal::USER_TABLE.at(place)),
     }
-    Opening::Opened(Held {
-        frames: header.count,
-        sections: held.sections,
-        system_tags: held.system_tags,
-        user_tags: tags,
-        system: held.system,
-        start: held.start,
-        index: header.index,
-        user: header.user,
-    })
 }
 
 // What an opening is refused with.

@@ -10,12 +10,19 @@ use vector::print::refused;
 use vector::print::say;
 use vector::print::with;
 use vector::print::with_time;
+use vector::sweep::Tally;
+use vector::sweep::line;
+use vector::sweep::turn_bytes;
+use vector::sweep::turn_length;
+use vector::sweep::turns;
 
 const FRAME: u8 = b'f';
 
 const OPEN: u8 = b'o';
 
 const PART: u8 = b'p';
+
+const SWEEP: u8 = b'F';
 
 fn open(file: &[u8]) {
     let answer = opening::open(file);
@@ -100,6 +107,41 @@ fn part(fields: &[u8]) {
     part_of(&fields[17..], item);
 }
 
+fn tried(file: &[u8], before: Tally) -> Tally {
+    let answer = opening::open(file);
+    let refusal = opening::open_refusal(answer);
+    vector::sweep::tried(before, refusal)
+}
+
+// Each turn of a sweep of the file.
+fn sweep(base: &[u8], values: &[u8]) {
+    let mut tally = Tally::NONE;
+    let mut turn = 0;
+    let end = turns(base.len());
+    while turn < end {
+        let bytes = turn_bytes(base, values, turn);
+        let n = turn_length(base.len(), turn);
+        tally = tried(&bytes[..n], tally);
+        turn += 1;
+    }
+    line(tally);
+}
+
+// The values of a sweep, and behind them the file.
+fn swept(fields: &[u8]) {
+    if fields.len() < 1 {
+        no_vector();
+        return;
+    }
+    let length = number::read(fields, 0, 1) as usize;
+    let given = &fields[1..];
+    if given.len() < length {
+        no_vector();
+        return;
+    }
+    sweep(&given[length..], &given[..length]);
+}
+
 // The call that a vector holds, by its first byte.
 fn answer(vector: &[u8]) {
     if vector.len() == 0 {
@@ -111,6 +153,7 @@ fn answer(vector: &[u8]) {
         FRAME => frame(fields),
         OPEN => open(fields),
         PART => part(fields),
+        SWEEP => swept(fields),
         _ => no_vector(),
     }
 }

@@ -109,7 +109,7 @@ words-rest s here there left all r e f = e ∙ f
 
 nameless : (s : List ℕ) (at : ℕ) → textOf (string (drop at s)) ≡ text.Broken → nameAt s at ≡ []
 unfolding nameAt nameOf
-nameless s at e = rw (textOf-broken (string (drop at s)) e)
+nameless s at e = rw (textOf-broken (string (drop at s)) e .1)
 
 pub long-broken : (s : List ℕ) (at : ℕ) (r : Text) → r ≡ textOf (string (drop at s)) → r ≡ text.Broken → 0 ≡ length (nameAt s at)
 long-broken s at r e f = rw (nameless s at (sym e ∙ f))

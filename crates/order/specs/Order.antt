@@ -17,7 +17,7 @@ key (b ∷ bs) = b + 256 * key bs
 
 -- a name that was read; the empty one where it is not all there
 unfoldable pub nameOf : Parsed (List ℕ) → List ℕ
-nameOf bad = []
+nameOf (bad m) = []
 nameOf (good name n) = name
 
 unfoldable pub nameAt : List ℕ → (at : ℕ) → List ℕ

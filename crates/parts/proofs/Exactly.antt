@@ -13,20 +13,20 @@ use Rattle.parts.specs.Parts.{endOf}
 use Rattle.parts.specs.declared.Place.{Place}
 use Rattle.parts.specs.declared.Place.the-variants.{End, Broken}
 
-end-broken : {A : Type 0} (x : Parsed A) (n : ℕ) → Broken ≡ endOf 0 x → isBad (onward x (λ a m. cond (eqb m n) (good a m) bad)) ≡ true
+end-broken : {A : Type 0} (x : Parsed A) (n : ℕ) → Broken ≡ endOf 0 x → isBad (onward x (λ a m. cond (eqb m n) (good a m) (bad m))) ≡ true
 unfolding endOf onward
-end-broken bad n e = refl
+end-broken (bad i) n e = refl
 end-broken (good a m) n e = let z : _≡_ {A = ℕ} 0 1 = cc in absurd (omega arith)
 
-end-whole : {A : Type 0} (x : Parsed A) (n q : ℕ) → End q ≡ endOf 0 x → isBad (onward x (λ a m. cond (eqb m n) (good a m) bad)) ≡ not (eqb q n)
+end-whole : {A : Type 0} (x : Parsed A) (n q : ℕ) → End q ≡ endOf 0 x → isBad (onward x (λ a m. cond (eqb m n) (good a m) (bad m))) ≡ not (eqb q n)
 unfolding endOf onward
-end-whole bad n q e = let z : _≡_ {A = ℕ} 0 1 = cc in absurd (omega arith)
+end-whole (bad i) n q e = let z : _≡_ {A = ℕ} 0 1 = cc in absurd (omega arith)
 end-whole {A} (good a m) n q e =
     let f : q ≡ 0 + m = cc in
     let g : q ≡ m = omega arith in
     rw g (go (eqb m n))
   where
-    go : (b : Bool) → isBad (cond b (good a m) bad) ≡ not b
+    go : (b : Bool) → isBad (cond b (good a m) (bad m)) ≡ not b
     go true = refl
     go false = refl
 

@@ -2,15 +2,15 @@
 -- Assumes nothing.
 use Prim.Native.Nat.{ℕ, zero, suc, _+_, _-_, _<_, _≤_}
 use native.Mathlib.Omega.{arith}
-use mathlib.Core.Path.{_≡_, refl, ap}
+use mathlib.Core.Path.{_≡_, refl, ap, _∙_}
 use mathlib.Core.List.{List, [], _∷_, map, flatMap}
 use lib.ListN.{length, take, drop, getD, length-append}
 use lib.Seq.{drop-drop}
-use Rattle.layout.specs.Reading.{Parsed, Reader, bad, good, onward, times}
+use Rattle.layout.specs.Reading.{Parsed, Reader, bad, good, onward, behind, times}
 use Rattle.layout.proofs.Readers.{times-suc-takes}
 use Rattle.parts.specs.Parts.{endOf}
 use Rattle.parts.specs.declared.Place.the-variants as place
-use Rattle.parts.proofs.Readers.{end-later}
+use Rattle.parts.proofs.Readers.{end-later, end-made}
 
 -- k in a row, of which the first was read, or not
 pub times-end : {A : Type 0} (p : Reader A) (left : ℕ) (s : List ℕ) (at : ℕ) (x : A) (n : ℕ) → 0 < left → p (drop at s) ≡ good x n
@@ -19,9 +19,9 @@ unfolding times onward
 times-end p zero s at x n h e = absurd (omega arith)
 times-end p (suc left) s at x n h e =
     let q : suc left - 1 ≡ left = omega arith in
-    rw (q, e, drop-drop n at s) (end-later (λ xs. x ∷ xs) (times left p (drop (at + n) s)) at n)
+    rw (q, e, drop-drop n at s) (end-later (onward (times left p (drop (at + n) s)) (λ xs m. good (x ∷ xs) m)) at n ∙ end-made (λ xs. x ∷ xs) (times left p (drop (at + n) s)) (at + n))
 
-pub times-stop : {A : Type 0} (p : Reader A) (left : ℕ) (s : List ℕ) (at : ℕ) → 0 < left → p (drop at s) ≡ bad
+pub times-stop : {A : Type 0} (p : Reader A) (left : ℕ) (s : List ℕ) (at : ℕ) {m : ℕ} → 0 < left → p (drop at s) ≡ bad m
     → endOf at (times left p (drop at s)) ≡ place.Broken
 unfolding times onward endOf
 times-stop p zero s at h e = absurd (omega arith)
@@ -36,16 +36,16 @@ times-done p (suc left) s at h = absurd (omega arith)
 
 pub times-parts : {A G : Type 0} (p : Reader A) (k : ℕ) (t : List ℕ) (xs : List A) (m : ℕ) → times (suc k) p t ≡ good xs m
     → ((x : A) (n : ℕ) (ys : List A) (j : ℕ) → p t ≡ good x n → times k p (drop n t) ≡ good ys j → xs ≡ x ∷ ys → m ≡ n + j → G) → G
-unfolding times onward
+unfolding times onward behind
 times-parts {A} {G} p k t xs m e w = go (p t) refl e
   where
     later : (x : A) (n : ℕ) (r : Parsed (List A)) → p t ≡ good x n → times k p (drop n t) ≡ r
-        → onward r (λ rest j. good (x ∷ rest) (n + j)) ≡ good xs m → G
-    later x n bad f g h = let z : _≡_ {A = ℕ} 0 1 = cc in absurd (omega arith)
+        → behind n (onward r (λ rest j. good (x ∷ rest) j)) ≡ good xs m → G
+    later x n (bad i) f g h = let z : _≡_ {A = ℕ} 0 1 = cc in absurd (omega arith)
     later x n (good ys j) f g h = w x n ys j f g (cc) (cc)
 
-    go : (r : Parsed A) → p t ≡ r → onward r (λ a n. onward (times k p (drop n t)) (λ rest j. good (a ∷ rest) (n + j))) ≡ good xs m → G
-    go bad f h = let z : _≡_ {A = ℕ} 0 1 = cc in absurd (omega arith)
+    go : (r : Parsed A) → p t ≡ r → onward r (λ a n. behind n (onward (times k p (drop n t)) (λ rest j. good (a ∷ rest) j))) ≡ good xs m → G
+    go (bad i) f h = let z : _≡_ {A = ℕ} 0 1 = cc in absurd (omega arith)
     go (good x n) f h = later x n (times k p (drop n t)) f refl h
 
 none-read : {A : Type 0} (p : Reader A) (t : List ℕ) (xs : List A) (m : ℕ) → times zero p t ≡ good xs m → (xs ≡ []) × (m ≡ 0)

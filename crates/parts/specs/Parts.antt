@@ -20,5 +20,5 @@ copied from start to at n = cond (has from start n && has to at n) (sets to at (
 
 -- where that which was read from `at` on ends
 unfoldable pub endOf : {A : Type 0} → (at : ℕ) → Parsed A → Place
-endOf at bad = place.Broken
+endOf at (bad m) = place.Broken
 endOf at (good x n) = place.End (at + n)

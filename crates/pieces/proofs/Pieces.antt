@@ -85,7 +85,7 @@ changed-finds s at v e = rw e (go (rowOf at (rowName row.Change (drop at s))) re
         → Finds s (changedRow s at r) (changeMakes (rowWith row.Change changeWithName (drop at s)))
     go rowPlace.Broken f = record {
       found = rw (row-makes-none row.Change changeWithName (drop at s)
-          (row-broken (rowName row.Change (drop at s)) at f));
+          (row-broken (rowName row.Change (drop at s)) at f .1));
       there = refl;
     }
     go (rowPlace.Whole len end) f = row-makes row.Change changeWithName s at len end f

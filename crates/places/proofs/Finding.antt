@@ -28,7 +28,7 @@ pub found-more : (name : List ℕ) (n : ℕ) (p : Reader (List ℕ)) (s : List �
 unfolding found
 found-more name n p s i at v m e = rw (e, found)
 
-pub found-none : (name : List ℕ) (n : ℕ) (p : Reader (List ℕ)) (s : List ℕ) (i at : ℕ) → p (drop at s) ≡ bad
+pub found-none : (name : List ℕ) (n : ℕ) (p : Reader (List ℕ)) (s : List ℕ) (i at : ℕ) {j : ℕ} → p (drop at s) ≡ bad j
     → found name (suc n) p s i at ≡ found.Nothing
 unfolding found
 found-none name n p s i at e = rw (e, found)
@@ -43,7 +43,7 @@ pub names-more : (n : ℕ) (p : Reader (List ℕ)) (t : List ℕ) (v : List ℕ)
 unfolding names
 names-more n p t v m e = rw (e, names)
 
-pub names-none : (n : ℕ) (p : Reader (List ℕ)) (t : List ℕ) → p t ≡ bad → names (suc n) p t ≡ []
+pub names-none : (n : ℕ) (p : Reader (List ℕ)) (t : List ℕ) {j : ℕ} → p t ≡ bad j → names (suc n) p t ≡ []
 unfolding names
 names-none n p t e = rw (e, names)
 
@@ -56,7 +56,7 @@ names-few zero p t = rw (no-names p t) (omega arith)
 names-few (suc n) p t = go (p t) refl (names-few n p)
   where
     go : (r : Parsed (List ℕ)) → p t ≡ r → ((u : List ℕ) → length (names n p u) ≤ n) → length (names (suc n) p t) ≤ suc n
-    go bad e ih = rw (names-none n p t e) (omega arith)
+    go (bad j) e ih = rw (names-none n p t e) (omega arith)
     go (good v m) e ih = let l = ih (drop m t) in rw (names-more n p t v m e) (omega arith)
 
 pub names-done : (k : Row) (s : List ℕ) (at left : ℕ) → left ≤ 0 → names left (rowName k) (drop at s) ≡ []
@@ -66,7 +66,7 @@ names-done k s at (suc left) h = absurd (omega arith)
 pub names-stop : (k : Row) (s : List ℕ) (at left : ℕ) (r : RowPlace) → r ≡ rowOf at (rowName k (drop at s)) → r ≡ rowPlace.Broken
     → names left (rowName k) (drop at s) ≡ []
 names-stop k s at zero r e f = no-names (rowName k) (drop at s)
-names-stop k s at (suc left) r e f = names-none left (rowName k) (drop at s) (row-broken (rowName k (drop at s)) at (sym e ∙ f))
+names-stop k s at (suc left) r e f = names-none left (rowName k) (drop at s) (row-broken (rowName k (drop at s)) at (sym e ∙ f) .1)
 
 pub names-step : (k : Row) (s : List ℕ) (at left len end : ℕ) (r : RowPlace) → 0 < left → r ≡ rowOf at (rowName k (drop at s))
     → r ≡ rowPlace.Whole len end → names left (rowName k) (drop at s) ≡ take len (drop (at + 1) s) ∷ names (left - 1) (rowName k) (drop end s)
@@ -99,7 +99,7 @@ found-parts {G} v (suc n) p s i at j q e w = go (p (drop at s)) refl (found-part
   where
     go : (r : Parsed (List ℕ)) → p (drop at s) ≡ r → ((at j q : ℕ) → found v n p s (i + 1) at ≡ found.At j q
         → ((c : ℕ) → j ≡ i + 1 + c → c < length (names n p (drop at s)) → same v (getD (names n p (drop at s)) c []) ≡ true → at ≤ q → G) → G) → G
-    go bad f ih = let o = found-none v n p s i at f in let z : _≡_ {A = ℕ} 0 1 = cc in absurd (omega arith)
+    go (bad j) f ih = let o = found-none v n p s i at f in let z : _≡_ {A = ℕ} 0 1 = cc in absurd (omega arith)
     go (good x m) f ih = pick (same v x) refl (sym (found-more v n p s i at x m f) ∙ e)
       where
         pick : (b : Bool) → same v x ≡ b → cond b (found.At i at) (found v n p s (i + 1) (at + m)) ≡ found.At j q → G
@@ -121,7 +121,7 @@ found-only v (suc n) p s i at c d l t = go (p (drop at s)) refl (found-only v n 
     go : (r : Parsed (List ℕ)) → p (drop at s) ≡ r → ((at c : ℕ) → distinct (names n p (drop at s)) ≡ true → c < length (names n p (drop at s))
         → same v (getD (names n p (drop at s)) c []) ≡ true → (q : ℕ) × (found v n p s (i + 1) at ≡ found.At (i + 1 + c) q))
         → (q : ℕ) × (found v (suc n) p s i at ≡ found.At (i + c) q)
-    go bad f ih = let o : length (names (suc n) p (drop at s)) ≡ 0 = ap length (names-none n p (drop at s) f) in absurd (omega arith)
+    go (bad j) f ih = let o : length (names (suc n) p (drop at s)) ≡ 0 = ap length (names-none n p (drop at s) f) in absurd (omega arith)
     go (good x m) f ih = pick c (same v x) refl (rw (names-next n p s at x m f) at l) (rw (names-next n p s at x m f) at t)
       where
         apart : (not (among x (names n p (drop (at + m) s))) ≡ true) × (distinct (names n p (drop (at + m) s)) ≡ true)
@@ -147,7 +147,7 @@ names-whole (suc k) p t = go (p t) refl (names-whole k p)
   where
     go : (r : Parsed (List ℕ)) → p t ≡ r → ((u : List ℕ) → names (length (names k p u)) p u ≡ names k p u)
         → names (length (names (suc k) p t)) p t ≡ names (suc k) p t
-    go bad e ih = rw (names-none k p t e) (no-names p t)
+    go (bad j) e ih = rw (names-none k p t e) (no-names p t)
     go (good v m) e ih = rw (names-more k p t v m e) (names-more (length (names k p (drop m t))) p t v m e
         ∙ ap (λ (l : List (List ℕ)). v ∷ l) (ih (drop m t)))
 
@@ -159,7 +159,7 @@ found-whole name (suc k) p s i at = go (p (drop at s)) refl (found-whole name k 
     go : (r : Parsed (List ℕ)) → p (drop at s) ≡ r → ((at : ℕ)
         → found name (length (names k p (drop at s))) p s (i + 1) at ≡ found name k p s (i + 1) at)
         → found name (length (names (suc k) p (drop at s))) p s i at ≡ found name (suc k) p s i at
-    go bad e ih = rw (names-none k p (drop at s) e) (no-found name p s i at ∙ sym (found-none name k p s i at e))
+    go (bad j) e ih = rw (names-none k p (drop at s) e) (no-found name p s i at ∙ sym (found-none name k p s i at e))
     go (good v m) e ih =
         rw (names-next k p s at v m e)
         (found-more name (length (names k p (drop (at + m) s))) p s i at v m e

@@ -27,7 +27,7 @@ pub list-end : (change : List ℕ → NameFound) (t : List ℕ) (at i : ℕ) →
 unfolding listedBy
 list-end change t at i = refl
 
-pub list-broken : (change : List ℕ → NameFound) (n : ℕ) (t : List ℕ) (at i : ℕ) → rowName row.Tag (drop at t) ≡ bad
+pub list-broken : (change : List ℕ → NameFound) (n : ℕ) (t : List ℕ) (at i : ℕ) {j : ℕ} → rowName row.Tag (drop at t) ≡ bad j
     → listedBy change (suc n) t at i ≡ listing [] i at
 unfolding listedBy
 list-broken change n t at i e = rw (e, listedBy)
@@ -121,7 +121,7 @@ list-shared sheet k (suc n) t at i = go (rowName row.Tag (drop at t)) refl (list
     go : (r : Parsed (List ℕ)) → rowName row.Tag (drop at t) ≡ r
         → ((at i : ℕ) → length (listedBy (changeFound sheet k) n t at i .words) ≡ 3 * shared (changeNamesAt sheet k) (tagNamesAt t at n))
         → length (listedBy (changeFound sheet k) (suc n) t at i .words) ≡ 3 * shared (changeNamesAt sheet k) (tagNamesAt t at (suc n))
-    go bad e ih = rw (list-broken (changeFound sheet k) n t at i e, names-none n (rowName row.Tag) (drop at t) e)
+    go (bad j) e ih = rw (list-broken (changeFound sheet k) n t at i e, names-none n (rowName row.Tag) (drop at t) e)
     go (good v m) e ih =
         let a = ih (at + m) (i + 1) in
         let b = words-length (changeFound sheet k v) i at in
@@ -150,7 +150,8 @@ unfolding listedTo
 to-all change zero t at i = refl
 to-all change (suc n) t at i = refl
 
-pub to-broken : (change : List ℕ → NameFound) (k n : ℕ) (t : List ℕ) (at i : ℕ) → rowName row.Tag (drop at t) ≡ bad → listedTo change k n t at i ≡ []
+pub to-broken : (change : List ℕ → NameFound) (k n : ℕ) (t : List ℕ) (at i : ℕ) {j : ℕ} → rowName row.Tag (drop at t) ≡ bad j
+    → listedTo change k n t at i ≡ []
 unfolding listedTo
 to-broken change k zero t at i e = refl
 to-broken change zero (suc n) t at i e = refl
@@ -182,7 +183,7 @@ to-whole change (suc n) (suc k) t at i h = go (rowName row.Tag (drop at t)) refl
     go : (r : Parsed (List ℕ)) → rowName row.Tag (drop at t) ≡ r
         → ((k : ℕ) (t : List ℕ) (at i : ℕ) → length (listedBy change n t at i .words) ≤ 3 * k → listedTo change k n t at i ≡ listedBy change n t at i .words)
         → listedTo change (suc k) (suc n) t at i ≡ listedBy change (suc n) t at i .words
-    go bad e ih = to-broken change (suc k) (suc n) t at i e ∙ sym (ap (λ (z : Listed). z .words) (list-broken change n t at i e))
+    go (bad j) e ih = to-broken change (suc k) (suc n) t at i e ∙ sym (ap (λ (z : Listed). z .words) (list-broken change n t at i e))
     go (good v m) e ih =
         to-more change k n t at i v m e ∙ pick (change v) (rw (list-more change n t at i v m e) at h)
         ∙ sym (ap (λ (z : Listed). z .words) (list-more change n t at i v m e))

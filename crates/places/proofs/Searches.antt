@@ -36,7 +36,7 @@ module _ (f : List ℕ → ℕ → ℕ) where
   unfolding stored
   stored-more n s at ps i v m e = rw (e, stored)
 
-  stored-none : (n : ℕ) (s : List ℕ) (at : ℕ) (ps : List ℕ) (i : ℕ) → rowName row.Change (drop at s) ≡ bad → stored f (suc n) s at ps i ≡ ps
+  stored-none : (n : ℕ) (s : List ℕ) (at : ℕ) (ps : List ℕ) (i : ℕ) {j : ℕ} → rowName row.Change (drop at s) ≡ bad j → stored f (suc n) s at ps i ≡ ps
   unfolding stored
   stored-none n s at ps i e = rw (e, stored)
 
@@ -52,7 +52,7 @@ module _ (f : List ℕ → ℕ → ℕ) where
       go : (r : Parsed (List ℕ)) → rowName row.Change (drop at s) ≡ r
           → ((at : ℕ) (ps : List ℕ) (i j : ℕ) → j < i → getD (stored f n s at ps i) j 0 ≡ getD ps j 0)
           → getD (stored f (suc n) s at ps i) j 0 ≡ getD ps j 0
-      go bad e ih = ap (λ (x : List ℕ). getD x j 0) (stored-none n s at ps i e)
+      go (bad k) e ih = ap (λ (x : List ℕ). getD x j 0) (stored-none n s at ps i e)
       go (good v m) e ih =
           ap (λ (x : List ℕ). getD x j 0) (stored-more n s at ps i v m e)
           ∙ ih (at + m) (set ps i (f v at)) (i + 1) j (omega arith)
@@ -64,7 +64,7 @@ module _ (f : List ℕ → ℕ → ℕ) where
     where
       go : (r : Parsed (List ℕ)) → rowName row.Change (drop at s) ≡ r
           → ((at : ℕ) (ps : List ℕ) (i : ℕ) → length (stored f n s at ps i) ≡ length ps) → length (stored f (suc n) s at ps i) ≡ length ps
-      go bad e ih = ap length (stored-none n s at ps i e)
+      go (bad j) e ih = ap length (stored-none n s at ps i e)
       go (good v m) e ih = ap length (stored-more n s at ps i v m e) ∙ ih (at + m) (set ps i (f v at)) (i + 1) ∙ length-set ps i (f v at)
 
   pub stored-whole : (n : ℕ) (s : List ℕ) (at : ℕ) (ps : List ℕ) (i : ℕ)
@@ -75,7 +75,7 @@ module _ (f : List ℕ → ℕ → ℕ) where
       go : (r : Parsed (List ℕ)) → rowName row.Change (drop at s) ≡ r
           → ((at : ℕ) (ps : List ℕ) (i : ℕ) → stored f (length (names n (rowName row.Change) (drop at s))) s at ps i ≡ stored f n s at ps i)
           → stored f (length (names (suc n) (rowName row.Change) (drop at s))) s at ps i ≡ stored f (suc n) s at ps i
-      go bad e ih = rw (names-none n (rowName row.Change) (drop at s) e) (not-stored s at ps i ∙ sym (stored-none n s at ps i e))
+      go (bad j) e ih = rw (names-none n (rowName row.Change) (drop at s) e) (not-stored s at ps i ∙ sym (stored-none n s at ps i e))
       go (good v m) e ih =
           rw (names-next n (rowName row.Change) s at v m e)
           (stored-more (length (names n (rowName row.Change) (drop (at + m) s))) s at ps i v m e ∙ ih (at + m) (set ps i (f v at)) (i + 1)
@@ -153,7 +153,7 @@ module _ (f : List ℕ → ℕ → ℕ) (sheet : List ℕ) (k : ℕ) (ps₀ ps :
     where
       go : (l : ℕ) → left ≡ l → ps ≡ stored f k sheet 1 ps₀ 0
       go zero o = sym (rw o (not-stored f sheet place ps passed)) ∙ w .rest
-      go (suc l) o = sym (rw o (stored-none f l sheet place ps passed (row-broken (rowName row.Change (drop place sheet)) place (sym a ∙ b))))
+      go (suc l) o = sym (rw o (stored-none f l sheet place ps passed (row-broken (rowName row.Change (drop place sheet)) place (sym a ∙ b) .1)))
           ∙ w .rest
 
   storing-step : (len end : ℕ) (r : RowPlace) (x : ℕ) → 0 < left → r ≡ rowOf place (rowName row.Change (drop place sheet))
@@ -211,7 +211,7 @@ known-next s at zero ks ps i h k w = absurd (omega arith)
 known-next {G} s at (suc n) ks ps i h k w = go (rowName row.Change (drop at s)) refl
   where
     go : (r : Parsed (List ℕ)) → rowName row.Change (drop at s) ≡ r → G
-    go bad e =
+    go (bad j) e =
         let o : length (names (suc n) (rowName row.Change) (drop at s)) ≡ 0 = ap length (names-none n (rowName row.Change) (drop at s) e) in
         let q = k .whole in
         absurd (omega arith)

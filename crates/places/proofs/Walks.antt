@@ -62,14 +62,14 @@ noted-length ps (found.At i p) tag = go (eqb (getD ps i 0) 0)
 unfoldable walked : (change : List ℕ → NameFound) → ℕ → (table : List ℕ) → (at : ℕ) → (ps : List ℕ) → List ℕ
 walked change zero t at ps = ps
 walked change (suc n) t at ps =
-    elim (rowName row.Tag (drop at t)) [ bad ↦ ps | good name m ↦ walked change n t (at + m) (noted ps (change name) at) ]
+    elim (rowName row.Tag (drop at t)) [ bad j ↦ ps | good name m ↦ walked change n t (at + m) (noted ps (change name) at) ]
 
 walked-more : (change : List ℕ → NameFound) (n : ℕ) (t : List ℕ) (at : ℕ) (ps v : List ℕ) (m : ℕ) → rowName row.Tag (drop at t) ≡ good v m
     → walked change (suc n) t at ps ≡ walked change n t (at + m) (noted ps (change v) at)
 unfolding walked
 walked-more change n t at ps v m e = rw (e, walked)
 
-walked-none : (change : List ℕ → NameFound) (n : ℕ) (t : List ℕ) (at : ℕ) (ps : List ℕ) → rowName row.Tag (drop at t) ≡ bad
+walked-none : (change : List ℕ → NameFound) (n : ℕ) (t : List ℕ) (at : ℕ) (ps : List ℕ) {j : ℕ} → rowName row.Tag (drop at t) ≡ bad j
     → walked change (suc n) t at ps ≡ ps
 unfolding walked
 walked-none change n t at ps e = rw (e, walked)
@@ -84,7 +84,7 @@ walked-length change (suc n) t at ps = go (rowName row.Tag (drop at t)) refl (wa
   where
     go : (r : Parsed (List ℕ)) → rowName row.Tag (drop at t) ≡ r → ((at : ℕ) (ps : List ℕ) → length (walked change n t at ps) ≡ length ps)
         → length (walked change (suc n) t at ps) ≡ length ps
-    go bad e ih = ap length (walked-none change n t at ps e)
+    go (bad j) e ih = ap length (walked-none change n t at ps e)
     go (good v m) e ih = ap length (walked-more change n t at ps v m e) ∙ ih (at + m) (noted ps (change v) at) ∙ noted-length ps (change v) at
 
 -- change number c is found for the tags of its name, and for no other
@@ -127,7 +127,7 @@ module _ (change : List ℕ → NameFound) (name : List ℕ) (c : ℕ) (hit : (v
           → ((at : ℕ) (ps : List ℕ) → 0 < at → c < length ps
           → getD (walked change n t at ps) c 0 ≡ orElse (getD ps c 0) (placeFound (found name n (rowName row.Tag) t (i + 1) at)))
           → getD (walked change (suc n) t at ps) c 0 ≡ orElse (getD ps c 0) (placeFound (found name (suc n) (rowName row.Tag) t i at))
-      go bad e ih = rw (walked-none change n t at ps e, found-none name n (rowName row.Tag) t i at e) (sym (or-none (getD ps c 0)))
+      go (bad j) e ih = rw (walked-none change n t at ps e, found-none name n (rowName row.Tag) t i at e) (sym (or-none (getD ps c 0)))
       go (good v m) e ih =
           let k : length (noted ps (change v) at) ≡ length ps = noted-length ps (change v) at in
           rw (walked-more change n t at ps v m e, found-more name n (rowName row.Tag) t i at v m e)
@@ -176,7 +176,7 @@ unfolding walkedTo
 to-all change zero t at ps = refl
 to-all change (suc n) t at ps = refl
 
-to-broken : (change : List ℕ → NameFound) (k n : ℕ) (t : List ℕ) (at : ℕ) (ps : List ℕ) → rowName row.Tag (drop at t) ≡ bad
+to-broken : (change : List ℕ → NameFound) (k n : ℕ) (t : List ℕ) (at : ℕ) (ps : List ℕ) {j : ℕ} → rowName row.Tag (drop at t) ≡ bad j
     → walkedTo change k n t at ps ≡ ps
 unfolding walkedTo
 to-broken change k zero t at ps e = refl
@@ -198,7 +198,7 @@ none-noted change (suc n) t at i ps h = go (rowName row.Tag (drop at t)) refl (n
     go : (r : Parsed (List ℕ)) → rowName row.Tag (drop at t) ≡ r
         → ((at i : ℕ) (ps : List ℕ) → length (listedBy change n t at i .words) ≤ 0 → ps ≡ walked change n t at ps)
         → ps ≡ walked change (suc n) t at ps
-    go bad e ih = sym (walked-none change n t at ps e)
+    go (bad j) e ih = sym (walked-none change n t at ps e)
     go (good v m) e ih = pick (change v) (rw (list-more change n t at i v m e) at h) ∙ sym (walked-more change n t at ps v m e)
       where
         pick : (f : NameFound) → length (ahead (wordsFor f i at) (listedBy change n t (at + m) (i + 1)) .words) ≤ 0
@@ -217,7 +217,7 @@ walk-whole change (suc n) (suc k) t at i ps h = go (rowName row.Tag (drop at t))
     go : (r : Parsed (List ℕ)) → rowName row.Tag (drop at t) ≡ r
         → ((k : ℕ) (t : List ℕ) (at i : ℕ) (ps : List ℕ) → length (listedBy change n t at i .words) ≤ 3 * k
         → walkedTo change k n t at ps ≡ walked change n t at ps) → walkedTo change (suc k) (suc n) t at ps ≡ walked change (suc n) t at ps
-    go bad e ih = to-broken change (suc k) (suc n) t at ps e ∙ sym (walked-none change n t at ps e)
+    go (bad j) e ih = to-broken change (suc k) (suc n) t at ps e ∙ sym (walked-none change n t at ps e)
     go (good v m) e ih =
         to-more change k n t at ps v m e ∙ pick (change v) (rw (list-more change n t at i v m e) at h) ∙ sym (walked-more change n t at ps v m e)
       where
@@ -482,14 +482,14 @@ module _ (table : List ℕ) (at n : ℕ) (sheet : List ℕ) (k : ℕ) (list₀ p
       places-full = noted-all full-list full-walk
 
     module _ (r : RowPlace) (e : r ≡ rowOf place (rowName row.Tag (drop place table))) (f : r ≡ rowPlace.Broken) where
-      broken : rowName row.Tag (drop place table) ≡ bad
+      broken : (j : ℕ) × (rowName row.Tag (drop place table) ≡ bad j)
       broken = row-broken (rowName row.Tag (drop place table)) place (sym e ∙ f)
 
       stop-list : listedTo (changeFound sheet k) (w .more) left table place passed ≡ []
-      stop-list = Listed.to-broken (changeFound sheet k) (w .more) left table place passed broken
+      stop-list = Listed.to-broken (changeFound sheet k) (w .more) left table place passed (broken .1)
 
       stop-walk : walkedTo (changeFound sheet k) (w .more) left table place places ≡ places
-      stop-walk = to-broken (changeFound sheet k) (w .more) left table place places broken
+      stop-walk = to-broken (changeFound sheet k) (w .more) left table place places (broken .1)
 
       pub told-stop : words ≡ length (listedTo (changeFound sheet k) k n table at 0)
       told-stop = told stop-list stop-walk

@@ -74,7 +74,7 @@ ahead ws l = listing (ws ++ l .words) (l .tags) (l .end)
 unfoldable pub listedBy : (change : List ℕ → NameFound) → ℕ → (table : List ℕ) → (at number : ℕ) → Listed
 listedBy change zero t at i = listing [] i at
 listedBy change (suc n) t at i =
-    elim (rowName row.Tag (drop at t)) [ bad ↦ listing [] i at | good name m ↦ ahead (wordsFor (change name) i at) (listedBy change n t (at + m) (i + 1)) ]
+    elim (rowName row.Tag (drop at t)) [ bad j ↦ listing [] i at | good name m ↦ ahead (wordsFor (change name) i at) (listedBy change n t (at + m) (i + 1)) ]
 
 abbrev pub listedIn : (table : List ℕ) → (at n : ℕ) → (sheet : List ℕ) → (changes : ℕ) → Listed
 listedIn table at n sheet k = listedBy (changeFound sheet k) n table at 0
@@ -90,7 +90,7 @@ listedTo change k zero t at i = []
 listedTo change zero (suc n) t at i = []
 listedTo change (suc k) (suc n) t at i =
     elim (rowName row.Tag (drop at t)) [
-      | bad ↦ []
+      | bad j ↦ []
       | good name m ↦ wordsFor (change name) i at
           ++ listedTo change (leftAfter (change name) (suc k)) n t (at + m) (i + 1)
     ]
@@ -106,7 +106,7 @@ walkedTo change k zero t at ps = ps
 walkedTo change zero (suc n) t at ps = ps
 walkedTo change (suc k) (suc n) t at ps =
     elim (rowName row.Tag (drop at t)) [
-      | bad ↦ ps
+      | bad j ↦ ps
       | good name m ↦ walkedTo change (leftAfter (change name) (suc k)) n t (at + m)
           (noted ps (change name) at)
     ]
@@ -149,7 +149,7 @@ changeStart name p = p
 unfoldable pub stored : (List ℕ → ℕ → ℕ) → ℕ → (sheet : List ℕ) → (at : ℕ) → (ps : List ℕ) → ℕ → List ℕ
 stored f zero s at ps i = ps
 stored f (suc n) s at ps i =
-    elim (rowName row.Change (drop at s)) [ bad ↦ ps | good name m ↦ stored f n s (at + m) (set ps i (f name at)) (i + 1) ]
+    elim (rowName row.Change (drop at s)) [ bad j ↦ ps | good name m ↦ stored f n s (at + m) (set ps i (f name at)) (i + 1) ]
 
 -- what is stored for n changes from a place on stands from a number on
 pub record Kept (f : List ℕ → ℕ → ℕ) (sheet : List ℕ) (at n : ℕ) (ps : List ℕ) (i : ℕ) : Type 0 where

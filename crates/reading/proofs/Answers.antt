@@ -13,7 +13,7 @@ use borrow.Author.Tests.{lt-ltb, le-ltb}
 use mir.Syntax.{w64}
 use mir.Val.{Fits, toZ}
 use Rattle.layout.specs.Recording.{Frame, frameBytes}
-use Rattle.layout.specs.Opening.{line, firstOf, openingLines, refusal, shown}
+use Rattle.layout.specs.Opening.{line, firstOf, openingLines, refusal, openingPlace, shown}
 use Rattle.layout.specs.Items.{noSuchItem, noSuchFrame, itemStart, itemBytes, partOf, itemRefusal, itemPart, frameRefusal, frameShown, frameAnswer, frameStart, frameOf}
 use Rattle.layout.specs.Items as items
 use Rattle.layout.proofs.Lists.{le-or-lt}
@@ -26,9 +26,9 @@ use Rattle.opening.specs.declared.Held.{Held}
 use Rattle.opening.specs.declared.Opening.{Opening}
 use Rattle.opening.specs.declared.Opening.the-variants as openingAs
 use Rattle.opening.proofs.Lines.{open-opens, open-refuses}
-use Rattle.refusal.specs.Refusal.{plain}
+use Rattle.refusal.specs.Refusal.{placed, plain}
 use Rattle.refusal.specs.declared.Refusal.{Refusal}
-use Rattle.reading.specs.Read.{itemOf, foundIn, foundBy, findOf, refusalOf, frameBy, frameReadOf}
+use Rattle.reading.specs.Read.{itemOf, foundIn, foundBy, findOf, refusalOf, refusalIn, frameBy, frameReadOf}
 use Rattle.items.specs.Items.{framePlace, frameFrom, heldFrame, heldFound}
 use Rattle.reading.specs.Read as read
 use Rattle.items.specs.declared.Item.{Item}
@@ -51,7 +51,7 @@ holds : (f : List ℕ) (r : Opening) (h : Held) → r ≡ openOf f → r ≡ ope
 holds f r h e g = open-opens f h (sym e ∙ g) .1
 
 refused-with : (f : List ℕ) (r : Opening) (q n : Refusal) → r ≡ openOf f → r ≡ openingAs.Refused q → n ≡ openRefusal r
-    → (k : ℕ) × (refusal f ≡ suc k) × (n ≡ plain (suc k))
+    → (k : ℕ) × (refusal f ≡ suc k) × (n ≡ placed (suc k) (openingPlace (suc k) f))
 refused-with f r q n e g h =
     let (k, p, m) = open-refuses f q (sym e ∙ g) in
     (k, m, h ∙ ap openRefusal g ∙ p)
@@ -75,15 +75,17 @@ pub find-refused : (f : List ℕ) (r : Opening) (q n : Refusal) (it : Item) → 
 unfolding findOf foundBy itemRefusal
 find-refused f r q n it e g h =
     let (k, p, m) = refused-with f r q n e g h in
-    let u : findOf f it ≡ Refused (plain (suc k)) = rw (eight-refused f (noSuchItem (shown f) (itemOf it)) k p) in
+    let u : findOf f it ≡ Refused (placed (suc k) (openingPlace (suc k) f)) = rw (eight-refused f (noSuchItem (shown f) (itemOf it)) k p) in
     ap Refused m ∙ sym u
 
 -- an item of a file that opens
-pub found-item : (f : List ℕ) (it : items.Item) → refusal f ≡ 0 → foundIn (shown f) it ≡ foundBy (itemRefusal f it) (itemPart f it)
-unfolding foundIn foundBy itemRefusal itemPart partOf
+pub found-item : (f : List ℕ) (it : items.Item) → refusal f ≡ 0
+    → foundIn (shown f) it ≡ foundBy (itemRefusal f it) (openingPlace (itemRefusal f it) f) (itemPart f it)
+unfolding foundIn foundBy itemRefusal itemPart partOf openingPlace
 found-item f it o = go (noSuchItem (shown f) it) refl
   where
-    go : (b : Bool) → noSuchItem (shown f) it ≡ b → foundIn (shown f) it ≡ foundBy (itemRefusal f it) (itemPart f it)
+    go : (b : Bool) → noSuchItem (shown f) it ≡ b
+        → foundIn (shown f) it ≡ foundBy (itemRefusal f it) (openingPlace (itemRefusal f it) f) (itemPart f it)
     go true e = rw (eight-holds f (noSuchItem (shown f) it) o e, e)
     go false e = rw (eight-passed f (noSuchItem (shown f) it) o e, e)
 
@@ -92,11 +94,11 @@ pub find-opened : (f : List ℕ) (r : Opening) (h : Held) (it : Item) (x : Found
 unfolding findOf
 find-opened f r h it x b e g u = u ∙ shown-item f b (opens f r h e g) h (holds f r h e g) it ∙ found-item f (itemOf it) (opens f r h e g)
 
-pub refusal-found : (f : List ℕ) (it : Item) (r : Found) (n : Refusal) → r ≡ findOf f it → n ≡ refusalOf r → n ≡ plain (itemRefusal f (itemOf it))
-unfolding findOf foundBy
+pub refusal-found : (f : List ℕ) (it : Item) (r : Found) (n : Refusal) → r ≡ findOf f it → n ≡ refusalOf r → n ≡ refusalIn f (itemOf it)
+unfolding findOf foundBy openingPlace
 refusal-found f it r n e h = go (itemRefusal f (itemOf it)) (e)
   where
-    go : (m : ℕ) → r ≡ foundBy m (itemPart f (itemOf it)) → n ≡ plain m
+    go : (m : ℕ) → r ≡ foundBy m (openingPlace m f) (itemPart f (itemOf it)) → n ≡ placed m (openingPlace m f)
     go zero g = h ∙ ap refusalOf g
     go (suc k) g = h ∙ ap refusalOf g
 
@@ -115,7 +117,7 @@ part-none : (f : List ℕ) (it : Item) (n : Refusal) → findOf f it ≡ Refused
 unfolding findOf foundBy itemPart partOf
 part-none f it n e = go (itemRefusal f (itemOf it)) refl e
   where
-    go : (m : ℕ) → itemRefusal f (itemOf it) ≡ m → foundBy m (itemPart f (itemOf it)) ≡ Refused n
+    go : (m : ℕ) → itemRefusal f (itemOf it) ≡ m → foundBy m (openingPlace m f) (itemPart f (itemOf it)) ≡ Refused n
         → itemPart f (itemOf it) ≡ record { start = 0; len = 0 }
     go zero p u = let z : _≡_ {A = ℕ} 0 1 = cc in absurd (omega arith)
     go (suc k) p u = rw p
@@ -125,7 +127,7 @@ part-some : (f : List ℕ) (it : Item) (start len : ℕ) → findOf f it ≡ At 
 unfolding findOf foundBy
 part-some f it start len e = go (itemRefusal f (itemOf it)) e
   where
-    go : (m : ℕ) → foundBy m (itemPart f (itemOf it)) ≡ At start len → itemPart f (itemOf it) ≡ record { start = start; len = len }
+    go : (m : ℕ) → foundBy m (openingPlace m f) (itemPart f (itemOf it)) ≡ At start len → itemPart f (itemOf it) ≡ record { start = start; len = len }
     go zero u =
         let p : itemPart f (itemOf it) .start ≡ start = cc in
         let q : itemPart f (itemOf it) .len ≡ len = cc in
@@ -133,12 +135,12 @@ part-some f it start len e = go (itemRefusal f (itemOf it)) e
     go (suc k) u = let z : _≡_ {A = ℕ} 0 1 = cc in absurd (omega arith)
 
 found-ends : (f : List ℕ) (it : Item) (start len : ℕ) → Bytes f → findOf f it ≡ At start len → start + len ≤ length f
-unfolding findOf foundBy itemRefusal itemPart partOf
+unfolding findOf foundBy itemRefusal itemPart partOf openingPlace
 found-ends f it start len b e = go (refusal f) refl (noSuchItem (shown f) (itemOf it)) refl
   where
     go : (m : ℕ) → refusal f ≡ m → (c : Bool) → noSuchItem (shown f) (itemOf it) ≡ c → start + len ≤ length f
     go (suc k) p c q =
-        let u : findOf f it ≡ Refused (plain (suc k)) = rw (eight-refused f (noSuchItem (shown f) (itemOf it)) k p) in
+        let u : findOf f it ≡ Refused (placed (suc k) (openingPlace (suc k) f)) = rw (eight-refused f (noSuchItem (shown f) (itemOf it)) k p) in
         let z : _≡_ {A = ℕ} 0 1 = cc in
         absurd (omega arith)
     go zero p true q =
@@ -180,12 +182,12 @@ pub frame-refused : (f : List ℕ) (r : Opening) (q n : Refusal) (i : ℕ) → r
 unfolding frameReadOf frameBy frameRefusal
 frame-refused f r q n i e g h =
     let (k, p, m) = refused-with f r q n e g h in
-    let u : frameReadOf f i ≡ frameAs.Refused (plain (suc k)) = rw (eight-refused f (noSuchFrame (shown f) i) k p) in
+    let u : frameReadOf f i ≡ frameAs.Refused (placed (suc k) (openingPlace (suc k) f)) = rw (eight-refused f (noSuchFrame (shown f) i) k p) in
     ap frameAs.Refused m ∙ sym u
 
 -- of a file that opens it is the frame shown
 pub shown-frame : (f : List ℕ) (h : Held) (i : ℕ) → Bytes f → refusal f ≡ 0 → h ≡ heldOf f → heldFrame f h i ≡ frameReadOf f i
-unfolding frameReadOf frameBy frameRefusal frameShown frameAnswer noSuchFrame frameAt wholeFrame frameFrom
+unfolding frameReadOf frameBy frameRefusal frameShown frameAnswer noSuchFrame frameAt wholeFrame frameFrom openingPlace
 shown-frame f h i b o e = go (le-or-lt (length (shown f .frames)) i)
   where
     go : (length (shown f .frames) ≤ i) ⊎ (i < length (shown f .frames)) → heldFrame f h i ≡ frameReadOf f i

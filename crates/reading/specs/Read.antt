@@ -7,9 +7,10 @@ use mir.Syntax.{w64}
 use mir.Val.{toZ}
 use denote.Ref.{RefT}
 use Rattle.layout.specs.Recording.{Recording}
+use Rattle.layout.specs.Opening.{openingPlace}
 use Rattle.layout.specs.Items.{noSuchItem, itemStart, itemBytes, Part, itemRefusal, itemPart, FrameShown, frameRefusal, frameShown}
 use Rattle.layout.specs.Items as items
-use Rattle.refusal.specs.Refusal.{plain}
+use Rattle.refusal.specs.Refusal.{placed, plain}
 use Rattle.refusal.specs.declared.Refusal.{Refusal}
 use Rattle.items.specs.declared.Item.{Item}
 use Rattle.items.specs.declared.Item.the-variants as item
@@ -32,15 +33,18 @@ itemOf (item.UserValue i) = items.userValue i
 unfoldable pub foundIn : Recording → items.Item → Found
 foundIn r item = cond (noSuchItem r item) (Refused (plain 8)) (At (itemStart r item) (length (itemBytes r item)))
 
--- a part with refusal number 0, or the number
-unfoldable pub foundBy : ℕ → Part → Found
-foundBy zero p = At (p .start) (p .len)
-foundBy (suc n) p = Refused (plain (suc n))
+-- a part with refusal number 0, or the number with its place
+unfoldable pub foundBy : (refused place : ℕ) → Part → Found
+foundBy zero q p = At (p .start) (p .len)
+foundBy (suc n) q p = Refused (placed (suc n) q)
 
 unfoldable pub findOf : List ℕ → Item → Found
-findOf f item = foundBy (itemRefusal f (itemOf item)) (itemPart f (itemOf item))
+findOf f item = foundBy (itemRefusal f (itemOf item)) (openingPlace (itemRefusal f (itemOf item)) f) (itemPart f (itemOf item))
 
--- what is refused; the number is 0 for none
+-- what is refused; the number is 0 for none, and the place opening's: 8 has none
+abbrev pub refusalIn : List ℕ → items.Item → Refusal
+refusalIn f it = placed (itemRefusal f it) (openingPlace (itemRefusal f it) f)
+
 abbrev pub refusalOf : Found → Refusal
 refusalOf (At start len) = plain 0
 refusalOf (Refused n) = n
@@ -62,13 +66,13 @@ partOf s p = record { block = s .block; offset = p .start + s .offset; bytes = t
 
 -- ── Frames ──
 
--- a frame with refusal number 0, or the number
-unfoldable pub frameBy : ℕ → FrameShown → FrameRead
-frameBy zero s = frameAs.Frame (s .place) (s .len) (toZ w64 (s .time)) (s .exposure)
-frameBy (suc n) s = frameAs.Refused (plain (suc n))
+-- a frame with refusal number 0, or the number with its place
+unfoldable pub frameBy : (refused place : ℕ) → FrameShown → FrameRead
+frameBy zero q s = frameAs.Frame (s .place) (s .len) (toZ w64 (s .time)) (s .exposure)
+frameBy (suc n) q s = frameAs.Refused (placed (suc n) q)
 
 unfoldable pub frameReadOf : List ℕ → ℕ → FrameRead
-frameReadOf f i = frameBy (frameRefusal f i) (frameShown f i)
+frameReadOf f i = frameBy (frameRefusal f i) (openingPlace (frameRefusal f i) f) (frameShown f i)
 
 -- ── By the numbers of an opened file ──
 

@@ -5,9 +5,8 @@ use items::Item;
 use opening::Opening;
 use refusal::Refusal;
 ghost use mathlib.Core.Path.{_≡_};
-ghost use Rattle.refusal.specs.Refusal.{plain};
-ghost use Rattle.layout.specs.Items.{itemRefusal, itemPart};
-ghost use Rattle.reading.specs.Read.{itemOf, findOf, lies, partOf, refusalOf, frameReadOf};
+ghost use Rattle.layout.specs.Items.{itemPart};
+ghost use Rattle.reading.specs.Read.{itemOf, findOf, lies, partOf, refusalOf, refusalIn, frameReadOf};
 
 // "Reading item i runs what opening runs, then 8": where the item's bytes stand.
 pub fn find(file: &[u8], item: Item) -> Found
@@ -41,9 +40,9 @@ fn refusal_of(found: Found) -> Refusal
     }
 }
 
-// "a second call with the same arguments answers the number, 0 for none"
+// "a second call with the same arguments answers the number, 0 for none", with its place
 pub fn refusal(file: &[u8], item: Item) -> Refusal
-    ensures { λ r. ⌜ r ≡ plain (itemRefusal (now (file .entry)) (itemOf item)) ⌝ }
+    ensures { λ r. ⌜ r ≡ refusalIn (now (file .entry)) (itemOf item) ⌝ }
 {
     refusal_of(find(file, item))
 }

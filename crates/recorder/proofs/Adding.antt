@@ -54,7 +54,7 @@ pub refused-add : (r : Recorder) (time x : ℤ) (s notes out : List ℕ) (e t : 
 unfolding addOf layout.add
 refused-add r time x s notes out e t n p q f h =
     let i : t ≡ ofZ w64 time = p ∙ ap (ofZ w64) q in
-    rw (← i) (refused-made r (stateOf r) notes out n _ _ (f ∙ ap plain (add-order (stateOf r) t e s notes (length out))) h)
+    rw (← i) (refused-made r (stateOf r) notes out n _ 0 _ (f ∙ ap plain (add-order (stateOf r) t e s notes (length out))) h)
 
 -- what is known where no number is given
 accepted : (r : Recorder) (t : ℕ) (s : List ℕ) (notes room : ℕ) (n : Refusal) → n ≡ plain (addRefusal (stateOf r) t s notes room)
@@ -86,11 +86,11 @@ added-by : (r : Recorder) (first last : ℤ) (s notes out u v : List ℕ) (e t :
         end = r .end + len;
       };
       piece = Given (r .end) len;
-    }) u v ≡ madeOf r out (layout.add (stateOf r) t e s notes (length out))
+    }) u v ≡ madeOf 0 r out (layout.add (stateOf r) t e s notes (length out))
 unfolding layout.add added stateOf stateIn numbersOf recorderOf toStage
 added-by r first last s notes out u v e t n len g h a b c d f =
     rw (a, b, c, d, f)
-    (accepted-made r (stateOf r) notes out n (firstOf (addLines (stateOf r) t e s notes (length out)))
+    (accepted-made r (stateOf r) notes out n (firstOf (addLines (stateOf r) t e s notes (length out))) 0
     (record {
       refused = 0;
       state = added (stateOf r) t e s;
@@ -128,6 +128,6 @@ added-made r time x z s notes out u v e t n f p q g h i j k l =
     added-by r (toZ w64 (ofZ w64 z)) (toZ w64 (ofZ w64 time)) s notes out u v e t n (16 + length s) g h (k ∙ j ∙ ap (toZ w64) i)
     (ap (toZ w64) (sym i′)) (sym (frame-length t e s))
     (w ∙ noted-by r t e (sinceFirst f t) s notes (ap (λ (x : ℕ). sinceFirst x t) i)) (y ∙ filled-is out (framePiece t e s) o)
-    ∙ ap (λ (x : ℕ). madeOf r out (layout.add (stateOf r) x e s notes (length out))) i′
+    ∙ ap (λ (x : ℕ). madeOf 0 r out (layout.add (stateOf r) x e s notes (length out))) i′
 
 pub ruleset addings = (add-asked, after-first, after-later, refused-add, frames-more, end-more, added-made)

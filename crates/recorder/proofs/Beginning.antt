@@ -11,10 +11,10 @@ use lib.IntN.{pos}
 use Rattle.number.specs.Number.{bytesOf, writeAt}
 use Rattle.layout.specs.Opening.{firstOf}
 use Rattle.layout.specs.Recorder as layout
-use Rattle.layout.specs.Recorder.{isFresh, beginLines, begun, firstPiece, sectionsOf, filled}
+use Rattle.layout.specs.Recorder.{isFresh, beginLines, beginPlace, begun, firstPiece, sectionsOf, filled}
 use Rattle.layout.proofs.Lines.{line-pass, line-holds}
 use Rattle.layout.proofs.Outputs.{write-is}
-use Rattle.refusal.specs.Refusal.{plain}
+use Rattle.refusal.specs.Refusal.{placed, plain}
 use Rattle.refusal.specs.declared.Refusal.{Refusal}
 use Rattle.beginning.specs.Pieces as beginning
 use Rattle.beginning.specs.Pieces.{pieceRefusal, pieceBy, firstPieceOf, refusalOf}
@@ -23,11 +23,11 @@ use Rattle.beginning.specs.declared.FirstPiece.the-variants as first
 use Rattle.beginning.proofs.Pieces.{writable}
 use Rattle.stages.specs.Stages.{stageOf, toStage}
 use Rattle.limits.specs.Limits.{stateIn}
-use Rattle.recorder.specs.Recorded.{numbersOf, stateOf, recorderOf, made, beginOf}
+use Rattle.recorder.specs.Recorded.{numbersOf, stateOf, recorderOf, made, madeBegun, beginOf}
 use Rattle.recorder.specs.declared.Recorder.{Recorder}
 use Rattle.stages.specs.declared.Stage.the-variants.{Running}
 use Rattle.recorder.specs.declared.Piece.the-variants.{Given, Refused}
-use Rattle.recorder.proofs.Answers.{refused-made, accepted-made}
+use Rattle.recorder.proofs.Answers.{refused-begun, accepted-made}
 
 -- four zeros
 zeros : bytesOf 4 0 ≡ replicate 4 0
@@ -37,10 +37,10 @@ zeros = refl
 -- 12 "the recorder's stage does not take this call"
 pub begin-stage : (r : Recorder) (s system notes out : List ℕ) (t : Bool) → t ≡ isFresh (stageOf (r .stage)) → t ≡ false
     → made (record { state = r; piece = Refused (plain 12) }) notes out ≡ beginOf r s system notes out
-unfolding beginOf layout.begin beginLines stateOf stateIn numbersOf
+unfolding beginOf layout.begin beginLines beginPlace stateOf stateIn numbersOf
 begin-stage r s system notes out t e h =
     let k : firstOf (beginLines (stateOf r) s system notes (length out)) ≡ 12 = line-holds 12 _ _ (rw (sym e ∙ h)) in
-    refused-made r (stateOf r) notes out (plain 12) _ _ (ap plain (sym k)) (λ z. omega arith)
+    refused-begun r (stateOf r) s system notes out (plain 12) _ _ (rw k) (λ z. omega arith)
 
 -- the stage takes the call: the lines behind 12 are those of the first piece
 module _ (r : Recorder) (s system notes out : List ℕ) (t : Bool) (te : t ≡ isFresh (stageOf (r .stage))) (th : t ≡ true) where
@@ -68,10 +68,11 @@ module _ (r : Recorder) (s system notes out : List ℕ) (t : Bool) (te : t ≡ i
             let w : _≡_ {A = ℕ} 0 1 = cc in
             absurd (omega arith)
         go (suc n) k =
-            let a : p ≡ first.Refused (plain (suc n)) = answers ∙ ap (λ (n : ℕ). pieceBy n s system out .answer) k in
+            let q : Refusal = placed (suc n) (beginPlace (suc n) s system) in
+            let a : p ≡ first.Refused q = answers ∙ ap (λ (n : ℕ). pieceBy n s system out .answer) k in
             let b : v ≡ out = leaves ∙ ap (λ (n : ℕ). pieceBy n s system out .out) k in
-            let c : m ≡ plain (suc n) = g ∙ ap refusalOf a in
-            rw b (refused-made r (stateOf r) notes out m _ _ (c ∙ ap plain (sym (behind ∙ k)))
+            let c : m ≡ q = g ∙ ap refusalOf a in
+            rw b (refused-begun r (stateOf r) s system notes out m _ _ (c ∙ ap (λ (i : ℕ). placed i (beginPlace i s system)) (sym (behind ∙ k)))
             (λ z. let d : m .number ≡ suc n = ap (λ (x : Refusal). x .number) c in omega arith))
 
     pub begun-made : (sections len : ℕ) (u : List ℕ) → p ≡ first.Written sections len → u ≡ writeAt notes 0 4 0
@@ -79,7 +80,7 @@ module _ (r : Recorder) (s system notes out : List ℕ) (t : Bool) (te : t ≡ i
           state = record { stage = Running; sections = sections; frames = 0; first = pos 0; last = pos 0; end = len };
           piece = Given 0 len;
         }) u v ≡ beginOf r s system notes out
-    unfolding beginOf layout.begin begun recorderOf toStage firstPieceOf pieceBy
+    unfolding beginOf madeBegun layout.begin begun recorderOf toStage firstPieceOf pieceBy
     begun-made sections len u f w = go (pieceRefusal s system (length notes) (length out)) refl
       where
         go : (n : ℕ) → pieceRefusal s system (length notes) (length out) ≡ n
@@ -96,7 +97,7 @@ module _ (r : Recorder) (s system notes out : List ℕ) (t : Bool) (te : t ≡ i
             let g : u ≡ sets notes 0 (replicate 4 0) = w ∙ write-is notes 0 4 0 (writable s system (length notes) (length out) k .notesFit)
             ∙ ap (sets notes 0) zeros in
             rw (b, c, d, g)
-            (accepted-made r (stateOf r) notes out (plain 0) _
+            (accepted-made r (stateOf r) notes out (plain 0) _ _
             (record {
               refused = 0;
               state = begun s system;
@@ -105,7 +106,7 @@ module _ (r : Recorder) (s system notes out : List ℕ) (t : Bool) (te : t ≡ i
             })
             (ap plain (sym (behind ∙ k))) refl refl)
         go (suc n) k =
-            let z : first.Refused (plain (suc n)) ≡ first.Written sections len =
+            let z : first.Refused (placed (suc n) (beginPlace (suc n) s system)) ≡ first.Written sections len =
             sym (answers ∙ ap (λ (n : ℕ). pieceBy n s system out .answer) k) ∙ f in
             let w : _≡_ {A = ℕ} 0 1 = cc in
             absurd (omega arith)

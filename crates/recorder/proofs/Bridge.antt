@@ -17,7 +17,7 @@ use Rattle.layout.specs.Recorder.{State, Step, answer, filled, firstAfter, adde
 use Rattle.layout.specs.Storage.{freshState}
 use Rattle.stages.specs.Stages.{stageOf, toStage}
 use Rattle.limits.specs.Limits.{stateIn}
-use Rattle.recorder.specs.Recorded.{numbersOf, stateOf, recorderOf, freshRecorder, answered, takenOf, madeOf, beginOf, addOf, closeOf}
+use Rattle.recorder.specs.Recorded.{numbersOf, stateOf, recorderOf, freshRecorder, answered, takenOf, madeOf, madeBegun, beginOf, addOf, closeOf}
 use Rattle.stages.specs.declared.Stage.{Stage}
 use Rattle.stages.specs.declared.Stage.the-variants.{Fresh, Running, Closing, Closed}
 use Rattle.recorder.specs.declared.Recorder.{Recorder}
@@ -58,16 +58,16 @@ fresh-state = refl
 -- ── One call ──
 
 -- refused, the state comes back equal; accepted, it is the step's
-taken-state : (m : ℕ) (r : Recorder) (notes out : List ℕ) (step : Step) → step .refused ≡ 0 → stateOf (recorderOf (step .state)) ≡ step .state
-    → stateOf (madeOf r out (answer m (stateOf r) notes step) .taken .state) ≡ answer m (stateOf r) notes step .state
+taken-state : (m at : ℕ) (r : Recorder) (notes out : List ℕ) (step : Step) → step .refused ≡ 0 → stateOf (recorderOf (step .state)) ≡ step .state
+    → stateOf (madeOf at r out (answer m (stateOf r) notes step) .taken .state) ≡ answer m (stateOf r) notes step .state
 unfolding madeOf takenOf answered answer
-taken-state zero r notes out step z e = rw z e
-taken-state (suc m) r notes out step z e = refl
+taken-state zero at r notes out step z e = rw z e
+taken-state (suc m) at r notes out step z e = refl
 
 pub begin-state : (r : Recorder) (setUp system notes out : List ℕ)
     → stateOf (beginOf r setUp system notes out .taken .state) ≡ layout.begin (stateOf r) setUp system notes (length out) .state
-unfolding beginOf layout.begin begun
-begin-state r setUp system notes out = taken-state (firstOf (beginLines (stateOf r) setUp system notes (length out))) r notes out _ refl
+unfolding beginOf madeBegun layout.begin begun
+begin-state r setUp system notes out = taken-state (firstOf (beginLines (stateOf r) setUp system notes (length out))) _ r notes out _ refl
     (state-back (begun setUp system) (fits-lit tt) (fits-lit tt))
 
 first-fits : (r : Recorder) (time : ℤ) → Held r → SFits w64 time → Fits w64 (firstAfter (stateOf r) (ofZ w64 time))
@@ -83,14 +83,14 @@ pub add-state : (r : Recorder) (time : ℤ) (exposure : ℕ) (sections notes out
     (length out) .state
 unfolding addOf layout.add added
 add-state r time exposure sections notes out h t =
-    taken-state (firstOf (addLines (stateOf r) (ofZ w64 time) exposure sections notes (length out))) r notes out _ refl
+    taken-state (firstOf (addLines (stateOf r) (ofZ w64 time) exposure sections notes (length out))) _ r notes out _ refl
     (state-back (added (stateOf r) (ofZ w64 time) exposure sections) (first-fits r time h t) (fits-ofZ t))
 
 pub close-state : (r : Recorder) (notes out : List ℕ) → Held r
     → stateOf (closeOf r notes out .taken .state) ≡ layout.close (stateOf r) notes (length out) .state
 unfolding closeOf layout.close closedBy stateOf stateIn numbersOf
 close-state r notes out h =
-    taken-state (firstOf (closeLines (stateOf r) notes (length out))) r notes out _ refl
+    taken-state (firstOf (closeLines (stateOf r) notes (length out))) _ r notes out _ refl
     (state-back (closedBy (stateOf r)) (fits-ofZ (h .firstFits)) (fits-ofZ (h .lastFits)))
 
 -- ── What the code can hold, it hands back ──
@@ -99,27 +99,27 @@ pub fresh-held : Held freshRecorder
 unfolding freshRecorder
 fresh-held = record { firstFits = sfits-lit tt; lastFits = sfits-lit tt }
 
-taken-held : (m : ℕ) (r : Recorder) (notes out : List ℕ) (step : Step) → step .refused ≡ 0 → Held r → Fits w64 (step .state .first)
-    → Fits w64 (step .state .last) → Held (madeOf r out (answer m (stateOf r) notes step) .taken .state)
+taken-held : (m at : ℕ) (r : Recorder) (notes out : List ℕ) (step : Step) → step .refused ≡ 0 → Held r → Fits w64 (step .state .first)
+    → Fits w64 (step .state .last) → Held (madeOf at r out (answer m (stateOf r) notes step) .taken .state)
 unfolding madeOf takenOf answered answer recorderOf
-taken-held zero r notes out step z h f l = rw z (record { firstFits = sfits-toZ f; lastFits = sfits-toZ l })
-taken-held (suc m) r notes out step z h f l = h
+taken-held zero at r notes out step z h f l = rw z (record { firstFits = sfits-toZ f; lastFits = sfits-toZ l })
+taken-held (suc m) at r notes out step z h f l = h
 
 pub begin-held : (r : Recorder) (setUp system notes out : List ℕ) → Held r → Held (beginOf r setUp system notes out .taken .state)
-unfolding beginOf layout.begin begun
-begin-held r setUp system notes out h = taken-held (firstOf (beginLines (stateOf r) setUp system notes (length out))) r notes out _ refl h
+unfolding beginOf madeBegun layout.begin begun
+begin-held r setUp system notes out h = taken-held (firstOf (beginLines (stateOf r) setUp system notes (length out))) _ r notes out _ refl h
     (fits-lit tt) (fits-lit tt)
 
 pub add-held : (r : Recorder) (time : ℤ) (exposure : ℕ) (sections notes out : List ℕ) → Held r → SFits w64 time
     → Held (addOf r time exposure sections notes out .taken .state)
 unfolding addOf layout.add added
 add-held r time exposure sections notes out h t =
-    taken-held (firstOf (addLines (stateOf r) (ofZ w64 time) exposure sections notes (length out))) r notes out _ refl h (first-fits r time h t)
+    taken-held (firstOf (addLines (stateOf r) (ofZ w64 time) exposure sections notes (length out))) _ r notes out _ refl h (first-fits r time h t)
     (fits-ofZ t)
 
 pub close-held : (r : Recorder) (notes out : List ℕ) → Held r → Held (closeOf r notes out .taken .state)
 unfolding closeOf layout.close closedBy stateOf stateIn numbersOf
-close-held r notes out h = taken-held (firstOf (closeLines (stateOf r) notes (length out))) r notes out _ refl h (fits-ofZ (h .firstFits))
+close-held r notes out h = taken-held (firstOf (closeLines (stateOf r) notes (length out))) _ r notes out _ refl h (fits-ofZ (h .firstFits))
     (fits-ofZ (h .lastFits))
 
 -- ── The piece, in the output ──

@@ -39,7 +39,7 @@ close-asked r m notes room = asked (λ st. firstOf (closeLines st notes room)) r
 pub refused-close : (r : Recorder) (notes out : List ℕ) (n : Refusal) → n ≡ plain (firstOf (closeLines (stateOf r) notes (length out)))
     → (n .number ≡ 0 → ⊥) → made (record { state = r; piece = Refused n }) notes out ≡ closeOf r notes out
 unfolding closeOf layout.close
-refused-close r notes out n e h = refused-made r (stateOf r) notes out n _ _ e h
+refused-close r notes out n e h = refused-made r (stateOf r) notes out n _ 0 _ e h
 
 -- what is known where no number is given
 closes : (r : Recorder) (notes : List ℕ) (room : ℕ) (n : Refusal) → n ≡ plain (firstOf (closeLines (stateOf r) notes room)) → n .number ≡ 0
@@ -93,7 +93,7 @@ closed-made r notes out x n p at len s k e h q t f a b d =
     let g : s ≡ toStage (stageAfter (pieceNumber (stageOf (r .stage)))) = t ∙ ap (λ (x : ℕ). toStage (stageAfter x)) q in
     let c : length (k .bytes) ≤ length out = rw f at (closes r notes (length out) n e h .fits) in
     let y : x ≡ filled out (k .bytes) = d ∙ filled-is out (k .bytes) c in
-    rw (a, b, y, ← f, g) (accepted-made r (stateOf r) notes out n (firstOf (closeLines (stateOf r) notes (length out)))
+    rw (a, b, y, ← f, g) (accepted-made r (stateOf r) notes out n (firstOf (closeLines (stateOf r) notes (length out))) 0
     (record { refused = 0; state = closedBy (stateOf r); piece = closingPiece (stateOf r) notes; notes = notes }) e h refl)
 
 pub closed-index : (r : Recorder) (notes out x : List ℕ) (s : Stage) (n : Refusal) (p i : ℕ)

@@ -6,8 +6,8 @@ use lib.IntN.{ℤ, pos}
 use mir.Syntax.{w64}
 use mir.Val.{ofZ, toZ}
 use Rattle.layout.specs.Recorder as layout
-use Rattle.layout.specs.Recorder.{State, Step, filled}
-use Rattle.refusal.specs.Refusal.{plain}
+use Rattle.layout.specs.Recorder.{State, Step, filled, beginPlace}
+use Rattle.refusal.specs.Refusal.{placed}
 use Rattle.stages.specs.declared.Stage.the-variants.{Fresh}
 use Rattle.recorder.specs.declared.Recorder.{Recorder}
 use Rattle.recorder.specs.declared.Piece.the-variants.{Given, Refused}
@@ -59,24 +59,29 @@ pub record Made : Type 0 where
 abbrev pub made : Taken → (notes out : List ℕ) → Made
 made t notes out = record { taken = t; notes = notes; out = out }
 
--- refused: the same recorder and the number; accepted: the step's state, and the place and length of its piece
-unfoldable pub answered : (refused : ℕ) → Recorder → Step → Taken
-answered zero self step = record { state = recorderOf (step .state); piece = Given (step .piece .place) (length (step .piece .bytes)) }
-answered (suc n) self step = record { state = self; piece = Refused (plain (suc n)) }
+-- refused: the same recorder, the number and its place; accepted: the step's state, and the place and length of its piece
+unfoldable pub answered : (refused at : ℕ) → Recorder → Step → Taken
+answered zero at self step = record { state = recorderOf (step .state); piece = Given (step .piece .place) (length (step .piece .bytes)) }
+answered (suc n) at self step = record { state = self; piece = Refused (placed (suc n) at) }
 
-unfoldable pub takenOf : Recorder → Step → Taken
-takenOf self step = answered (step .refused) self step
+unfoldable pub takenOf : (at : ℕ) → Recorder → Step → Taken
+takenOf at self step = answered (step .refused) at self step
 
 -- the output is filled from its start by the piece, which a refusal leaves empty
-unfoldable pub madeOf : Recorder → (out : List ℕ) → Step → Made
-madeOf self out step = made (takenOf self step) (step .notes) (filled out (step .piece .bytes))
+unfoldable pub madeOf : (at : ℕ) → Recorder → (out : List ℕ) → Step → Made
+madeOf at self out step = made (takenOf at self step) (step .notes) (filled out (step .piece .bytes))
+
+-- to begin: 10 and 3 carry a place in the set-up list, 4 in the table
+unfoldable pub madeBegun : Recorder → (setUp system out : List ℕ) → Step → Made
+madeBegun self setUp system out step = madeOf (beginPlace (step .refused) setUp system) self out step
 
 unfoldable pub beginOf : Recorder → (setUp system notes out : List ℕ) → Made
-beginOf self setUp system notes out = madeOf self out (layout.begin (stateOf self) setUp system notes (length out))
+beginOf self setUp system notes out = madeBegun self setUp system out (layout.begin (stateOf self) setUp system notes (length out))
 
+-- no number of the other calls carries a place
 unfoldable pub addOf : Recorder → (time : ℤ) → (exposure : ℕ) → (sections notes out : List ℕ) → Made
 addOf self time exposure sections notes out =
-    madeOf self out (layout.add (stateOf self) (ofZ w64 time) exposure sections notes (length out))
+    madeOf 0 self out (layout.add (stateOf self) (ofZ w64 time) exposure sections notes (length out))
 
 unfoldable pub closeOf : Recorder → (notes out : List ℕ) → Made
-closeOf self notes out = madeOf self out (layout.close (stateOf self) notes (length out))
+closeOf self notes out = madeOf 0 self out (layout.close (stateOf self) notes (length out))

@@ -21,7 +21,7 @@ pub struct Recorder {
     pub end: u64,
 }
 
-// A place in the file and the number of bytes, which stand at the start of the lent output; or the refusal number.
+// A place in the file and the number of bytes, which stand at the start of the lent output; or the refusal.
 pub enum Piece {
     Given { place: u64, length: usize },
     Refused(Refusal),
@@ -47,7 +47,8 @@ impl Recorder {
         }
     }
 
-    // To begin: 12, 10, 3, 4, 9. "Beginning writes four zeros at the start of the lent notes."
+    // To begin: 12, 10, 3, 4, 9; the places of 10 and 3 count from the start of the set-up list, that of 4 from the start of the table. "Beginning
+    // writes four zeros at the start of the lent notes."
     pub fn begin(self, list: &[u8], system: &[u8], notes: &mut [u8], out: &mut [u8]) -> Taken
         ensures { λ r. ⌜ made r (now (notes .exit)) (now (out .exit)) ≡ beginOf self (now (list .entry)) (now (system .entry)) (now (notes .entry)) (now (out .entry)) ⌝ }
     {

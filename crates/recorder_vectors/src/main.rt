@@ -3,6 +3,7 @@
 use recorder::Piece;
 use recorder::Recorder;
 use recorder::Taken;
+use refusal::Refusal;
 use stages::Stage;
 use vector::lend::lent;
 use vector::print::no_vector;
@@ -11,12 +12,21 @@ use vector::print::say;
 use vector::print::with;
 use vector::print::with_check;
 use vector::print::with_time;
+use vector::sweep::Tally;
+use vector::sweep::line;
+use vector::sweep::turn_bytes;
+use vector::sweep::turn_length;
+use vector::sweep::turns;
 
 const ADD: u8 = b'a';
 
 const BEGIN: u8 = b'b';
 
 const CLOSE: u8 = b'c';
+
+const SWEEP_OF_LIST: u8 = b'L';
+
+const SWEEP_OF_TABLE: u8 = b'T';
 
 // The bytes of a state and of the lengths of notes and output.
 const STATE: usize = 46;
@@ -155,6 +165,74 @@ fn run(kind: u8, fields: &[u8]) {
     }
 }
 
+fn refusal_of(piece: Piece) -> Refusal {
+    if let Piece::Refused(refusal) = piece {
+        return refusal;
+    }
+    Refusal::NONE
+}
+
+fn began(setup: &[u8], system: &[u8]) -> Refusal {
+    let mut notes = [0; 4];
+    let mut out = [0; 512];
+    let taken = Recorder::new().begin(setup, system, &mut notes, &mut out);
+    let given = taken.piece;
+    refusal_of(given)
+}
+
+// A sweep changes the set-up list or the system table, and leaves the other as it is.
+fn tried(kind: u8, bytes: &[u8], other: &[u8], before: Tally) -> Tally {
+    if kind == SWEEP_OF_LIST {
+        return vector::sweep::tried(before, began(bytes, other));
+    }
+    vector::sweep::tried(before, began(other, bytes))
+}
+
+// Each turn of a sweep.
+fn sweep(kind: u8, base: &[u8], other: &[u8], values: &[u8]) {
+    let mut tally = Tally::NONE;
+    let mut turn = 0;
+    let end = turns(base.len());
+    while turn < end {
+        let bytes = turn_bytes(base, values, turn);
+        let n = turn_length(base.len(), turn);
+        tally = tried(kind, &bytes[..n], other, tally);
+        turn += 1;
+    }
+    line(tally);
+}
+
+// What a sweep leaves as it is, and behind it what it changes.
+fn swept_by(kind: u8, values: &[u8], fields: &[u8]) {
+    if fields.len() < 2 {
+        no_vector();
+        return;
+    }
+    let length = number::read(fields, 0, 2) as usize;
+    let given = &fields[2..];
+    if given.len() < length {
+        no_vector();
+        return;
+    }
+    sweep(kind, &given[length..], &given[..length], values);
+}
+
+// The values of a sweep come first.
+fn swept(kind: u8, fields: &[u8]) {
+    if fields.len() < 1 {
+        no_vector();
+        return;
+    }
+    let length = number::read(fields, 0, 1) as usize;
+    let given = &fields[1..];
+    if given.len() < length {
+        no_vector();
+        return;
+    }
+    let rest = &given[length..];
+    swept_by(kind, &given[..length], rest);
+}
+
 // The call that a vector holds, by its first byte.
 fn answer(vector: &[u8]) {
     if vector.len() == 0 {
@@ -164,6 +242,7 @@ fn answer(vector: &[u8]) {
     let fields = &vector[1..];
     match vector[0] {
         ADD | BEGIN | CLOSE => run(vector[0], fields),
+        SWEEP_OF_LIST | SWEEP_OF_TABLE => swept(vector[0], fields),
         _ => no_vector(),
     }
 }

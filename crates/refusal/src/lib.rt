@@ -2,7 +2,8 @@
 ghost use mathlib.Core.Path.{_≡_};
 ghost use Rattle.refusal.specs.Refusal.{placed};
 
-// A refusal's number, and the place that it carries: 11 the change's, from 0; the others carry none, which is 0.
+// A refusal's number, and the place that it carries: 3, 4, 7 and 10 the position of the first fault in the lent bytes, 11 the change's number, from 0;
+// the others carry none, which is 0.
 pub struct Refusal {
     pub number: u8,
     pub place: usize,

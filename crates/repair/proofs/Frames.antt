@@ -25,7 +25,7 @@ use Rattle.layout.proofs.Orders.{no-lines}
 use Rattle.layout.proofs.Outputs.{sets-append, filled-is}
 use Rattle.layout.proofs.Walks.{Walked, walk-gives, took, walk-exactly}
 use Rattle.frames.proofs.Walks.{walk-first, by-first, length-index}
-use Rattle.refusal.specs.Refusal.{plain}
+use Rattle.refusal.specs.Refusal.{placed, plain}
 use Rattle.repair.specs.Repaired.{made, answerOf, madeOf, commonWith, commonBehind, walkedAll, walkedIn, Lengths, framesIn, alike, alikeIn, listed, listedIn, entriesIn, indexIn, tailed, tailOf, walkLines, keeping, walkRepaired, framesRepaired}
 use Rattle.repair.proofs.Lengths.{all-listed}
 use Rattle.repair.specs.declared.Repaired.the-variants.{Kept, Refused}
@@ -55,15 +55,15 @@ walked-ill w start e = go (inOrder (w .frames)) e
 -- ── Refused ──
 
 -- a refused call answers its number and leaves the output
-pub refused-made : (out : List ℕ) (refused n : ℕ) (r : Repair) → refused ≡ suc n
-    → made (Refused (plain (suc n))) out ≡ madeOf out (repairAnswer refused r)
+pub refused-made : (p : ℕ) (out : List ℕ) (refused n : ℕ) (r : Repair) → refused ≡ suc n
+    → made (Refused (placed (suc n) p)) out ≡ madeOf p out (repairAnswer refused r)
 unfolding madeOf repairAnswer answerOf filled
-refused-made out refused n r e = rw e
+refused-made p out refused n r e = rw e
 
 refused-walk : (w : Walk) (start n : ℕ) (out : List ℕ) → firstOf (walkLines w start (length out)) ≡ suc n
     → made (Refused (plain (suc n))) out ≡ walkRepaired w start out
 unfolding walkRepaired
-refused-walk w start n out e = refused-made out (firstOf (walkLines w start (length out))) n (keeping w start) e
+refused-walk w start n out e = refused-made 0 out (firstOf (walkLines w start (length out))) n (keeping w start) e
 
 clock-made : (w : Walk) (start : ℕ) (out : List ℕ) → walkedAll w start ≡ OutOfOrder → made (Refused (plain 13)) out ≡ walkRepaired w start out
 unfolding walkLines

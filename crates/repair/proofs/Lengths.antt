@@ -127,7 +127,7 @@ kept-stops f before ls k start first last left place count common r late w p q s
 
     go : (x : Place) (b : Bool) (c d m : ℕ) → frameEnd f place k ≡ x → stepBy x f first last place ≡ Stop b
         → cond b OutOfOrder (InOrder count place common) ≡ InOrder c d m → ls ≡ kept f k 1000000 start 0 before
-    go Broken b c d m g v o = sym (kept-stopped f ls k left place count (walk-stop left k (drop place f) (not-ended f place k g))) ∙ e
+    go Broken b c d m g v o = sym (kept-stopped f ls k left place count (walk-stop left k (drop place f) (rw (not-ended f place k g .1)))) ∙ e
     go (End next) b c d m g v o = told (follows first last (readAt f (place + 4) 8)) b next c d m v o
 
 pub kept-goes : (f ls all : List ℕ) (k first last left place count next t : ℕ) (new : List ℕ) (r : Step) → ((i : ℕ) → Fits w8 (getD f i 0))

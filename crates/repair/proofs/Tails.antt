@@ -84,8 +84,8 @@ unfolding framesIn frameEnd endOf stopped longer
 stands f k left place h e = go (frame k (drop place f)) refl
   where
     go : (p : Parsed Frame) → frame k (drop place f) ≡ p → (next : ℕ) × (frameEnd f place k ≡ End next) × (framesIn f k (left - 1) next ≡ left - 1)
-    go bad g =
-        let z : 0 ≡ left = rw (walk-stop left k (drop place f) g) at e in
+    go (bad m) g =
+        let z : 0 ≡ left = rw (walk-stop left k (drop place f) (rw g)) at e in
         absurd (omega arith)
     go (good x n) g =
         let m : suc (length (walk (left - 1) k (drop (place + n) f) .frames)) ≡ left = rw (walk-cons f k left place x n h g) at e in

@@ -81,7 +81,7 @@ walk-end : (f : List ℕ) (k first left last count common place : ℕ) → frame
     → walkedFrom f k first left last count common place ≡ InOrder count place common
 unfolding walkedFrom
 walk-end f k first left last count common place p =
-    rw (walk-stop left k (drop place f) (not-ended f place k p)) (behind-stopped first last count common place)
+    rw (walk-stop left k (drop place f) (rw (not-ended f place k p .1))) (behind-stopped first last count common place)
 
 -- a frame more, and the walk behind it
 behind-longer : (w : Walk) (x : Frame) (n first last count common place : ℕ) → n ≡ length (frameBytes x)

@@ -9,13 +9,13 @@ use lib.Dec.{leb, ltb, eqb}
 use Rattle.number.specs.Number.{bytesOf, readAt}
 use Rattle.layout.specs.Recording.{Frame, frameBytes, mostFrames, follows, follow, inOrder, entriesBytes, indexBytes, indexLength, tableBytes}
 use Rattle.layout.specs.Reading.{Walk, walk}
-use Rattle.layout.specs.Opening.{Line, line, firstOf}
+use Rattle.layout.specs.Opening.{Line, line, firstOf, openingPlace}
 use Rattle.layout.specs.Recorder.{tooLong, noRoom, filled}
-use Rattle.layout.specs.Repair.{Repair, repairAnswer, repair}
+use Rattle.layout.specs.Repair.{Repair, repairAnswer, repairRefusal, repair}
 use Rattle.frames.specs.Frames.{frameEnd}
 use Rattle.parts.specs.declared.Place.{Place}
 use Rattle.parts.specs.declared.Place.the-variants.{End, Broken}
-use Rattle.refusal.specs.Refusal.{plain}
+use Rattle.refusal.specs.Refusal.{placed}
 use Rattle.repair.specs.declared.Repaired.{Repaired}
 use Rattle.repair.specs.declared.Repaired.the-variants.{Kept, Refused}
 use Rattle.repair.specs.declared.Step.{Step}
@@ -33,17 +33,18 @@ pub record Made : Type 0 where
 abbrev pub made : Repaired → List ℕ → Made
 made answer out = record { answer = answer; out = out }
 
--- the kept length, the three header fields and the tail's length; or the refusal number
-unfoldable pub answerOf : (refused : ℕ) → Repair → Repaired
-answerOf zero r = Kept (r .kept) (r .count) (r .index) (r .user) (length (r .tail))
-answerOf (suc n) r = Refused (plain (suc n))
+-- the kept length, the three header fields and the tail's length; or the refusal number with its place
+unfoldable pub answerOf : (refused place : ℕ) → Repair → Repaired
+answerOf zero p r = Kept (r .kept) (r .count) (r .index) (r .user) (length (r .tail))
+answerOf (suc n) p r = Refused (placed (suc n) p)
 
 -- "An accepted call fills a lent output from its start and keeps the bytes after the answer"; a refused one has no tail
-unfoldable pub madeOf : (out : List ℕ) → Repair → Made
-madeOf out r = made (answerOf (r .refused) r) (filled out (r .tail))
+unfoldable pub madeOf : (place : ℕ) → (out : List ℕ) → Repair → Made
+madeOf p out r = made (answerOf (r .refused) p r) (filled out (r .tail))
 
+-- 3 and 4 have opening's place, the others none
 unfoldable pub repairOf : (f out : List ℕ) → Made
-repairOf f out = madeOf out (repair f (length out))
+repairOf f out = madeOf (openingPlace (repairRefusal f (length out)) f) out (repair f (length out))
 
 -- ── The walk ──
 
@@ -174,7 +175,7 @@ keeping w start =
     }
 
 unfoldable pub walkRepaired : Walk → (start : ℕ) → (out : List ℕ) → Made
-walkRepaired w start out = madeOf out (repairAnswer (firstOf (walkLines w start (length out))) (keeping w start))
+walkRepaired w start out = madeOf 0 out (repairAnswer (firstOf (walkLines w start (length out))) (keeping w start))
 
 unfoldable pub framesRepaired : List ℕ → (sections start : ℕ) → (out : List ℕ) → Made
 framesRepaired f sections start out = walkRepaired (walk mostFrames sections (drop start f)) start out

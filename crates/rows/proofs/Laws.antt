@@ -13,7 +13,7 @@ use mir.Val.{Fits}
 use borrow.Author.Needs.{needs}
 use borrow.Author.Tests.{le-leb, eq-eqb, ne-eqb}
 use Rattle.number.specs.Number.{numberOf, readAt}
-use Rattle.layout.specs.Reading.{Parsed, bad, good, onward, _then_, give, number, block, string, times}
+use Rattle.layout.specs.Reading.{Parsed, bad, good, behind, _then_, give, number, block, string, times}
 use Rattle.strings.specs.Strings.{textOf}
 use Rattle.parts.specs.Parts.{endOf}
 use Rattle.rows.specs.Rows.{entry, rest, rowName, rowOf}
@@ -33,7 +33,7 @@ use Rattle.parts.proofs.Readers.{then-bad, then-onward, then-end, number-there,
 
 pub ends-broken : (s : List ℕ) (at : ℕ) (r : Text) → r ≡ textOf (string (drop at s)) → r ≡ text.Broken → place.Broken ≡ endOf at (string (drop at s))
 unfolding endOf
-ends-broken s at r e f = rw (textOf-broken (string (drop at s)) (sym e ∙ f))
+ends-broken s at r e f = rw (textOf-broken (string (drop at s)) (sym e ∙ f) .1)
 
 pub ends-whole : (s : List ℕ) (at n : ℕ) (r : Text) → r ≡ textOf (string (drop at s)) → r ≡ text.Whole n
     → place.End (at + 1 + n) ≡ endOf at (string (drop at s))
@@ -81,7 +81,7 @@ entry-none s at h e =
 pub entries-broken : (s : List ℕ) (at : ℕ) (r : Place) → r ≡ endOf at (entry (drop at s)) → r ≡ place.Broken
     → place.Broken ≡ endOf at ((entry then λ seen. entry) (drop at s))
 unfolding endOf
-entries-broken s at r e f = rw (then-bad entry (λ seen. entry) (drop at s) (end-bad (entry (drop at s)) at (sym e ∙ f)))
+entries-broken s at r e f = rw (then-bad entry (λ seen. entry) (drop at s) (end-bad (entry (drop at s)) at (sym e ∙ f) .1))
 
 pub entries-next : (s : List ℕ) (at next : ℕ) (r t : Place) → r ≡ endOf at (entry (drop at s)) → r ≡ place.End next
     → t ≡ endOf next (entry (drop next s)) → t ≡ endOf at ((entry then λ seen. entry) (drop at s))
@@ -110,9 +110,9 @@ rest-change s at k r e f = rw e f
 
 -- ── A row ──
 
-row-bad : (k : Row) (s : List ℕ) (at n : ℕ) (v : List ℕ) → string (drop at s) ≡ good v (1 + n) → rest k (drop (at + 1 + n) s) ≡ bad
-    → rowName k (drop at s) ≡ bad
-unfolding rowName onward
+row-bad : (k : Row) (s : List ℕ) (at n : ℕ) (v : List ℕ) {m : ℕ} → string (drop at s) ≡ good v (1 + n) → rest k (drop (at + 1 + n) s) ≡ bad m
+    → rowName k (drop at s) ≡ bad (1 + n + m)
+unfolding rowName behind
 row-bad k s at n v e f =
     let q : at + (1 + n) ≡ at + 1 + n = omega arith in
     then-onward string (λ name. rest k then λ r. give name) (drop at s) v (1 + n) e
@@ -120,7 +120,7 @@ row-bad k s at n v e f =
 
 row-good : (k : Row) (s : List ℕ) (at n m : ℕ) (v x : List ℕ) → string (drop at s) ≡ good v (1 + n) → rest k (drop (at + 1 + n) s) ≡ good x m
     → rowName k (drop at s) ≡ good v (1 + n + m)
-unfolding rowName onward give
+unfolding rowName behind give
 row-good k s at n m v x e f =
     let q : at + (1 + n) ≡ at + 1 + n = omega arith in
     then-onward string (λ name. rest k then λ r. give name) (drop at s) v (1 + n) e
@@ -129,14 +129,14 @@ row-good k s at n m v x e f =
 pub row-no-name : (k : Row) (s : List ℕ) (at : ℕ) (r : Text) → r ≡ textOf (string (drop at s)) → r ≡ text.Broken
     → rowPlace.Broken ≡ rowOf at (rowName k (drop at s))
 unfolding rowName rowOf
-row-no-name k s at r e f = rw (then-bad string (λ name. rest k then λ r. give name) (drop at s) (textOf-broken (string (drop at s)) (sym e ∙ f)))
+row-no-name k s at r e f = rw (then-bad string (λ name. rest k then λ r. give name) (drop at s) (textOf-broken (string (drop at s)) (sym e ∙ f) .1))
 
 pub row-no-rest : (k : Row) (s : List ℕ) (at n : ℕ) (r : Text) (t : Place) → r ≡ textOf (string (drop at s)) → r ≡ text.Whole n
     → t ≡ endOf (at + 1 + n) (rest k (drop (at + 1 + n) s)) → t ≡ place.Broken → rowPlace.Broken ≡ rowOf at (rowName k (drop at s))
 unfolding rowOf
 row-no-rest k s at n r t e f g h =
     rw (row-bad k s at n (take n (drop (at + 1) s)) (string-parts s at n (sym e ∙ f) .2)
-    (end-bad (rest k (drop (at + 1 + n) s)) (at + 1 + n) (sym g ∙ h)))
+    (end-bad (rest k (drop (at + 1 + n) s)) (at + 1 + n) (sym g ∙ h) .1))
 
 pub row-whole : (k : Row) (s : List ℕ) (at n end : ℕ) (r : Text) (t : Place) → r ≡ textOf (string (drop at s)) → r ≡ text.Whole n
     → t ≡ endOf (at + 1 + n) (rest k (drop (at + 1 + n) s)) → t ≡ place.End end → rowPlace.Whole n end ≡ rowOf at (rowName k (drop at s))
@@ -177,9 +177,9 @@ row-parts k s at n end e = go (textOf (string (drop at s))) refl
     go text.Broken f = let z : _≡_ {A = ℕ} 0 1 = cc (row-no-name k s at text.Broken (sym f) refl) in absurd (omega arith)
     go (text.Whole i) f = go-rest i (endOf (at + 1 + i) (rest k (drop (at + 1 + i) s))) f refl
 
-pub row-broken : (p : Parsed (List ℕ)) (at : ℕ) → rowOf at p ≡ rowPlace.Broken → p ≡ bad
+pub row-broken : (p : Parsed (List ℕ)) (at : ℕ) → rowOf at p ≡ rowPlace.Broken → (m : ℕ) × (p ≡ bad m)
 unfolding rowOf
-row-broken bad at e = refl
+row-broken (bad m) at e = (m, refl)
 row-broken (good v n) at e = let z : _≡_ {A = ℕ} 0 1 = cc in absurd (omega arith)
 
 -- ── Rows behind each other ──
@@ -190,7 +190,7 @@ module _ (k : Row) (s : List ℕ) (at left : ℕ) (all : Place) where
 
   pub rows-broken : (r : RowPlace) → 0 < left → r ≡ rowOf at (rowName k (drop at s)) → r ≡ rowPlace.Broken
       → endOf at (times left (rowName k) (drop at s)) ≡ all → place.Broken ≡ all
-  rows-broken r h e f g = sym (times-stop (rowName k) left s at h (row-broken (rowName k (drop at s)) at (sym e ∙ f))) ∙ g
+  rows-broken r h e f g = sym (times-stop (rowName k) left s at h (row-broken (rowName k (drop at s)) at (sym e ∙ f) .1)) ∙ g
 
   pub rows-step : (len end : ℕ) (r : RowPlace) → 0 < left → r ≡ rowOf at (rowName k (drop at s)) → r ≡ rowPlace.Whole len end
       → endOf at (times left (rowName k) (drop at s)) ≡ all → endOf end (times (left - 1) (rowName k) (drop end s)) ≡ all

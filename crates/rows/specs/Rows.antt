@@ -26,5 +26,5 @@ unfoldable pub rowName : Row → Reader (List ℕ)
 rowName k = string then λ name. rest k then λ r. give name
 
 unfoldable pub rowOf : (at : ℕ) → Parsed (List ℕ) → RowPlace
-rowOf at bad = rowPlace.Broken
+rowOf at (bad m) = rowPlace.Broken
 rowOf at (good name n) = rowPlace.Whole (length name) (at + n)

@@ -48,7 +48,7 @@ module _ {A B : Type 0} (k : Row) (make : List ℕ → List ℕ → A) (name : L
   found-step : (n : ℕ) (s : List ℕ) (i at : ℕ) (p : Parsed (List ℕ)) → rowName k (drop at s) ≡ p → ((j q : ℕ) → goes-by-found n s j q)
       → goes-by-found (suc n) s i at
   unfolding foundIn made rowWith onward
-  found-step n s i at bad e ih = rw (rows-none n (rowWith k make) (drop at s) (rw e), found-none name n (rowName k) s i at e) nil
+  found-step n s i at (bad j) e ih = rw (rows-none n (rowWith k make) (drop at s) (row-makes-none k make (drop at s) e), found-none name n (rowName k) s i at e) nil
   found-step n s i at (good v m) e ih =
       rw (
         rows-more n (rowWith k make) (drop at s) (make v (drop (1 + length v) (drop at s))) m (rw e),
@@ -131,7 +131,7 @@ among-found name s n i at =
 
 made-true : (p : Parsed Tag) → made (λ t. true) true p ≡ true
 unfolding made
-made-true bad = refl
+made-true (bad j) = refl
 made-true (good t n) = refl
 
 kept-by-place : (sheet : List ℕ) (k : ℕ) (t : Tag) → keptBy sheet (pair (changePlace sheet k (t .name)) t) ≡ tagWith (t .name)
@@ -170,7 +170,7 @@ module _ {A : Type 0} (k : Row) (make : List ℕ → List ℕ → A) (name : A �
       go : (r : Parsed (List ℕ)) → rowName k t ≡ r → ((t : List ℕ) (i : ℕ) → Lists place ps i (names n (rowName k) t)
           → beside (drop i ps) (rows n (rowWith k make) t) ≡ map (λ x. pair (place (name x)) x) (rows n (rowWith k make) t))
           → beside (drop i ps) (rows (suc n) (rowWith k make) t) ≡ map (λ x. pair (place (name x)) x) (rows (suc n) (rowWith k make) t)
-      go bad e ih = rw (rows-none n (rowWith k make) t (row-makes-none k make t e)) (beside-none (drop i ps))
+      go (bad j) e ih = rw (rows-none n (rowWith k make) t (row-makes-none k make t e)) (beside-none (drop i ps))
       go (good v m) e ih =
           let g : Lists place ps i (v ∷ names n (rowName k) (drop m t)) = rw (names-more n (rowName k) t v m e) at l in
           let h = g .room in
@@ -207,7 +207,7 @@ rows-whole {A} k make (suc n) t = go (rowName k t) refl (rows-whole k make n)
     go : (r : Parsed (List ℕ)) → rowName k t ≡ r
         → ((t : List ℕ) → rows (length (names n (rowName k) t)) (rowWith k make) t ≡ rows n (rowWith k make) t)
         → rows (length (names (suc n) (rowName k) t)) (rowWith k make) t ≡ rows (suc n) (rowWith k make) t
-    go bad e ih = rw (names-none n (rowName k) t e) (no-rows (rowWith k make) t ∙ sym (rows-none n (rowWith k make) t (row-makes-none k make t e)))
+    go (bad j) e ih = rw (names-none n (rowName k) t e) (no-rows (rowWith k make) t ∙ sym (rows-none n (rowWith k make) t (row-makes-none k make t e)))
     go (good v m) e ih =
         let x = row-read k make t v m e in
         rw (names-more n (rowName k) t v m e) (rows-more (length (names n (rowName k) (drop m t))) (rowWith k make) t _ m x

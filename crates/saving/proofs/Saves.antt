@@ -14,11 +14,11 @@ use mir.Syntax.{w64}
 use mir.Val.{Fits}
 use Rattle.number.proofs.Bytes.{both-true}
 use Rattle.layout.specs.Recording.{Tag, mostTags, within, distinct, tagNames, tableBytes}
-use Rattle.layout.specs.Reading.{Parsed, bad, good, _then_, only, times, exactly, number, tag, table, isBad, valueOr}
-use Rattle.layout.specs.Opening.{line, firstOf, frontLines, openingLines, refusal, shown, userOffset, readUser, badUser}
+use Rattle.layout.specs.Reading.{Parsed, bad, good, _then_, only, times, exactly, number, numberOfTags, tag, tableFault, table, isBad, valueOr, faultOf}
+use Rattle.layout.specs.Opening.{line, firstOf, frontLines, openingLines, refusal, openingPlace, shown, userOffset, readUser, badUser}
 use Rattle.layout.specs.Recorder.{filled, noRoom}
-use Rattle.layout.specs.Saving.{Change, change, changeNames, mostChanges, sheet, changesOf, someConflict, conflictPlace, userTags, newTable, saveLines, saveRefusal, saveAnswer, save}
-use Rattle.layout.proofs.Readers.{exactly-good, number-good}
+use Rattle.layout.specs.Saving.{Change, change, changeNames, mostChanges, numberOfChanges, sheetFault, sheet, changesOf, someConflict, conflictPlace, userTags, newTable, saveLines, savePlace, saveRefusal, saveAnswer, save}
+use Rattle.layout.proofs.Readers.{exactly-good, placed-good, number-good}
 use Rattle.layout.proofs.Lines.{line-pass, line-holds, opening-pass, opens-passes, lines-first}
 use Rattle.layout.proofs.Orders.{without, lines-other}
 use Rattle.names.specs.Names.{distinctNames}
@@ -58,15 +58,11 @@ use Rattle.sheet.proofs.Legal.{tags-are, changes-are}
 
 -- ── A save's answer ──
 
-answer-refused : (n place : ℕ) (ts : List Tag) (out : List ℕ) → (n ≡ 0 → ⊥) → (n ≡ 11 → ⊥)
-    → savedAs (saveAnswer n place ts) out ≡ outcome (saved.Refused (plain n)) out
+answer-refused : (n place : ℕ) (ts : List Tag) (out : List ℕ) → (n ≡ 0 → ⊥)
+    → savedAs (saveAnswer n place ts) out ≡ outcome (saved.Refused (placed n place)) out
 unfolding savedAs saveAnswer savedBy filled
-answer-refused zero place ts out z h = absurd (z refl)
-answer-refused (suc n) place ts out z h = rw (ne-eqb (suc n) 11 h)
-
-answer-conflict : (place : ℕ) (ts : List Tag) (out : List ℕ) → savedAs (saveAnswer 11 place ts) out ≡ outcome (saved.Refused (placed 11 place)) out
-unfolding savedAs saveAnswer savedBy filled
-answer-conflict place ts out = refl
+answer-refused zero place ts out z = absurd (z refl)
+answer-refused (suc n) place ts out z = refl
 
 answer-table : (place : ℕ) (ts : List Tag) (out : List ℕ) → savedAs (saveAnswer 0 place ts) out ≡ outcome (saved.Table (length (tableBytes ts)))
     (filled out (tableBytes ts))
@@ -75,52 +71,68 @@ answer-table place ts out = refl
 
 -- the answer goes by the first line that holds
 answer-by : (f bytes out : List ℕ) (r : ℕ) → saveRefusal f bytes (length out) ≡ r
-    → saveOf f bytes out ≡ savedAs (saveAnswer r (conflictPlace (userTags f) (changesOf bytes)) (newTable f bytes)) out
+    → saveOf f bytes out ≡ savedAs (saveAnswer r (savePlace r f bytes) (newTable f bytes)) out
 unfolding saveOf save
-answer-by f bytes out r e = ap (λ (z : ℕ). savedAs (saveAnswer z (conflictPlace (userTags f) (changesOf bytes)) (newTable f bytes)) out) e
+answer-by f bytes out r e = ap (λ (z : ℕ). savedAs (saveAnswer z (savePlace z f bytes) (newTable f bytes)) out) e
+
+-- refused with a number and its place
+answer-at : (f bytes out : List ℕ) (n p : ℕ) (q : Refusal) → saveRefusal f bytes (length out) ≡ n → (n ≡ 0 → ⊥) → savePlace n f bytes ≡ p
+    → q ≡ placed n p
+    → outcome (saved.Refused q) out ≡ saveOf f bytes out
+answer-at f bytes out n p q e z h i =
+    sym (answer-by f bytes out n e ∙ answer-refused n (savePlace n f bytes) (newTable f bytes) out z
+    ∙ ap (λ (k : Refusal). outcome (saved.Refused k) out) (ap (placed n) h ∙ sym i))
 
 -- 17, 9, or the new table
-answer-applied : (place : ℕ) (ts : List Tag) (out : List ℕ) → savedAs
-    (saveAnswer (firstOf (line 17 (ltb mostTags (length ts)) ∷ line 9 (noRoom (length out) (length (tableBytes ts))) ∷ [])) place ts)
-    out ≡ answered (appliedTo ts out)
+answer-applied : (place : ℕ → ℕ) (ts : List Tag) (out : List ℕ) → place 17 ≡ 0 → place 9 ≡ 0 → (r : ℕ)
+    → r ≡ firstOf (line 17 (ltb mostTags (length ts)) ∷ line 9 (noRoom (length out) (length (tableBytes ts))) ∷ [])
+    → savedAs (saveAnswer r (place r) ts) out ≡ answered (appliedTo ts out)
 unfolding answered appliedTo answerOf firstOf
-answer-applied place ts out = go (ltb mostTags (length ts)) (ltb (length out) (length (tableBytes ts)))
+answer-applied place ts out p q r e = rw e (go (ltb mostTags (length ts)) (ltb (length out) (length (tableBytes ts))))
   where
-    go : (a b : Bool) → savedAs (saveAnswer (firstOf (line 17 a ∷ line 9 b ∷ [])) place ts) out ≡ answered
+    plainly : (n : ℕ) → (n ≡ 0 → ⊥) → place n ≡ 0 → savedAs (saveAnswer n (place n) ts) out ≡ outcome (saved.Refused (plain n)) out
+    plainly n z h = answer-refused n (place n) ts out z ∙ ap (λ (k : ℕ). outcome (saved.Refused (placed n k)) out) h
+
+    go : (a b : Bool) → savedAs (saveAnswer (firstOf (line 17 a ∷ line 9 b ∷ [])) (place (firstOf (line 17 a ∷ line 9 b ∷ []))) ts) out ≡ answered
         (cond a (applying (applied.Refused (plain 17)) out) (cond b (applying (applied.Refused (plain 9)) out)
         (applying (applied.Table (length (tableBytes ts))) (filled out (tableBytes ts)))))
-    go true b = answer-refused 17 place ts out (λ z. omega arith) (λ z. omega arith)
-    go false true = answer-refused 9 place ts out (λ z. omega arith) (λ z. omega arith)
-    go false false = answer-table place ts out
+    go true b = plainly 17 (λ z. omega arith) p
+    go false true = plainly 9 (λ z. omega arith) q
+    go false false = answer-table (place 0) ts out
 
 -- ── A file that does not open ──
 
-not-eleven : (f : List ℕ) → refusal f ≡ 11 → ⊥
-unfolding refusal openingLines frontLines without
-not-eleven f e =
-    let z = lines-other (openingLines f) [] 11 refl (ap firstOf (append-nil (openingLines f)) ∙ e) .0 in
-    let o : _≡_ {A = ℕ} 0 11 = sym z ∙ e in
-    omega arith
+-- opening has no line of the save's own
+not-opened : (f : List ℕ) (n : ℕ) → without n (openingLines f) ≡ true → (0 ≡ n → ⊥) → refusal f ≡ n → ⊥
+unfolding refusal
+not-opened f n w h e =
+    let z = lines-other (openingLines f) [] n w (ap firstOf (append-nil (openingLines f)) ∙ e) .0 in
+    h (sym z ∙ e)
+
+opening-place : (f bytes : List ℕ) (n : ℕ) → refusal f ≡ n → savePlace n f bytes ≡ openingPlace n f
+unfolding openingLines frontLines without savePlace
+opening-place f bytes n e =
+    rw (
+      ne-eqb n 10 (λ z. not-opened f 10 refl (λ o. omega arith) (e ∙ z)),
+      ne-eqb n 11 (λ z. not-opened f 11 refl (λ o. omega arith) (e ∙ z)),
+    )
 
 pub save-refused : (f bytes out : List ℕ) (o : Opening) (n m : Refusal) → o ≡ openOf f → o ≡ openingAs.Refused n → m ≡ openRefusal o
     → outcome (saved.Refused m) out ≡ saveOf f bytes out
 unfolding saveRefusal saveLines refusal
 save-refused f bytes out o n m e g h =
     let (j, a, b) = open-refuses f n (sym e ∙ g) in
-    let c : m ≡ plain (suc j) = h ∙ ap openRefusal g ∙ a in
-    sym (answer-by f bytes out (suc j) (lines-first (openingLines f) _ j b)
-    ∙ answer-refused (suc j) _ _ out (λ z. omega arith) (λ z. not-eleven f (b ∙ z))
-    ∙ ap (λ (z : Refusal). outcome (saved.Refused z) out) (sym c))
+    answer-at f bytes out (suc j) (openingPlace (suc j) f) m (lines-first (openingLines f) _ j b) (λ z. omega arith) (opening-place f bytes (suc j) b)
+    (h ∙ ap openRefusal g ∙ a)
 
 -- ── The sheet ──
 
 sheet-read : (bytes : List ℕ) (cs : List Change) (m : ℕ) → exactly sheet bytes ≡ good cs m
     → (length cs ≤ 64) × (changesAt bytes 1 (length cs) ≡ cs) × (distinctNames bytes 1 (length cs) row.Change ≡ true)
-unfolding sheet
+unfolding sheet numberOfChanges
 sheet-read bytes cs m e =
     let (x, y) = only-parts (λ ds. distinct (changeNames ds)) (only (within 0 mostChanges) (number 1) then λ n. times n change) bytes cs m
-    (exactly-good (only (λ ds. distinct (changeNames ds)) (only (within 0 mostChanges) (number 1) then λ n. times n change)) bytes cs m e
-    .0) in
+    (placed-good sheetFault _ bytes cs m (exactly-good sheet bytes cs m e .0)) in
     then-parts (only (within 0 mostChanges) (number 1)) (λ n. times n change) bytes cs m x (λ c a k f g h.
     let p = only-parts (within 0 mostChanges) (number 1) bytes c a f in
     let l = leb-true c mostChanges (both-true (leb 0 c) (leb c mostChanges) (p .1) .1) in
@@ -135,16 +147,16 @@ sheet-known bytes s k e f = go (exactly sheet bytes) refl (sym e ∙ f)
   where
     go : (p : Parsed (List Change)) → exactly sheet bytes ≡ p → sheetOf p ≡ sheet.Whole k
         → (isBad p ≡ false) × (k ≤ 64) × (changesAt bytes 1 k ≡ valueOr [] p) × (distinctNames bytes 1 k row.Change ≡ true)
-    go bad g h = let z : _≡_ {A = ℕ} 0 1 = cc in absurd (omega arith)
+    go (bad j) g h = let z : _≡_ {A = ℕ} 0 1 = cc in absurd (omega arith)
     go (good cs m) g h =
         let (l, p, d) = sheet-read bytes cs m g in
         let q : length cs ≡ k = cc in
         (refl, omega arith, rw (← q) p, rw (← q) d)
 
-sheet-is-bad : (p : Parsed (List Change)) → sheetOf p ≡ sheet.Broken → isBad p ≡ true
-unfolding sheetOf
-sheet-is-bad bad e = refl
-sheet-is-bad (good cs n) e = let z : _≡_ {A = ℕ} 0 1 = cc in absurd (omega arith)
+sheet-is-bad : (p : Parsed (List Change)) (k : ℕ) → sheetOf p ≡ sheet.Broken k → (isBad p ≡ true) × (faultOf p ≡ k)
+unfolding sheetOf faultOf
+sheet-is-bad (bad j) k e = (refl, cc)
+sheet-is-bad (good cs n) k e = let z : _≡_ {A = ℕ} 0 1 = cc in absurd (omega arith)
 
 -- what the look tells
 agree-none : (b : Bool) (p : ℕ) → cond b (looked.Conflict p) looked.Agrees ≡ looked.Agrees → b ≡ false
@@ -164,21 +176,23 @@ user-table f o = go (exactly table (drop (userOffset f) f)) refl (opens-passes f
   where
     go : (p : Parsed (List Tag)) → exactly table (drop (userOffset f) f) ≡ p → isBad p ≡ false
         → (m : ℕ) × (table (drop (userOffset f) f) ≡ good (valueOr [] p) m) × (m ≡ length (drop (userOffset f) f))
-    go bad e b = let z : _≡_ {A = ℕ} 0 1 = cc in absurd (omega arith)
+    go (bad j) e b = let z : _≡_ {A = ℕ} 0 1 = cc in absurd (omega arith)
     go (good ts n) e b = let (x, y) = exactly-good table (drop (userOffset f) f) ts n e in (n, x, y)
 
 table-few : (t : List ℕ) (ts : List Tag) (m : ℕ) → table t ≡ good ts m → length ts ≤ 1000
-unfolding table
+unfolding table numberOfTags
 table-few t ts m e =
     then-parts (only (within 0 mostTags) (number 4)) (λ n. times n tag) t ts m
-    (only-parts (λ ts. distinct (tagNames ts)) (only (within 0 mostTags) (number 4) then λ n. times n tag) t ts m e .0) (λ c a k f g h.
+    (only-parts (λ ts. distinct (tagNames ts)) (only (within 0 mostTags) (number 4) then λ n. times n tag) t ts m (placed-good tableFault _ t ts m e) .0)
+    (λ c a k f g h.
     let l = leb-true c mostTags (both-true (leb 0 c) (leb c mostTags) (only-parts (within 0 mostTags) (number 4) t c a f .1) .1) in
     let o = times-length tag c (drop a t) ts k g in
     omega arith)
 
 table-apart : (t : List ℕ) (ts : List Tag) (m : ℕ) → table t ≡ good ts m → distinct (tagNames ts) ≡ true
-unfolding table
-table-apart t ts m e = only-parts (λ ts. distinct (tagNames ts)) (only (within 0 mostTags) (number 4) then λ n. times n tag) t ts m e .1
+unfolding table numberOfTags
+table-apart t ts m e =
+    only-parts (λ ts. distinct (tagNames ts)) (only (within 0 mostTags) (number 4) then λ n. times n tag) t ts m (placed-good tableFault _ t ts m e) .1
 
 module _ (f : List ℕ) (o : Opening) (held : Held) (e : o ≡ openOf f) (g : o ≡ openingAs.Opened held) where
   opens : (refusal f ≡ 0) × (held ≡ heldOf f)
@@ -215,11 +229,13 @@ module _ (f : List ℕ) (o : Opening) (held : Held) (e : o ≡ openOf f) (g : o 
   unfolding saveRefusal saveLines
   opened-lines bytes room = opening-pass f _ (opens-passes f (opens .0))
 
-  pub save-bad-sheet : (bytes out : List ℕ) (s : Sheet) → s ≡ sheetOf (exactly sheet bytes) → s ≡ sheet.Broken
-      → outcome (saved.Refused (plain 10)) out ≡ saveOf f bytes out
-  save-bad-sheet bytes out s h i =
-      sym (answer-by f bytes out 10 (opened-lines bytes (length out) ∙ line-holds 10 _ _ (sheet-is-bad (exactly sheet bytes) (sym h ∙ i)))
-      ∙ answer-refused 10 _ _ out (λ z. omega arith) (λ z. omega arith))
+  pub save-bad-sheet : (bytes out : List ℕ) (s : Sheet) (k : ℕ) (q : Refusal) → s ≡ sheetOf (exactly sheet bytes) → s ≡ sheet.Broken k
+      → q ≡ placed 10 k
+      → outcome (saved.Refused q) out ≡ saveOf f bytes out
+  unfolding savePlace
+  save-bad-sheet bytes out s k q h i j =
+      let (a, b) = sheet-is-bad (exactly sheet bytes) k (sym h ∙ i) in
+      answer-at f bytes out 10 k q (opened-lines bytes (length out) ∙ line-holds 10 _ _ a) (λ z. omega arith) b j
 
   module _ (bytes : List ℕ) (s : Sheet) (k : ℕ) (h : s ≡ sheetOf (exactly sheet bytes)) (i : s ≡ sheet.Whole k) where
     pub save-legal : Legal f (held .user + 4) (held .«user_tags») bytes k
@@ -243,20 +259,22 @@ module _ (f : List ℕ) (o : Opening) (held : Held) (e : o ≡ openOf f) (g : o 
 
     conflict-is : (out : List ℕ) (p : ℕ) → lookedAt f (held .user + 4) (held .«user_tags») bytes k ≡ looked.Conflict p
         → outcome (saved.Refused (placed 11 p)) out ≡ saveOf f bytes out
+    unfolding savePlace
     conflict-is out p b =
         let (c, d) = conflict-some (someConflict (userTags f) (changesOf bytes)) _ p (sym look-is ∙ b) in
         let j : conflictPlace (userTags f) (changesOf bytes) ≡ p = omega arith in
-        sym (answer-by f bytes out 11 (opened-lines bytes (length out) ∙ line-pass 10 _ _ (sheet-known bytes s k h i .0) ∙ line-holds 11 _ _ c)
-        ∙ answer-conflict _ _ out ∙ ap (λ (z : ℕ). outcome (saved.Refused (placed 11 z)) out) j)
+        answer-at f bytes out 11 p (placed 11 p)
+        (opened-lines bytes (length out) ∙ line-pass 10 _ _ (sheet-known bytes s k h i .0) ∙ line-holds 11 _ _ c) (λ z. omega arith) j refl
 
     applied-is : (out : List ℕ) → lookedAt f (held .user + 4) (held .«user_tags») bytes k ≡ looked.Agrees
         → appliedIn f (held .user + 4) (held .«user_tags») bytes k out ≡ saveOf f bytes out
-    unfolding appliedIn newTable
+    unfolding appliedIn newTable savePlace openingPlace
     applied-is out b =
         let d = agree-none (someConflict (userTags f) (changesOf bytes)) _ (sym look-is ∙ b) in
         rw (tags-found .2, sheet-known bytes s k h i .2)
-        (sym (answer-by f bytes out _ (opened-lines bytes (length out) ∙ line-pass 10 _ _ (sheet-known bytes s k h i .0) ∙ line-pass 11 _ _ d)
-        ∙ answer-applied (conflictPlace (userTags f) (changesOf bytes)) (newTable f bytes) out))
+        (sym (answer-by f bytes out (saveRefusal f bytes (length out)) refl
+        ∙ answer-applied (λ n. savePlace n f bytes) (newTable f bytes) out refl refl (saveRefusal f bytes (length out))
+        (opened-lines bytes (length out) ∙ line-pass 10 _ _ (sheet-known bytes s k h i .0) ∙ line-pass 11 _ _ d)))
 
     pub save-saved : (out o′ : List ℕ) (r : Saved) → outcome r o′ ≡ savedIn f (held .user + 4) (held .«user_tags») bytes k out
         → outcome r o′ ≡ saveOf f bytes out

@@ -10,7 +10,8 @@ ghost use mathlib.Core.Path.{_≡_};
 ghost use lib.ListN.{length};
 ghost use Rattle.saving.specs.Save.{outcome, answerOf, savedIn, saveOf, Legal, Begun};
 
-// What a save answers: the length of the new table, or the refusal, where 11 has the place of the change.
+// What a save answers: the length of the new table, or the refusal, whose place is in the file for 3, 4 and 7 and in the sheet for 10; 11's is the
+// number of the change.
 pub enum Saved {
     Table(usize),
     Refused(Refusal),
@@ -79,9 +80,10 @@ pub fn save(file: &[u8], sheet: &[u8], out: &mut [u8]) -> Saved
     let Opening::Opened(held) = opening else {
         return Saved::Refused(opening::open_refusal(opening));
     };
-    let listed = sheet::changes_of(sheet);
-    let Sheet::Whole(changes) = listed else {
-        return Saved::Refused(Refusal::SHEET);
-    };
-    save_changes(file, held.user + 4, held.user_tags, sheet, changes, out)
+    match sheet::changes_of(sheet) {
+        Sheet::Whole(changes) => {
+            save_changes(file, held.user + 4, held.user_tags, sheet, changes, out)
+        }
+        Sheet::Broken(place) => Saved::Refused(Refusal::SHEET.at(place)),
+    }
 }

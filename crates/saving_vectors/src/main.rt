@@ -1,5 +1,6 @@
 // The vectors of saving: runs those that its arguments name, and prints a line for each.
 // tests/VECTORS.md says what a vector holds and how its line reads.
+use refusal::Refusal;
 use saving::Saved;
 use vector::lend::lent;
 use vector::print::no_vector;
@@ -7,8 +8,17 @@ use vector::print::refused;
 use vector::print::say;
 use vector::print::with;
 use vector::print::with_check;
+use vector::sweep::Tally;
+use vector::sweep::line;
+use vector::sweep::turn_bytes;
+use vector::sweep::turn_length;
+use vector::sweep::turns;
 
 const SAVE: u8 = b's';
+
+const SWEEP_OF_FILE: u8 = b'U';
+
+const SWEEP_OF_SHEET: u8 = b'S';
 
 fn table(saved: Saved) {
     match saved {
@@ -41,6 +51,69 @@ fn save(fields: &[u8]) {
     }
 }
 
+fn refusal_of(saved: Saved) -> Refusal {
+    if let Saved::Refused(refusal) = saved {
+        return refusal;
+    }
+    Refusal::NONE
+}
+
+// A sweep changes the sheet or the file, and leaves the other as it is.
+fn tried(kind: u8, bytes: &[u8], other: &[u8], before: Tally) -> Tally {
+    let mut out = [0; 512];
+    if kind == SWEEP_OF_SHEET {
+        let saved = saving::save(other, bytes, &mut out);
+        return vector::sweep::tried(before, refusal_of(saved));
+    }
+    let saved = saving::save(bytes, other, &mut out);
+    vector::sweep::tried(before, refusal_of(saved))
+}
+
+// Each turn of a sweep.
+fn sweep(kind: u8, base: &[u8], other: &[u8], values: &[u8]) {
+    let mut tally = Tally::NONE;
+    let mut turn = 0;
+    let end = turns(base.len());
+    while turn < end {
+        let bytes = turn_bytes(base, values, turn);
+        let n = turn_length(base.len(), turn);
+        tally = tried(kind, &bytes[..n], other, tally);
+        turn += 1;
+    }
+    line(tally);
+}
+
+// What a sweep leaves as it is, and behind it what it changes.
+fn swept_by(kind: u8, values: &[u8], fields: &[u8]) {
+    if fields.len() < 2 {
+        no_vector();
+        return;
+    }
+    let length = number::read(fields, 0, 2) as usize;
+    let given = &fields[2..];
+    if given.len() < length {
+        no_vector();
+        return;
+    }
+    sweep(kind, &given[length..], &given[..length], values);
+}
+
+// The values of a sweep come first.
+fn swept(kind: u8, fields: &[u8]) {
+    if fields.len() < 1 {
+        no_vector();
+        return;
+    }
+    let length = number::read(fields, 0, 1) as usize;
+    let given = &fields[1..];
+    if given.len() < length {
+        no_vector();
+        return;
+    }
+    let rest = &given[length..];
+    swept_by(kind, &given[..length], rest);
+}
+
 // The call that a vector holds, by its first byte.
 fn answer(vector: &[u8]) {
     if vector.len() == 0 {
@@ -50,6 +123,7 @@ fn answer(vector: &[u8]) {
     let fields = &vector[1..];
     match vector[0] {
         SAVE => save(fields),
+        SWEEP_OF_FILE | SWEEP_OF_SHEET => swept(vector[0], fields),
         _ => no_vector(),
     }
 }

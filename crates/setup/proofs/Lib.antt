@@ -1,2 +1,4 @@
 pub mod SetUp
+pub mod Stops
+pub mod Refused
 pub mod Outcomes

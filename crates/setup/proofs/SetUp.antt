@@ -13,12 +13,9 @@ use borrow.Author.Tests.{le-leb, lt-leb, leb-true, not-false, not-true, not-fals
 use Rattle.number.specs.Number.{numberOf, readAt}
 use Rattle.number.proofs.Bytes.{both-true}
 use Rattle.number.proofs.Laws.{read-is}
-use Rattle.layout.specs.Recording.{Section, Tag, within, every, distinct, legalSectionName, sectionNames}
-use Rattle.layout.proofs.Lines.{line-pass, line-holds}
-use Rattle.layout.proofs.Orders.{no-lines}
-use Rattle.refusal.specs.Refusal.{plain}
-use Rattle.layout.specs.Reading.{Parsed, bad, good, onward, only, times, exactly, number, block, string, table, _then_, give, isBad, valueOr, taken}
-use Rattle.layout.specs.Recorder.{setUpSection, setUpList, sectionsOf, badSetUp}
+use Rattle.layout.specs.Recording.{Section, within, isNameByte, every, distinct, legalSectionName, sectionNames}
+use Rattle.layout.specs.Reading.{Parsed, bad, good, onward, only, times, exactly, number, block, string, stringFault, sectionName, _then_, give, isBad, valueOr, taken}
+use Rattle.layout.specs.Recorder.{configured, setUpSection, setUpList, sectionsOf, badSetUp}
 use Rattle.layout.proofs.Lists.{or-false, or-right}
 use Rattle.layout.proofs.Readers.{number-good, block-good, exactly-good, then-takes, times-suc-takes}
 use Rattle.layout.proofs.Fronts.{read-good}
@@ -26,23 +23,20 @@ use Rattle.strings.specs.Strings.{textOf}
 use Rattle.parts.specs.Parts.{endOf}
 use Rattle.rows.specs.Rows.{rowName, rowOf, rest}
 use Rattle.names.specs.Names.{distinctNames}
-use Rattle.tables.specs.Tables.{tablePlaceOf}
 use Rattle.parts.specs.declared.Place.{Place}
 use Rattle.parts.specs.declared.Place.the-variants as place
-use Rattle.tables.specs.declared.TablePlace.{TablePlace}
-use Rattle.tables.specs.declared.TablePlace.the-variants as tablePlace
 use Rattle.strings.specs.declared.Text.{Text}
 use Rattle.strings.specs.declared.Text.the-variants as text
 use Rattle.rows.specs.declared.Row.the-variants.{SetUp}
 use Rattle.rows.specs.declared.RowPlace.{RowPlace}
 use Rattle.rows.specs.declared.RowPlace.the-variants.{Whole, Broken}
-use Rattle.strings.proofs.Laws.{string-parts, part-length}
+use Rattle.strings.proofs.Laws.{string-parts, part-length, text-placed}
 use Rattle.rows.proofs.Laws.{row-parts, row-broken}
 use Rattle.parts.proofs.Readers.{then-bad, then-onward, end-later, number-cut}
 use Rattle.parts.proofs.Times.{times-parts, times-length, times-led}
 use Rattle.parts.proofs.Taken.{then-parts, give-parts, then-give, number-read, number-then}
 use Rattle.names.proofs.Readers.{set-up-row, distinct-set-up}
-use Rattle.setup.specs.SetUp.{rows, listRefusal}
+use Rattle.setup.specs.SetUp.{rows}
 use Rattle.parts.proofs.Exactly.{ends-broken, ends-exact, ends-other}
 use Rattle.number.proofs.Bools.{or-left, tested}
 
@@ -60,7 +54,7 @@ pub record RowRead (s : List ℕ) (at n end : ℕ) : Type 0 where
 
 row-read-parts : (s : List ℕ) (at n end m : ℕ) → at + 1 + n ≤ length s → rowName SetUp (drop at s) ≡ good (take n (drop (at + 1) s)) m
     → end ≡ at + m → RowRead s at n end
-unfolding rowName rest setUpSection textOf
+unfolding rowName rest setUpSection configured textOf
 row-read-parts s at n end m l q w =
     then-parts string (λ name. (number 2 then block) then λ r. give name) (drop at s) (take n (drop (at + 1) s)) m q
     (λ v a k f g h. give-parts (number 2 then block) (λ r. v) (drop a (drop at s)) (take n (drop (at + 1) s)) k g
@@ -107,13 +101,13 @@ row-read s at n end r e h =
     let (l, m, q, w) = row-parts SetUp s at n end (sym e ∙ h) in
     row-read-parts s at n end m l q w
 
-pub row-none : (s : List ℕ) (at : ℕ) (r : RowPlace) → r ≡ rowOf at (rowName SetUp (drop at s)) → r ≡ Broken → setUpSection (drop at s) ≡ bad
-row-none s at r e h = go (setUpSection (drop at s)) refl
+pub row-none : (s : List ℕ) (at : ℕ) (r : RowPlace) → r ≡ rowOf at (rowName SetUp (drop at s)) → r ≡ Broken
+    → (m : ℕ) × (setUpSection (drop at s) ≡ bad m)
+row-none s at r e h = go (setUpSection (drop at s)) refl (row-broken (rowName SetUp (drop at s)) at (sym e ∙ h))
   where
-    go : (x : Parsed Section) → setUpSection (drop at s) ≡ x → x ≡ bad
-    go bad f = refl
-    go (good x n) f = let z : _≡_ {A = ℕ} 0 1 = cc (set-up-row (drop at s) x n f, row-broken (rowName SetUp (drop at s)) at (sym e ∙ h)) in absurd
-        (omega arith)
+    go : (x : Parsed Section) → setUpSection (drop at s) ≡ x → ((i : ℕ) × (rowName SetUp (drop at s) ≡ bad i)) → (m : ℕ) × (x ≡ bad m)
+    go (bad m) f g = (m, refl)
+    go (good x n) f (i, g) = let z : _≡_ {A = ℕ} 0 1 = cc (set-up-row (drop at s) x n f) in absurd (omega arith)
 
 -- ── Rows one behind the other ──
 
@@ -122,7 +116,7 @@ unfolding rows
 rows-done zero t h = refl
 rows-done (suc left) t h = absurd (omega arith)
 
-pub rows-stop : (left : ℕ) (t : List ℕ) → setUpSection t ≡ bad → rows left t ≡ []
+pub rows-stop : (left : ℕ) (t : List ℕ) {m : ℕ} → setUpSection t ≡ bad m → rows left t ≡ []
 unfolding rows
 rows-stop zero t e = refl
 rows-stop (suc left) t e = rw (e, rows)
@@ -167,12 +161,12 @@ rows-end : (k : ℕ) (t : List ℕ) (at : ℕ) → endOf at (times k (rowName Se
 unfolding endOf
 rows-end k t at = go (times k setUpSection t) refl
   where
-    none : (y : Parsed (List (List ℕ))) → times k (rowName SetUp) t ≡ y → times k setUpSection t ≡ bad → endOf at y ≡ place.Broken
-    none bad f e = refl
-    none (good vs m) f e = let (ss, q) = led-back k t vs m f in let z : _≡_ {A = ℕ} 0 1 = cc in absurd (omega arith)
+    none : (y : Parsed (List (List ℕ))) (i : ℕ) → times k (rowName SetUp) t ≡ y → times k setUpSection t ≡ bad i → endOf at y ≡ place.Broken
+    none (bad m) i f e = refl
+    none (good vs m) i f e = let (ss, q) = led-back k t vs m f in let z : _≡_ {A = ℕ} 0 1 = cc in absurd (omega arith)
 
     go : (x : Parsed (List Section)) → times k setUpSection t ≡ x → endOf at (times k (rowName SetUp) t) ≡ endOf at x
-    go bad e = none (times k (rowName SetUp) t) refl e
+    go (bad i) e = none (times k (rowName SetUp) t) i refl e
     go (good ss m) e = rw (times-led setUpSection (rowName SetUp) (λ x. x .name) set-up-row k t ss m e)
 
 -- where a list with a count ends
@@ -181,9 +175,9 @@ unfolding setUpList
 list-end s h =
     rows-end (readAt s 0 1) (drop 1 s) 1
     ∙ sym (ap (endOf 0) (then-onward (number 1) (λ k. times k setUpSection) (drop 0 s) (readAt s 0 1) 1 (number-read s 0 1 (omega arith) h))
-    ∙ end-later (λ ss. ss) (times (readAt s 0 1) setUpSection (drop 1 s)) 0 1)
+    ∙ end-later (times (readAt s 0 1) setUpSection (drop 1 s)) 0 1)
 
-no-list : (s : List ℕ) → length s < 1 → setUpList s ≡ bad
+pub no-list : (s : List ℕ) → length s < 1 → setUpList s ≡ bad 0
 unfolding setUpList
 no-list s h = then-bad (number 1) (λ k. times k setUpSection) s (number-cut 1 s 0 (omega arith))
 
@@ -303,7 +297,7 @@ legal-list s h =
 
     whole : (x : Parsed (List Section)) → badSetUp (valueOr [] x) ≡ false → isBad x ≡ false
     whole (good ss m) e = refl
-    whole bad e = let z : _≡_ {A = ℕ} 0 1 = cc in absurd (omega arith)
+    whole (bad i) e = let z : _≡_ {A = ℕ} 0 1 = cc in absurd (omega arith)
 
 -- ── The names, one after the other ──
 
@@ -312,7 +306,7 @@ name-broken : (ok : List ℕ → Bool) (t v : List ℕ) (n : ℕ) → string t �
 unfolding only onward textOf
 name-broken ok t v n e h = go (ok v) (rw e at h)
   where
-    go : (b : Bool) → textOf (cond b (good v n) bad) ≡ text.Broken → b ≡ false
+    go : (b : Bool) → textOf (cond b (good v n) (bad 0)) ≡ text.Broken → b ≡ false
     go false h = refl
     go true h = let z : _≡_ {A = ℕ} 0 1 = cc in absurd (omega arith)
 
@@ -320,7 +314,7 @@ name-whole : (ok : List ℕ → Bool) (t v : List ℕ) (n k : ℕ) → string t 
 unfolding only onward textOf
 name-whole ok t v n k e h = go (ok v) (rw e at h)
   where
-    go : (b : Bool) → textOf (cond b (good v n) bad) ≡ text.Whole k → b ≡ true
+    go : (b : Bool) → textOf (cond b (good v n) (bad 0)) ≡ text.Whole k → b ≡ true
     go true h = refl
     go false h = let z : _≡_ {A = ℕ} 0 1 = cc in absurd (omega arith)
 
@@ -332,10 +326,10 @@ module _ (s : List ℕ) (at : ℕ) where
   pub names-stop : (left : ℕ) (all : Bool) (r : RowPlace) → 0 < left → r ≡ rowOf at (rowName SetUp (drop at s)) → r ≡ Broken
       → every legalSectionName (sectionNames (rows left (drop at s))) ≡ all → true ≡ all
   unfolding every sectionNames
-  names-stop left all r h f g e = rw (rows-stop left (drop at s) (row-none s at r f g)) at e
+  names-stop left all r h f g e = rw (rows-stop left (drop at s) (row-none s at r f g .1)) at e
 
   module _ (left n end : ℕ) (all : Bool) (r : RowPlace) (t : Text) (h : 0 < left) (f : r ≡ rowOf at (rowName SetUp (drop at s)))
-      (g : r ≡ Whole n end) (u : t ≡ textOf (only legalSectionName string (drop at s)))
+      (g : r ≡ Whole n end) (u : t ≡ textOf (sectionName (drop at s)))
       (e : every legalSectionName (sectionNames (rows left (drop at s))) ≡ all) where
     names-next : (legalSectionName (take n (drop (at + 1) s)) && every legalSectionName (sectionNames (rows (left - 1) (drop end s)))) ≡ all
     unfolding every sectionNames
@@ -346,66 +340,29 @@ module _ (s : List ℕ) (at : ℕ) where
         let q : rows left (drop at s) ≡ x ∷ rows (left - 1) (drop end s) = rows-step left s at (3 + n + o .size) x h (o .read) ∙ rw i in
         rw q at e
 
+    by-rule : textOf (sectionName (drop at s)) ≡ textOf (only legalSectionName string (drop at s))
+    unfolding sectionName
+    by-rule = text-placed (stringFault 1 isNameByte) (only legalSectionName string) (drop at s)
+
     pub names-wrong : t ≡ text.Broken → false ≡ all
     names-wrong v =
         let o = row-read s at n end r f g in
         let i : legalSectionName (take n (drop (at + 1) s)) ≡ false =
-        name-broken legalSectionName (drop at s) (take n (drop (at + 1) s)) (1 + n) (o .named) (sym u ∙ v) in
+        name-broken legalSectionName (drop at s) (take n (drop (at + 1) s)) (1 + n) (o .named) (sym (u ∙ by-rule) ∙ v) in
         rw i at names-next
 
     pub names-step : (k : ℕ) → t ≡ text.Whole k → every legalSectionName (sectionNames (rows (left - 1) (drop end s))) ≡ all
     names-step k v =
         let o = row-read s at n end r f g in
         let i : legalSectionName (take n (drop (at + 1) s)) ≡ true =
-        name-whole legalSectionName (drop at s) (take n (drop (at + 1) s)) (1 + n) k (o .named) (sym u ∙ v) in
+        name-whole legalSectionName (drop at s) (take n (drop (at + 1) s)) (1 + n) k (o .named) (sym (u ∙ by-rule) ∙ v) in
         rw i at names-next
-
--- ── 4 ──
-
-table-end : (x : Parsed (List Tag)) (p : TablePlace) → p ≡ tablePlaceOf 0 x → p ≡ tablePlace.Broken → place.Broken ≡ endOf 0 x
-unfolding tablePlaceOf endOf
-table-end bad p e h = refl
-table-end (good ts n) p e h = let z : _≡_ {A = ℕ} 0 1 = cc in absurd (omega arith)
-
-table-ends : (x : Parsed (List Tag)) (p : TablePlace) (n q : ℕ) → p ≡ tablePlaceOf 0 x → p ≡ tablePlace.Whole n q → place.End q ≡ endOf 0 x
-unfolding tablePlaceOf endOf
-table-ends bad p n q e h = let z : _≡_ {A = ℕ} 0 1 = cc in absurd (omega arith)
-table-ends (good ts m) p n q e h = cc
-
-module _ (s : List ℕ) (p : TablePlace) (e : p ≡ tablePlaceOf 0 (table (drop 0 s))) where
-  pub table-broken : p ≡ tablePlace.Broken → true ≡ isBad (exactly table s)
-  table-broken h = ends-broken table s place.Broken (table-end (table (drop 0 s)) p e h) refl
-
-  pub table-exact : (n q : ℕ) → p ≡ tablePlace.Whole n q → q ≡ length s → false ≡ isBad (exactly table s)
-  table-exact n q h l = ends-exact table s (place.End q) q (table-ends (table (drop 0 s)) p n q e h) refl l
-
-  pub table-other : (n q : ℕ) → p ≡ tablePlace.Whole n q → (q ≡ length s → ⊥) → true ≡ isBad (exactly table s)
-  table-other n q h l = ends-other table s (place.End q) q (table-ends (table (drop 0 s)) p n q e h) refl l
-
--- ── The order 10, 3 ──
-
-module _ (s : List ℕ) where
-  pub refused-list : (b : Bool) → b ≡ isBad (exactly setUpList s) → b ≡ true → plain 10 ≡ plain (listRefusal s)
-  unfolding listRefusal
-  refused-list b e h = ap plain (sym (line-holds 10 _ _ (sym e ∙ h)))
-
-  module _ (b : Bool) (be : b ≡ isBad (exactly setUpList s)) (bh : b ≡ false) where
-    pub refused-sections : (q : Bool) → q ≡ badSetUp (sectionsOf s) → q ≡ true → plain 3 ≡ plain (listRefusal s)
-    unfolding listRefusal
-    refused-sections q e h = ap plain (sym (line-pass 10 _ _ (sym be ∙ bh) ∙ line-holds 3 _ _ (sym e ∙ h)))
-
-    pub refused-none : (q : Bool) → q ≡ badSetUp (sectionsOf s) → q ≡ false → plain 0 ≡ plain (listRefusal s)
-    unfolding listRefusal
-    refused-none q e h = ap plain (sym (line-pass 10 _ _ (sym be ∙ bh) ∙ line-pass 3 _ _ (sym e ∙ h) ∙ no-lines))
 
 pub ruleset setups = (
   needs,
   not-true,
   not-false,
   tested,
-  refused-list,
-  refused-sections,
-  refused-none,
   list-empty,
   list-broken,
   list-exact,
@@ -419,7 +376,4 @@ pub ruleset setups = (
   names-stop,
   names-wrong,
   names-step,
-  table-broken,
-  table-exact,
-  table-other,
 )

@@ -5,17 +5,18 @@ use native.Mathlib.Omega.{arith}
 use mathlib.Core.Path.{_≡_, refl, ap, sym, _∙_}
 use mathlib.Core.Bool.{Bool, true, false, cond}
 use mathlib.Core.List.{List, [], _∷_}
-use lib.ListN.{length, drop, getD}
+use lib.ListN.{length, take, drop, getD}
 use lib.Dec.{eqb, ltb}
 use borrow.Author.Tests.{eqb-true, lt-ltb, le-ltb}
 use Rattle.number.specs.Number.{numberOf}
-use Rattle.layout.specs.Recording.{Tag, shortString, legalTagName, legalTagValue}
-use Rattle.layout.specs.Reading.{Reader, good, onward, _then_, only, give, times, number, string, tag, valueOr}
-use Rattle.layout.specs.Saving.{Entry, Seen, Change, absent, holds, saw, nobodyLooked, change, entryOf, seenOf, tagValue, malformed}
+use Rattle.layout.specs.Recording.{Tag, shortString, within}
+use Rattle.layout.specs.Reading.{Reader, good, onward, _then_, give, times, number, string, tagName, tagValue, tag, valueOr}
+use Rattle.layout.specs.Saving.{Entry, Seen, Change, absent, holds, saw, nobodyLooked, change, entryOf, seenOf, kind, seenPart, newPart, malformed}
 use Rattle.layout.proofs.Readers.{number-good}
 use Rattle.rows.specs.Rows.{entry, rowName}
 use Rattle.rows.specs.declared.Row.{Row}
 use Rattle.rows.specs.declared.Row.the-variants as row
+use Rattle.strings.proofs.Named.{name-keeps, value-keeps}
 use Rattle.parts.proofs.Taken.{then-parts, give-parts, only-parts}
 use Rattle.names.proofs.Readers.{tag-row, change-row, kind-leads, seen-leads}
 use Rattle.tables.proofs.Places.{string-taken}
@@ -59,26 +60,27 @@ pub tag-follows : Follows tag (rowWith row.Tag tagWithName)
 unfolding tag
 tag-follows t x n e =
     row-follows row.Tag tagWithName (x .name) t x n (tag-row t x n e)
-    (then-parts (only legalTagName string) (λ v. only legalTagValue string then λ w. give (record { name = v; value = w })) t x n e (λ v a b f g h.
-    give-parts (only legalTagValue string) (λ w. record { name = v; value = w }) (drop a t) x b g (λ w i o.
-    tag-same t v w a b x (only-parts legalTagName string t v a f .0) (only-parts legalTagValue string (drop a t) w b i .0) o)))
+    (then-parts tagName (λ v. tagValue then λ w. give (record { name = v; value = w })) t x n e (λ v a b f g h.
+    give-parts tagValue (λ w. record { name = v; value = w }) (drop a t) x b g (λ w i o.
+    tag-same t v w a b x (name-keeps .text t v a f) (value-keeps .text (drop a t) w b i) o)))
 
 -- ── Entries ──
 
 -- a kind byte that was read
-kind-byte : (u : List ℕ) (kind a : ℕ) → number 1 u ≡ good kind a → (getD u 0 0 ≡ kind) × (a ≡ 1)
-unfolding numberOf
-kind-byte [] kind a e = let (l, p, q) = number-good 1 [] kind a e in absurd (omega arith)
-kind-byte (x ∷ u) kind a e =
-    let (l, p, q) = number-good 1 (x ∷ u) kind a e in
-    (omega arith, sym q)
+kind-byte : (most : ℕ) (u : List ℕ) (k a : ℕ) → kind most u ≡ good k a → (getD u 0 0 ≡ k) × (a ≡ 1)
+unfolding kind numberOf
+kind-byte most u k a e = go u (number-good 1 u k a (only-parts (within 0 most) (number 1) u k a e .0))
+  where
+    go : (u : List ℕ) → ((1 ≤ length u) × (numberOf (take 1 u) ≡ k) × (1 ≡ a)) → (getD u 0 0 ≡ k) × (a ≡ 1)
+    go [] (l, p, q) = absurd (omega arith)
+    go (x ∷ u) (l, p, q) = (omega arith, sym q)
 
 -- the entry that a kind asks for
 abbrev byKind : ℕ → List ℕ → Entry
 byKind kind t = cond (eqb kind 1) (textIn t) absent
 
 entry-of-kind : (kind b : ℕ) (t : List ℕ) (en : Entry) → entryOf kind t ≡ good en b → (byKind kind t ≡ en) × (kind ≤ 1)
-unfolding entryOf malformed give tagValue textIn textEntry
+unfolding entryOf malformed give textIn textEntry
 entry-of-kind kind b t en e = go (eqb kind 0) (eqb kind 1) refl refl e
   where
     go : (p q : Bool) → eqb kind 0 ≡ p → eqb kind 1 ≡ q → cond p (give absent)
@@ -87,7 +89,7 @@ entry-of-kind kind b t en e = go (eqb kind 0) (eqb kind 1) refl refl e
     go true false f g h = let z : kind ≡ 0 = eqb-true kind 0 f in (cc, omega arith)
     go false true f g h =
         let z : kind ≡ 1 = eqb-true kind 1 g in
-        give-parts tagValue holds t en b h (λ v i o. (rw (only-parts legalTagValue string t v b i .0) (sym o), omega arith))
+        give-parts tagValue holds t en b h (λ v i o. (rw (value-keeps .text t v b i) (sym o), omega arith))
     go false false f g h = let z : _≡_ {A = ℕ} 0 1 = cc in absurd (omega arith)
 
 seen-of-kind : (kind b : ℕ) (t : List ℕ) (s : Seen) → seenOf kind t ≡ good s b → cond (ltb 1 kind) nobodyLooked (saw (byKind kind t)) ≡ s
@@ -102,21 +104,26 @@ seen-of-kind kind b t s e = go (eqb kind 2) refl e
         let (p, q) = entry-of-kind kind b t en i in
         rw (le-ltb 1 kind q, p) (sym o))
 
-entry-reads : (u : List ℕ) (en : Entry) (d : ℕ) → (number 1 then entryOf) u ≡ good en d → entryIn u ≡ en
-unfolding entryIn
+entry-reads : (u : List ℕ) (en : Entry) (d : ℕ) → newPart u ≡ good en d → entryIn u ≡ en
+unfolding entryIn newPart
 entry-reads u en d e =
-    then-parts (number 1) entryOf u en d e (λ kind a b f g h.
-    let (p, q) = kind-byte u kind a f in
-    rw (p) (ap (λ (z : ℕ). byKind kind (drop z u)) (sym q) ∙ entry-of-kind kind b (drop a u) en g .0))
+    then-parts (kind 1) entryOf u en d e (λ k a b f g h.
+    let (p, q) = kind-byte 1 u k a f in
+    rw (p) (ap (λ (z : ℕ). byKind k (drop z u)) (sym q) ∙ entry-of-kind k b (drop a u) en g .0))
 
-seen-reads : (u : List ℕ) (s : Seen) (d : ℕ) → (number 1 then seenOf) u ≡ good s d → cond (ltb 1 (getD u 0 0)) nobodyLooked (saw (entryIn u)) ≡ s
-unfolding entryIn
+seen-reads : (u : List ℕ) (s : Seen) (d : ℕ) → seenPart u ≡ good s d → cond (ltb 1 (getD u 0 0)) nobodyLooked (saw (entryIn u)) ≡ s
+unfolding entryIn seenPart
 seen-reads u s d e =
-    then-parts (number 1) seenOf u s d e (λ kind a b f g h.
-    let (p, q) = kind-byte u kind a f in
-    rw (p) (ap (λ (z : ℕ). cond (ltb 1 kind) nobodyLooked (saw (byKind kind (drop z u)))) (sym q) ∙ seen-of-kind kind b (drop a u) s g))
+    then-parts (kind 2) seenOf u s d e (λ k a b f g h.
+    let (p, q) = kind-byte 2 u k a f in
+    rw (p) (ap (λ (z : ℕ). cond (ltb 1 k) nobodyLooked (saw (byKind k (drop z u)))) (sym q) ∙ seen-of-kind k b (drop a u) s g))
 
 -- ── A change ──
+
+-- what was seen is an entry, as the bytes lead
+seen-entry : (u : List ℕ) (s : Seen) (d : ℕ) → seenPart u ≡ good s d → (r : List ℕ) × (entry u ≡ good r d)
+unfolding seenPart
+seen-entry = kind-leads seenOf seen-leads 2
 
 change-same : (t v r : List ℕ) (a c : ℕ) (s : Seen) (en : Entry) (x : Change) → string t ≡ good v a → entry (drop a t) ≡ good r c
     → cond (ltb 1 (getD (drop a t) 0 0)) nobodyLooked (saw (entryIn (drop a t))) ≡ s → entryIn (drop c (drop a t)) ≡ en
@@ -131,14 +138,11 @@ pub change-follows : Follows change (rowWith row.Change changeWithName)
 unfolding change
 change-follows t x n e =
     row-follows row.Change changeWithName (x .name) t x n (change-row t x n e)
-    (then-parts (only legalTagName string) (λ name. (number 1 then seenOf) then λ s. (number 1 then entryOf) then λ e. give
-    (record { name = name; seen = s; new = e })) t x n e (λ v a b f g h.
-    then-parts (number 1 then seenOf) (λ s. (number 1 then entryOf) then λ e. give (record { name = v; seen = s; new = e })) (drop a t) x b g
-    (λ s c d i j k.
-    give-parts (number 1 then entryOf) (λ e. record { name = v; seen = s; new = e }) (drop c (drop a t)) x d j (λ en l o.
-    let (r, p) = kind-leads seenOf seen-leads (drop a t) s c i in
-    change-same t v r a c s en x (only-parts legalTagName string t v a f .0) p (seen-reads (drop a t) s c i)
-    (entry-reads (drop c (drop a t)) en d l) o))))
+    (then-parts tagName (λ name. seenPart then λ s. newPart then λ e. give (record { name = name; seen = s; new = e })) t x n e (λ v a b f g h.
+    then-parts seenPart (λ s. newPart then λ e. give (record { name = v; seen = s; new = e })) (drop a t) x b g (λ s c d i j k.
+    give-parts newPart (λ e. record { name = v; seen = s; new = e }) (drop c (drop a t)) x d j (λ en l o.
+    let (r, p) = seen-entry (drop a t) s c i in
+    change-same t v r a c s en x (name-keeps .text t v a f) p (seen-reads (drop a t) s c i) (entry-reads (drop c (drop a t)) en d l) o))))
 
 -- ── A legal table and a sheet ──
 

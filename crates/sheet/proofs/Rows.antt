@@ -20,7 +20,7 @@ pub rows-more : {A : Type 0} (n : ℕ) (p : Reader A) (t : List ℕ) (x : A) (m 
 unfolding rows
 rows-more n p t x m e = rw (e, rows)
 
-pub rows-none : {A : Type 0} (n : ℕ) (p : Reader A) (t : List ℕ) → p t ≡ bad → rows (suc n) p t ≡ []
+pub rows-none : {A : Type 0} (n : ℕ) (p : Reader A) (t : List ℕ) {m : ℕ} → p t ≡ bad m → rows (suc n) p t ≡ []
 unfolding rows
 rows-none n p t e = rw (e, rows)
 
@@ -37,7 +37,7 @@ pub rows-stop : {A : Type 0} (k : Row) (make : List ℕ → List ℕ → A) (s :
     → r ≡ rowOf at (rowName k (drop at s)) → r ≡ rowPlace.Broken → rows left (rowWith k make) (drop at s) ≡ []
 rows-stop k make s at zero r e f = no-rows (rowWith k make) (drop at s)
 rows-stop k make s at (suc left) r e f = rows-none left (rowWith k make) (drop at s)
-    (row-makes-none k make (drop at s) (row-broken (rowName k (drop at s)) at (sym e ∙ f)))
+    (row-makes-none k make (drop at s) (row-broken (rowName k (drop at s)) at (sym e ∙ f) .1))
 
 pub rows-step : {A : Type 0} (k : Row) (make : List ℕ → List ℕ → A) (s : List ℕ) (at left len end : ℕ) (r : RowPlace) → 0 < left
     → r ≡ rowOf at (rowName k (drop at s)) → r ≡ rowPlace.Whole len end

@@ -51,7 +51,7 @@ text-there s at n r e f = let p = string-parts s at n (sym e ∙ f) .2 in record
 
 text-not-there : (s : List ℕ) (at : ℕ) (r : Text) → r ≡ textOf (string (drop at s)) → r ≡ text.Broken → Finds s value.Nothing (textIn (drop at s))
 unfolding valueIn Stands textIn textEntry
-text-not-there s at r e f = record { found = rw (textOf-broken (string (drop at s)) (sym e ∙ f)); there = refl }
+text-not-there s at r e f = record { found = rw (textOf-broken (string (drop at s)) (sym e ∙ f) .1); there = refl }
 
 -- ── Entries ──
 
@@ -114,7 +114,7 @@ unfolding newValue valueBehind newIn entryBehind endOf valueIn Stands
 new-finds s seen v e = rw e (go (entry (drop seen s)))
   where
     go : (p : Parsed (List ℕ)) → Finds s (valueBehind s (endOf seen p)) (entryBehind (drop seen s) p)
-    go bad = record { found = refl; there = refl }
+    go (bad m) = record { found = refl; there = refl }
     go (good x n) = rw (drop-drop n seen s) (entry-finds s (seen + n) (entryValue s (seen + n)) refl)
 
 -- ── Rows taken apart ──
@@ -145,7 +145,7 @@ row-makes k make s at len end e w =
     let a : at + (1 + len) ≡ at + 1 + len = omega arith in
     w (1 + len + m) (rw (p, part-length s at len l, drop-drop (1 + len) at s, a)) (omega arith))
 
-pub row-makes-none : {A : Type 0} (k : Row) (make : List ℕ → List ℕ → A) (t : List ℕ) → rowName k t ≡ bad → rowWith k make t ≡ bad
+pub row-makes-none : {A : Type 0} (k : Row) (make : List ℕ → List ℕ → A) (t : List ℕ) {m : ℕ} → rowName k t ≡ bad m → rowWith k make t ≡ bad m
 unfolding rowWith onward
 row-makes-none k make t e = rw e
 
@@ -160,7 +160,7 @@ pub tag-row-broken : (s : List ℕ) (at : ℕ) (r : RowPlace) → r ≡ rowOf at
     → Finds s value.Nothing (tagHolds (rowWith row.Tag tagWithName (drop at s)))
 unfolding made valueIn Stands
 tag-row-broken s at r e f =
-    record { found = rw (row-makes-none row.Tag tagWithName (drop at s) (row-broken (rowName row.Tag (drop at s)) at (sym e ∙ f))); there = refl }
+    record { found = rw (row-makes-none row.Tag tagWithName (drop at s) (row-broken (rowName row.Tag (drop at s)) at (sym e ∙ f) .1)); there = refl }
 
 -- where the value of a tag stands
 pub tag-row-parts : (s : List ℕ) (at len end : ℕ) → rowOf at (rowName row.Tag (drop at s)) ≡ rowPlace.Whole len end

@@ -14,7 +14,7 @@ use Rattle.rows.specs.declared.Row.the-variants as row
 -- n rows, up to the first that is broken
 unfoldable pub rows : {A : Type 0} → ℕ → Reader A → List ℕ → List A
 rows zero p s = []
-rows (suc n) p s = elim (p s) [ bad ↦ [] | good x m ↦ x ∷ rows n p (drop m s) ]
+rows (suc n) p s = elim (p s) [ bad j ↦ [] | good x m ↦ x ∷ rows n p (drop m s) ]
 
 -- a row, of which its name and the bytes behind it make a value
 unfoldable pub rowWith : {A : Type 0} → Row → (make : List ℕ → List ℕ → A) → Reader A
@@ -22,7 +22,7 @@ rowWith k make t = onward (rowName k t) (λ name m. good (make name (drop (1 + l
 
 -- a short string as an entry; nothing where it is not all there
 unfoldable pub textEntry : Parsed (List ℕ) → Entry
-textEntry bad = absent
+textEntry (bad m) = absent
 textEntry (good v n) = holds v
 
 unfoldable pub textIn : List ℕ → Entry
@@ -34,7 +34,7 @@ entryIn t = cond (eqb (getD t 0 0) 1) (textIn (drop 1 t)) absent
 
 -- the entry behind an entry
 unfoldable pub entryBehind : List ℕ → Parsed (List ℕ) → Entry
-entryBehind t bad = absent
+entryBehind t (bad m) = absent
 entryBehind t (good v n) = entryIn (drop n t)
 
 unfoldable pub newIn : List ℕ → Entry
@@ -59,7 +59,7 @@ changesAt s at n = rows n (rowWith row.Change changeWithName) (drop at s)
 
 -- what is made of a row that was read, or `else` where none was
 unfoldable pub made : {A B : Type 0} → (A → B) → (else : B) → Parsed A → B
-made f else bad = else
+made f else (bad m) = else
 made f else (good x n) = f x
 
 -- what a tag that was read holds, and what a change that was read makes new

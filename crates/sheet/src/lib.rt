@@ -5,16 +5,16 @@ use rows::Row;
 use strings::Text;
 ghost use mathlib.Core.Path.{_≡_};
 ghost use lib.ListN.{drop};
-ghost use Rattle.layout.specs.Reading.{_then_, number, times, exactly};
-ghost use Rattle.layout.specs.Saving.{entryOf, seenOf, change, sheet};
+ghost use Rattle.layout.specs.Reading.{times, exactly};
+ghost use Rattle.layout.specs.Saving.{entryOf, seenPart, newPart, change, sheet};
 ghost use Rattle.parts.specs.Parts.{endOf};
-ghost use Rattle.sheet.specs.Sheet.{sheetOf};
+ghost use Rattle.sheet.specs.Sheet.{sheetEndOf, sheetOf};
 ghost use Rattle.sheet.specs.Values.{entryValue, newValue};
 
-// A change sheet: its number of changes.
+// A change sheet: its number of changes; or where its first fault is.
 pub enum Sheet {
     Whole(usize),
-    Broken,
+    Broken(usize),
 }
 
 // A value that stands in some bytes: the place of its short string, and its number of bytes; or nothing.
@@ -42,7 +42,7 @@ fn kind_end(s: &[u8], at: usize, kind: u8) -> Place
 
 // A seen entry: an entry, or "2 nobody looked".
 fn seen_end(s: &[u8], at: usize) -> Place
-    ensures { λ r. ⌜ r ≡ endOf at ((number 1 then seenOf) (drop at (now (s .entry)))) ⌝ }
+    ensures { λ r. ⌜ r ≡ endOf at (seenPart (drop at (now (s .entry)))) ⌝ }
 {
     if s.len() <= at {
         return Place::Broken;
@@ -55,7 +55,7 @@ fn seen_end(s: &[u8], at: usize) -> Place
 }
 
 fn new_end(s: &[u8], at: usize) -> Place
-    ensures { λ r. ⌜ r ≡ endOf at ((number 1 then entryOf) (drop at (now (s .entry)))) ⌝ }
+    ensures { λ r. ⌜ r ≡ endOf at (newPart (drop at (now (s .entry)))) ⌝ }
 {
     if s.len() <= at {
         return Place::Broken;
@@ -95,29 +95,48 @@ fn changes_end(s: &[u8], at: usize, n: usize) -> Place
     Place::End(place)
 }
 
-// "UInt8 number of changes, 0 to 64 ..; no name comes twice; nothing follows the last change."
-pub fn changes_of(s: &[u8]) -> Sheet
-    ensures { λ r. ⌜ r ≡ sheetOf (exactly sheet (now (s .entry))) ⌝ }
+// A sheet by its number of changes, and where it ends.
+enum SheetEnd {
+    Whole(usize, usize),
+    Broken,
+}
+
+// "UInt8 number of changes, 0 to 64 ..; no name comes twice"
+fn sheet_end(s: &[u8]) -> SheetEnd
+    ensures { λ r. ⌜ r ≡ sheetEndOf (sheet (now (s .entry))) ⌝ }
 {
     if s.len() < 1 {
-        return Sheet::Broken;
+        return SheetEnd::Broken;
     }
     let count = number::read(s, 0, 1);
     let n = count as usize;
     if Header::MOST_CHANGES < n {
-        return Sheet::Broken;
+        return SheetEnd::Broken;
     }
     let changes = changes_end(s, 1, n);
     let Place::End(end) = changes else {
-        return Sheet::Broken;
+        return SheetEnd::Broken;
     };
-    if end != s.len() {
-        return Sheet::Broken;
-    }
     if names::distinct_names(s, 1, n, Row::Change) {
-        Sheet::Whole(n)
+        SheetEnd::Whole(n, end)
     } else {
-        Sheet::Broken
+        SheetEnd::Broken
+    }
+}
+
+// The same, and "nothing follows the last change". A sheet that is refused is walked once more, for its first fault.
+pub fn changes_of(s: &[u8]) -> Sheet
+    ensures { λ r. ⌜ r ≡ sheetOf (exactly sheet (now (s .entry))) ⌝ }
+{
+    match sheet_end(s) {
+        SheetEnd::Whole(n, end) => {
+            if end == s.len() {
+                Sheet::Whole(n)
+            } else {
+                Sheet::Broken(end)
+            }
+        }
+        SheetEnd::Broken => Sheet::Broken(faults::first_fault(s, 0, Row::Change, 0)),
     }
 }
 

@@ -14,14 +14,15 @@ use mir.Val.{Fits}
 use borrow.Author.Tests.{le-leb, lt-leb, leb-true, leb-false, lt-ltb, le-ltb, not-true, not-false}
 use Rattle.number.specs.Number.{numberOf}
 use Rattle.layout.specs.Recording.{within, every, isNameByte, isTagByte, legalSectionName, legalTagName, legalTagValue}
-use Rattle.layout.specs.Reading.{Parsed, bad, good, onward, _then_, only, number, block, string}
-use Rattle.strings.specs.Strings.{textOf, lengthOf, textWith, inClass, legalText}
+use Rattle.layout.specs.Reading.{Parsed, bad, good, Reader, onward, behind, _then_, only, faultAt, placed, number, block, string, stringFault, sectionName, tagName, tagValue}
+use Rattle.strings.specs.Strings.{textOf, lengthOf, textWith, inClass, legalText, textBy}
 use Rattle.strings.specs.declared.Text.{Text}
 use Rattle.strings.specs.declared.Text.the-variants as text
 use Rattle.strings.specs.declared.Class.{Class}
 use Rattle.strings.specs.declared.Class.the-variants as class
 use Rattle.number.proofs.Bools.{and-false}
 use Rattle.number.proofs.Bytes.{both-true}
+use Rattle.layout.proofs.Readers.{placed-good}
 use Rattle.parts.proofs.Taken.{only-parts}
 use Rattle.parts.proofs.Readers.{only-bad, only-pass, only-fail}
 
@@ -89,22 +90,22 @@ class-tag c b r e h = rw e h
 
 -- ── Short strings ──
 
-pub no-string : string [] ≡ bad
-unfolding string _then_ onward number
+pub no-string : string [] ≡ bad 0
+unfolding string placed faultAt _then_ onward number
 no-string = refl
 
-pub string-cons : (b : ℕ) (t : List ℕ) → string (b ∷ t) ≡ cond (leb b (length t)) (good (take b t) (1 + b)) bad
-unfolding string _then_ onward number block numberOf
+pub string-cons : (b : ℕ) (t : List ℕ) → string (b ∷ t) ≡ cond (leb b (length t)) (good (take b t) (1 + b)) (bad (suc (length t)))
+unfolding string placed faultAt _then_ onward behind number block numberOf
 string-cons b t =
     let e : b + 256 * 0 ≡ b = omega arith in
     rw (le-leb 1 (suc (length t)) (omega arith), e) (go (leb b (length t)))
   where
-    go : (c : Bool) → onward (cond c (good (take b t) b) bad) (λ v m. good v (1 + m)) ≡ cond c (good (take b t) (1 + b)) bad
+    go : (c : Bool) → faultAt (suc (length t)) (behind 1 (cond c (good (take b t) b) (bad 0))) ≡ cond c (good (take b t) (1 + b)) (bad (suc (length t)))
     go true = refl
     go false = refl
 
 -- where a short string is there, and where it is not
-string-out : (s : List ℕ) (at : ℕ) → length s ≤ at → string (drop at s) ≡ bad
+string-out : (s : List ℕ) (at : ℕ) → length s ≤ at → string (drop at s) ≡ bad 0
 string-out s at h = rw (drop-of-length-le s {i = at} h) no-string
 
 string-in : (s : List ℕ) (at n : ℕ) → at < length s → n ≡ getD s at 0 → n < length s - at
@@ -113,7 +114,7 @@ string-in s at n h e l =
     let p : at + 1 ≡ suc at = omega arith in
     rw (drop-cons s at 0 h, ← e, string-cons n (drop (suc at) s), le-leb n (length (drop (suc at) s)) (simp length-drop (omega arith)), p)
 
-string-cut : (s : List ℕ) (at n : ℕ) → at < length s → n ≡ getD s at 0 → length s - at ≤ n → string (drop at s) ≡ bad
+string-cut : (s : List ℕ) (at n : ℕ) → at < length s → n ≡ getD s at 0 → length s - at ≤ n → string (drop at s) ≡ bad (suc (length (drop (suc at) s)))
 string-cut s at n h e l =
     rw (drop-cons s at 0 h, ← e, string-cons n (drop (suc at) s), lt-leb n (length (drop (suc at) s)) (simp length-drop (omega arith)))
 
@@ -148,9 +149,9 @@ string-parts s at n e = go (leb (length s) at) (leb (length s - at) (getD s at 0
         let o : n ≡ getD s at 0 = cc (string-whole s at (getD s at 0) l refl m) in
         (omega arith, o, string-in s at n l o (omega arith))
 
-pub textOf-broken : (p : Parsed (List ℕ)) → textOf p ≡ text.Broken → p ≡ bad
+pub textOf-broken : (p : Parsed (List ℕ)) → textOf p ≡ text.Broken → (m : ℕ) × (p ≡ bad m)
 unfolding textOf
-textOf-broken bad e = refl
+textOf-broken (bad m) e = (m, refl)
 textOf-broken (good v n) e = let z : _≡_ {A = ℕ} 0 1 = cc in absurd (omega arith)
 
 -- ── Short strings by a rule ──
@@ -164,7 +165,7 @@ text-place s at n r h e f = let l = text-fits s at n r e f in record { fits = om
 pub text-broken : (ok : List ℕ → Bool) (s : List ℕ) (at : ℕ) (r : Text) → r ≡ textOf (string (drop at s)) → r ≡ text.Broken
     → text.Broken ≡ textOf (only ok string (drop at s))
 unfolding textOf
-text-broken ok s at r e f = rw (only-bad ok string (drop at s) (textOf-broken (string (drop at s)) (sym e ∙ f)))
+text-broken ok s at r e f = rw (only-bad ok string (drop at s) (textOf-broken (string (drop at s)) (sym e ∙ f) .1))
 
 pub part-length : (s : List ℕ) (at n : ℕ) → at + 1 + n ≤ length s → length (take n (drop (at + 1) s)) ≡ n
 part-length s at n h = length-take-le n (drop (at + 1) s) (simp length-drop (omega arith))
@@ -206,25 +207,38 @@ text-right least c s at n r q w e f m g h =
     let b : getD s at 0 < 256 = w at .fits in
     rw (only-pass (legalText least c) string (drop at s) _ _ p (legal-right least c _ (omega arith) (omega arith) (sym g ∙ h)), k)
 
+-- where a fault is leaves the string as it is
+pub text-placed : (w : List ℕ → ℕ) (p : Reader (List ℕ)) (l : List ℕ) → textOf (placed w p l) ≡ textOf (p l)
+unfolding placed faultAt textOf
+text-placed w p l = go (p l)
+  where
+    go : (x : Parsed (List ℕ)) → textOf (faultAt (w l) x) ≡ textOf x
+    go (bad m) = refl
+    go (good v n) = refl
+
+text-by : (least : ℕ) (c : Class) (l : List ℕ) → textOf (textBy least c l) ≡ textOf (only (legalText least c) string l)
+unfolding textBy
+text-by least c l = text-placed (stringFault least (inClass c)) (only (legalText least c) string) l
+
 -- the same by the string's number of bytes
 module _ (least : ℕ) (c : Class) (s : List ℕ) (at : ℕ) (r : Text) (e : r ≡ textOf (string (drop at s))) where
-  pub length-broken : r ≡ text.Broken → 256 ≡ lengthOf (textOf (only (legalText least c) string (drop at s)))
+  pub length-broken : r ≡ text.Broken → 256 ≡ lengthOf (textOf (textBy least c (drop at s)))
   unfolding lengthOf
-  length-broken f = ap lengthOf (text-broken (legalText least c) s at r e f)
+  length-broken f = ap lengthOf (text-broken (legalText least c) s at r e f ∙ sym (text-by least c (drop at s)))
 
-  pub length-short : (n : ℕ) → r ≡ text.Whole n → n < least → 256 ≡ lengthOf (textOf (only (legalText least c) string (drop at s)))
+  pub length-short : (n : ℕ) → r ≡ text.Whole n → n < least → 256 ≡ lengthOf (textOf (textBy least c (drop at s)))
   unfolding lengthOf
-  length-short n f h = ap lengthOf (text-short least c s at n r e f h)
+  length-short n f h = ap lengthOf (text-short least c s at n r e f h ∙ sym (text-by least c (drop at s)))
 
   pub length-wrong : (n : ℕ) (q : Bool) → r ≡ text.Whole n → q ≡ every (inClass c) (take n (drop (at + 1) s)) → q ≡ false
-      → 256 ≡ lengthOf (textOf (only (legalText least c) string (drop at s)))
+      → 256 ≡ lengthOf (textOf (textBy least c (drop at s)))
   unfolding lengthOf
-  length-wrong n q f g h = ap lengthOf (text-wrong least c s at n r q e f g h)
+  length-wrong n q f g h = ap lengthOf (text-wrong least c s at n r q e f g h ∙ sym (text-by least c (drop at s)))
 
   pub length-right : (n : ℕ) (q : Bool) → ((i : ℕ) → Fits w8 (getD s i 0)) → r ≡ text.Whole n → least ≤ n
-      → q ≡ every (inClass c) (take n (drop (at + 1) s)) → q ≡ true → n ≡ lengthOf (textOf (only (legalText least c) string (drop at s)))
+      → q ≡ every (inClass c) (take n (drop (at + 1) s)) → q ≡ true → n ≡ lengthOf (textOf (textBy least c (drop at s)))
   unfolding lengthOf
-  length-right n q w f m g h = ap lengthOf (text-right least c s at n r q w e f m g h)
+  length-right n q w f m g h = ap lengthOf (text-right least c s at n r q w e f m g h ∙ sym (text-by least c (drop at s)))
 
 pub with-length : (n : ℕ) → n < 256 → text.Whole n ≡ textWith n
 unfolding textWith
@@ -234,30 +248,35 @@ pub with-none : (n : ℕ) → 256 ≤ n → text.Broken ≡ textWith n
 unfolding textWith
 with-none n h = rw (le-ltb n 256 h)
 
--- a string that keeps the rule is known by its number of bytes
-text-again : (least : ℕ) (c : Class) (l : List ℕ) → textWith (lengthOf (textOf (only (legalText least c) string l))) ≡ textOf (only (legalText least c) string l)
-unfolding textOf lengthOf textWith legalText
-text-again least c l = go (only (legalText least c) string l) refl
+-- a string that keeps the rule has at most 255 bytes
+pub by-short : (least : ℕ) (c : Class) (l v : List ℕ) (n : ℕ) → textBy least c l ≡ good v n → length v < 256
+unfolding textBy legalText
+by-short least c l v n e =
+    let (f, g) = only-parts (legalText least c) string l v n (placed-good (stringFault least (inClass c)) (only (legalText least c) string) l v n e) in
+    let (h, i) = both-true (within least 255 (length v)) (every (inClass c) v) g in
+    let (j, k) = both-true (leb least (length v)) (leb (length v) 255) h in
+    omega (arith, leb-true (length v) 255 k)
+
+-- and is known by their number
+text-again : (least : ℕ) (c : Class) (l : List ℕ) → textWith (lengthOf (textOf (textBy least c l))) ≡ textOf (textBy least c l)
+unfolding textOf lengthOf textWith
+text-again least c l = go (textBy least c l) refl
   where
-    go : (p : Parsed (List ℕ)) → only (legalText least c) string l ≡ p → textWith (lengthOf (textOf p)) ≡ textOf p
-    go bad e = refl
-    go (good v n) e =
-        let (f, g) = only-parts (legalText least c) string l v n e in
-        let (h, i) = both-true (within least 255 (length v)) (every (inClass c) v) g in
-        let (j, k) = both-true (leb least (length v)) (leb (length v) 255) h in
-        rw (lt-ltb (length v) 256 (omega (arith, leb-true (length v) 255 k)))
+    go : (p : Parsed (List ℕ)) → textBy least c l ≡ p → textWith (lengthOf (textOf p)) ≡ textOf p
+    go (bad m) e = refl
+    go (good v n) e = rw (lt-ltb (length v) 256 (by-short least c l v n e))
 
 module _ (s : List ℕ) (at n : ℕ) (r : Text) (e : r ≡ textWith n) where
-  pub section-rule : n ≡ lengthOf (textOf (only (legalText 1 class.Name) string (drop at s))) → r ≡ textOf (only legalSectionName string (drop at s))
-  unfolding legalText legalSectionName inClass
+  pub section-rule : n ≡ lengthOf (textOf (textBy 1 class.Name (drop at s))) → r ≡ textOf (sectionName (drop at s))
+  unfolding textBy legalText sectionName legalSectionName inClass
   section-rule f = e ∙ ap textWith f ∙ text-again 1 class.Name (drop at s)
 
-  pub name-rule : n ≡ lengthOf (textOf (only (legalText 1 class.Tag) string (drop at s))) → r ≡ textOf (only legalTagName string (drop at s))
-  unfolding legalText legalTagName inClass
+  pub name-rule : n ≡ lengthOf (textOf (textBy 1 class.Tag (drop at s))) → r ≡ textOf (tagName (drop at s))
+  unfolding textBy legalText tagName legalTagName inClass
   name-rule f = e ∙ ap textWith f ∙ text-again 1 class.Tag (drop at s)
 
-  pub value-rule : n ≡ lengthOf (textOf (only (legalText 0 class.Tag) string (drop at s))) → r ≡ textOf (only legalTagValue string (drop at s))
-  unfolding legalText legalTagValue inClass
+  pub value-rule : n ≡ lengthOf (textOf (textBy 0 class.Tag (drop at s))) → r ≡ textOf (tagValue (drop at s))
+  unfolding textBy legalText tagValue legalTagValue inClass
   value-rule f = e ∙ ap textWith f ∙ text-again 0 class.Tag (drop at s)
 
 -- ── All of a class ──

@@ -13,6 +13,7 @@ use Rattle.strings.proofs.string
 use Rattle.strings.proofs.section_name
 use Rattle.strings.proofs.tag_name
 use Rattle.strings.proofs.tag_value
+use Rattle.strings.proofs.read
 
 module _ {M : Type 1} (𝓤 : URA M) (H : Heap 𝓤) (A : Atoms 𝓤) (mem : Memory → SProp 𝓤) (run : Routine → Fun 𝓤) where
   pub string-one : Determines 𝓤 string.ended (string.clauses 𝓤 H A mem run)
@@ -26,3 +27,6 @@ module _ {M : Type 1} (𝓤 : URA M) (H : Heap 𝓤) (A : Atoms 𝓤) (mem : Mem
 
   pub tag-value-one : Determines 𝓤 «tag_value».ended («tag_value».clauses 𝓤 H A mem run)
   tag-value-one κs a g x y v w = agree 𝓤 (λ p q. (p ∙ sym q, refl))
+
+  pub read-one : Determines 𝓤 read.ended (read.clauses 𝓤 H A mem run)
+  read-one κs a g x y v w = agree 𝓤 (λ p q. (p ∙ sym q, refl))

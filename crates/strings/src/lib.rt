@@ -2,9 +2,9 @@
 ghost use mathlib.Core.Path.{_≡_};
 ghost use Prim.Native.Nat.{_+_, _*_, _<_, _≤_};
 ghost use lib.ListN.{length, take, drop};
-ghost use Rattle.layout.specs.Recording.{isNameByte, isTagByte, every, legalSectionName, legalTagName, legalTagValue};
-ghost use Rattle.layout.specs.Reading.{only, string};
-ghost use Rattle.strings.specs.Strings.{inClass, legalText, textOf, lengthOf, textWith};
+ghost use Rattle.layout.specs.Recording.{isNameByte, isTagByte, every};
+ghost use Rattle.layout.specs.Reading.{string, outside, stringFault, sectionName, tagName, tagValue};
+ghost use Rattle.strings.specs.Strings.{inClass, textBy, textOf, lengthOf, textWith, shortOf, readBy};
 
 // A short string at a place: its number of bytes, which start behind the length byte.
 pub enum Text {
@@ -172,7 +172,7 @@ const NO_LENGTH: usize = 256;
 // How many bytes the short string of a class at a place has; no length where there is none with at least so many bytes, or one of them is of no such class.
 // A number, and no enum: it comes back in a register, and the walk over a table goes by it.
 fn text_length(s: &[u8], at: usize, least: usize, class: Class) -> usize
-    ensures { λ r. ⌜ r ≡ lengthOf (textOf (only (legalText least class) string (drop at (now (s .entry))))) ⌝ }
+    ensures { λ r. ⌜ r ≡ lengthOf (textOf (textBy least class (drop at (now (s .entry))))) ⌝ }
 {
     let text = string(s, at);
     let Text::Whole(n) = text else {
@@ -200,19 +200,90 @@ fn text_of(length: usize) -> Text
 }
 
 pub fn section_name(s: &[u8], at: usize) -> Text
-    ensures { λ r. ⌜ r ≡ textOf (only legalSectionName string (drop at (now (s .entry)))) ⌝ }
+    ensures { λ r. ⌜ r ≡ textOf (sectionName (drop at (now (s .entry)))) ⌝ }
 {
     text_of(text_length(s, at, 1, Class::Name))
 }
 
 pub fn tag_name(s: &[u8], at: usize) -> Text
-    ensures { λ r. ⌜ r ≡ textOf (only legalTagName string (drop at (now (s .entry)))) ⌝ }
+    ensures { λ r. ⌜ r ≡ textOf (tagName (drop at (now (s .entry)))) ⌝ }
 {
     text_of(text_length(s, at, 1, Class::Tag))
 }
 
 pub fn tag_value(s: &[u8], at: usize) -> Text
-    ensures { λ r. ⌜ r ≡ textOf (only legalTagValue string (drop at (now (s .entry)))) ⌝ }
+    ensures { λ r. ⌜ r ≡ textOf (tagValue (drop at (now (s .entry)))) ⌝ }
 {
     text_of(text_length(s, at, 0, Class::Tag))
+}
+
+// ── Where a short string broke ──
+
+// The place of the first of n bytes, which are there, that is of no such class; behind them where there is none.
+fn first_outside(s: &[u8], at: usize, n: usize, class: Class) -> usize
+    requires { ⌜ at + n ≤ length (now s) ⌝ }
+    ensures { λ r. ⌜ r ≡ at + outside (inClass class) (take n (drop at (now (s .entry)))) ⌝ }
+{
+    let mut i = at;
+    let mut left = n;
+    while 0 < left {
+        if !in_class(s[i], class) {
+            return i;
+        }
+        i += 1;
+        left -= 1;
+    }
+    i
+}
+
+// "the position in the lent bytes [..] of the first byte that breaks its rule, or their length if bytes ran out". Asked of a string that is refused.
+fn text_fault(s: &[u8], at: usize, least: usize, class: Class) -> usize
+    ensures { λ r. ⌜ r ≡ at + stringFault least (inClass class) (drop at (now (s .entry))) ⌝ }
+{
+    if s.len() <= at {
+        return at;
+    }
+    let n = wide(s[at]);
+    if n < least {
+        return at;
+    }
+    let there = s.len() - at - 1;
+    if there < n {
+        return first_outside(s, at + 1, there, class);
+    }
+    first_outside(s, at + 1, n, class)
+}
+
+// A short string at a place: its number of bytes; or the place where it broke.
+pub enum Short {
+    Whole(usize),
+    Broken(usize),
+}
+
+fn text_or_fault(s: &[u8], at: usize, least: usize, class: Class) -> Short
+    ensures { λ r. ⌜ r ≡ shortOf at (textBy least class (drop at (now (s .entry)))) ⌝ }
+{
+    let length = text_length(s, at, least, class);
+    if length < NO_LENGTH {
+        return Short::Whole(length);
+    }
+    Short::Broken(text_fault(s, at, least, class))
+}
+
+// Which short string is read.
+pub enum Rule {
+    SectionName,
+    TagName,
+    TagValue,
+}
+
+// A short string by its rule, with the place where it broke.
+pub fn read(s: &[u8], at: usize, rule: Rule) -> Short
+    ensures { λ r. ⌜ r ≡ shortOf at (readBy rule (drop at (now (s .entry)))) ⌝ }
+{
+    match rule {
+        Rule::SectionName => text_or_fault(s, at, 1, Class::Name),
+        Rule::TagName => text_or_fault(s, at, 1, Class::Tag),
+        Rule::TagValue => text_or_fault(s, at, 0, Class::Tag),
+    }
 }

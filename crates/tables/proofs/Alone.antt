@@ -24,24 +24,24 @@ read-there t r n end e f = go (table t) refl (sym e ∙ f)
   where
     go : (p : Parsed (List Tag)) → table t ≡ p → tablePlaceOf 0 p ≡ tablePlace.Whole n end
         → (ts : List Tag) × (length ts ≡ n) × (table t ≡ good ts end)
-    go bad g h = let z : _≡_ {A = ℕ} 0 1 = cc in absurd (omega arith)
+    go (bad i) g h = let z : _≡_ {A = ℕ} 0 1 = cc in absurd (omega arith)
     go (good ts m) g h =
         let a : length ts ≡ n = cc in
         let b : 0 + m ≡ end = cc in
         (ts, a, g ∙ ap (good ts) (omega arith))
 
-pub tags-broken : (t : List ℕ) (r : TablePlace) → r ≡ tablePlaceOf 0 (table (drop 0 t)) → r ≡ tablePlace.Broken
-    → tags.Broken ≡ tagsOf (exactly table t)
+pub tags-broken : (t : List ℕ) (r : TablePlace) (k : ℕ) → r ≡ tablePlaceOf 0 (table (drop 0 t)) → r ≡ tablePlace.Broken k
+    → tags.Broken k ≡ tagsOf (exactly table t)
 unfolding tablePlaceOf tagsOf exactly onward
-tags-broken t r e f = go (table t) (sym e ∙ f)
+tags-broken t r k e f = go (table t) (sym e ∙ f)
   where
-    go : (p : Parsed (List Tag)) → tablePlaceOf 0 p ≡ tablePlace.Broken
-        → tags.Broken ≡ tagsOf (onward p (λ a n. cond (eqb n (length t)) (good a n) bad))
-    go bad h = refl
+    go : (p : Parsed (List Tag)) → tablePlaceOf 0 p ≡ tablePlace.Broken k
+        → tags.Broken k ≡ tagsOf (onward p (λ a n. cond (eqb n (length t)) (good a n) (bad n)))
+    go (bad m) h = let i : 0 + m ≡ k = cc in ap tags.Broken (omega arith)
     go (good ts m) h = let z : _≡_ {A = ℕ} 0 1 = cc in absurd (omega arith)
 
 pub tags-longer : (t : List ℕ) (r : TablePlace) (n end : ℕ) → r ≡ tablePlaceOf 0 (table (drop 0 t)) → r ≡ tablePlace.Whole n end
-    → (end ≡ length t → ⊥) → tags.Broken ≡ tagsOf (exactly table t)
+    → (end ≡ length t → ⊥) → tags.Broken end ≡ tagsOf (exactly table t)
 unfolding tagsOf exactly onward
 tags-longer t r n end e f h =
     let (ts, a, b) = read-there t r n end e f in
@@ -57,12 +57,12 @@ tags-whole t r n end e f h =
 -- what the number of tags was read from
 pub tags-parts : (p : Parsed (List Tag)) (n : ℕ) → tagsOf p ≡ tags.Whole n → (ts : List Tag) × (m : ℕ) × (p ≡ good ts m) × (length ts ≡ n)
 unfolding tagsOf
-tags-parts bad n e = let z : _≡_ {A = ℕ} 0 1 = cc in absurd (omega arith)
+tags-parts (bad m) n e = let z : _≡_ {A = ℕ} 0 1 = cc in absurd (omega arith)
 tags-parts (good ts m) n e = (ts, m, refl, cc)
 
-pub tags-none : (p : Parsed (List Tag)) → tagsOf p ≡ tags.Broken → p ≡ bad
+pub tags-none : (p : Parsed (List Tag)) (k : ℕ) → tagsOf p ≡ tags.Broken k → p ≡ bad k
 unfolding tagsOf
-tags-none bad e = refl
-tags-none (good ts m) e = let z : _≡_ {A = ℕ} 0 1 = cc in absurd (omega arith)
+tags-none (bad m) k e = cc
+tags-none (good ts m) k e = let z : _≡_ {A = ℕ} 0 1 = cc in absurd (omega arith)
 
 pub ruleset laws = (needs, tags-broken, tags-longer, tags-whole)

@@ -18,6 +18,8 @@ use Rattle.tables.specs.declared.TagPlace.{TagPlace}
 use Rattle.tables.specs.declared.TagPlace.the-variants as tagPlace
 use Rattle.tables.specs.declared.TagsEnd.{TagsEnd}
 use Rattle.tables.specs.declared.TagsEnd.the-variants as tagsEnd
+use Rattle.tables.specs.declared.TableEnd.{TableEnd}
+use Rattle.tables.specs.declared.TableEnd.the-variants as tableEnd
 use Rattle.tables.specs.declared.TablePlace.{TablePlace}
 use Rattle.tables.specs.declared.TablePlace.the-variants as tablePlace
 use Rattle.tables.specs.declared.Tags.{Tags}
@@ -27,12 +29,17 @@ use Rattle.tables.specs.declared.TagFound.the-variants.{At, Nothing}
 
 -- a tag that was read, by the lengths of its name and value
 unfoldable pub tagPlaceOf : Parsed Tag → TagPlace
-tagPlaceOf bad = tagPlace.Broken
+tagPlaceOf (bad m) = tagPlace.Broken
 tagPlaceOf (good t n) = tagPlace.Whole (length (t .name)) (length (t .value))
 
 -- a table that was read from `at` on, by its number of tags and its end
+unfoldable pub tableEndOf : (at : ℕ) → Parsed (List Tag) → TableEnd
+tableEndOf at (bad m) = tableEnd.Broken
+tableEndOf at (good ts n) = tableEnd.Whole (length ts) (at + n)
+
+-- the same, or where its first fault is
 unfoldable pub tablePlaceOf : (at : ℕ) → Parsed (List Tag) → TablePlace
-tablePlaceOf at bad = tablePlace.Broken
+tablePlaceOf at (bad m) = tablePlace.Broken (at + m)
 tablePlaceOf at (good ts n) = tablePlace.Whole (length ts) (at + n)
 
 -- where tags end whose names differ
@@ -44,14 +51,14 @@ unfoldable pub Ends : List ℕ → (at n : ℕ) → TagsEnd → Type 0
 Ends s at n (tagsEnd.End e apart) = (endOf at (times n tag (drop at s)) ≡ place.End e) × (apart ≡ true → distinctNames s at n row.Tag ≡ true)
 Ends s at n tagsEnd.Broken = endOf at (times n tag (drop at s)) ≡ place.Broken
 
--- the number of tags of bytes that were read as a table, and nothing behind it
+-- the number of tags of bytes that were read as a table, and nothing behind it; or where the first fault is
 unfoldable pub tagsOf : Parsed (List Tag) → Tags
-tagsOf bad = tags.Broken
+tagsOf (bad m) = tags.Broken m
 tagsOf (good ts n) = tags.Whole (length ts)
 
 -- where name and value stand in a tag that was read from p on
 unfoldable pub partsOf : (p : ℕ) → Parsed Tag → TagFound
-partsOf p bad = Nothing
+partsOf p (bad m) = Nothing
 partsOf p (good t n) = At (p + 1) (length (t .name)) (p + 1 + length (t .name) + 1) (length (t .value))
 
 unfoldable pub tagFrom : List ℕ → Place → TagFound

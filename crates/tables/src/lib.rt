@@ -9,7 +9,7 @@ ghost use Rattle.layout.specs.Reading.{times, exactly, tag, table};
 ghost use Rattle.parts.specs.Parts.{endOf};
 ghost use Rattle.names.specs.Names.{distinctNames};
 ghost use Rattle.rows.specs.declared.Row.the-variants as row;
-ghost use Rattle.tables.specs.Tables.{tagPlaceOf, tablePlaceOf, tagsOf, tagFound, Ends, apartOf};
+ghost use Rattle.tables.specs.Tables.{tagPlaceOf, tableEndOf, tablePlaceOf, tagsOf, tagFound, Ends, apartOf};
 
 // A tag at a place: the numbers of bytes of its name and of its value.
 pub enum TagPlace {
@@ -17,10 +17,10 @@ pub enum TagPlace {
     Broken,
 }
 
-// A table at a place: its number of tags, and where it ends.
+// A table at a place: its number of tags, and where it ends; or where its first fault is.
 pub enum TablePlace {
     Whole(usize, usize),
-    Broken,
+    Broken(usize),
 }
 
 // A tag: its name and its value, as short strings of bytes that a tag may have.
@@ -114,45 +114,62 @@ fn tags_apart(s: &[u8], at: usize, n: usize) -> Place
     Place::Broken
 }
 
+// A table by its number of tags, and where it ends.
+enum TableEnd {
+    Whole(usize, usize),
+    Broken,
+}
+
 // A tag table: its number of tags, the tags, and no two names equal.
-pub fn table(s: &[u8], at: usize) -> TablePlace
-    ensures { λ r. ⌜ r ≡ tablePlaceOf at (table (drop at (now (s .entry)))) ⌝ }
+fn table_end(s: &[u8], at: usize) -> TableEnd
+    ensures { λ r. ⌜ r ≡ tableEndOf at (table (drop at (now (s .entry)))) ⌝ }
 {
     if s.len() < 4 {
-        return TablePlace::Broken;
+        return TableEnd::Broken;
     }
     if s.len() - 4 < at {
-        return TablePlace::Broken;
+        return TableEnd::Broken;
     }
     let count = number::read(s, at, 4);
     let n = count as usize;
     if Header::MOST_TAGS < n {
-        return TablePlace::Broken;
+        return TableEnd::Broken;
     }
     let tags = tags_apart(s, at + 4, n);
     let Place::End(end) = tags else {
-        return TablePlace::Broken;
+        return TableEnd::Broken;
     };
-    TablePlace::Whole(n, end)
+    TableEnd::Whole(n, end)
 }
 
-// The number of tags of bytes that are exactly a legal table.
+// The same; one that is refused is walked once more, for its first fault.
+pub fn table(s: &[u8], at: usize) -> TablePlace
+    ensures { λ r. ⌜ r ≡ tablePlaceOf at (table (drop at (now (s .entry)))) ⌝ }
+{
+    match table_end(s, at) {
+        TableEnd::Whole(n, end) => TablePlace::Whole(n, end),
+        TableEnd::Broken => TablePlace::Broken(faults::first_fault(s, at, Row::Tag, 0)),
+    }
+}
+
+// The number of tags of bytes that are exactly a legal table; or where the first fault is.
 pub enum Tags {
     Whole(usize),
-    Broken,
+    Broken(usize),
 }
 
 pub fn tags_of(bytes: &[u8]) -> Tags
     ensures { λ r. ⌜ r ≡ tagsOf (exactly table (now (bytes .entry))) ⌝ }
 {
-    let read = table(bytes, 0);
-    let TablePlace::Whole(n, end) = read else {
-        return Tags::Broken;
-    };
-    if end == bytes.len() {
-        Tags::Whole(n)
-    } else {
-        Tags::Broken
+    match table(bytes, 0) {
+        TablePlace::Whole(n, end) => {
+            if end == bytes.len() {
+                Tags::Whole(n)
+            } else {
+                Tags::Broken(end)
+            }
+        }
+        TablePlace::Broken(place) => Tags::Broken(place),
     }
 }
 

@@ -1,7 +1,8 @@
 // FNV-1a over bytes, to hold many of them in one number.
 ghost use Prim.Native.Nat.{_*_, _%_, _^_};
 ghost use mathlib.Core.Path.{_≡_};
-ghost use Rattle.vector.specs.Check.{withByte, withBytes};
+ghost use Rattle.vector.specs.Check.{withAnswer, withByte, withBytes};
+use refusal::Refusal;
 
 pub const START: u64 = 14695981039346656037;
 
@@ -33,4 +34,13 @@ pub fn bytes(h: u64, s: &[u8]) -> u64
         i += 1;
     }
     sum
+}
+
+// A check with an answer behind it: the number of a refusal, 0 for none, in one byte, and the place that it carries in eight.
+pub fn answer(h: u64, refusal: Refusal) -> u64
+    ensures { λ r. ⌜ r ≡ withAnswer h (refusal .number) (refusal .place) ⌝ }
+{
+    let mut eight = [0; 8];
+    number::write(&mut eight, 0, 8, refusal.place as u64);
+    bytes(byte(h, refusal.number), &eight)
 }

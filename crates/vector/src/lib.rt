@@ -1,7 +1,9 @@
-// What the programs that run vectors share: the vector that an argument names, the check over bytes, the bytes lent to a call, and the words of a line.
+// What the programs that run vectors share: the vector that an argument names, the check over bytes, the bytes lent to a call, the turns and the tally of a
+// sweep, and the words of a line.
 pub mod check;
 pub mod lend;
 pub mod print;
+pub mod sweep;
 
 ghost use Rattle.io.specs.Counts.{Counts};
 use print::say;

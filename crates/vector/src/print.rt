@@ -27,10 +27,18 @@ pub fn with_time(word: &[u8], time: i64) {
     with(b"-", !pattern + 1);
 }
 
+// Whether a refusal carries a place: 3, 4, 7 and 10 that of the first fault, 11 that of a change.
+fn carries_place(number: u8) -> bool {
+    match number {
+        3 | 4 | 7 | 10 | 11 => true,
+        _ => false,
+    }
+}
+
 // A refusal's number, and its place where it carries one.
 pub fn refused(refusal: Refusal) {
     with(b"refused ", refusal.number as u64);
-    if refusal.number == Refusal::CONFLICT.number {
+    if carries_place(refusal.number) {
         with(b" place ", refusal.place as u64);
     }
 }

@@ -9,8 +9,8 @@ list-refusal-requires c κs = search needs
 returns : tie.Need-returns
 returns c = search laws
 
-bad-system-requires : tie.Need-bad-system-requires
-bad-system-requires c κs = search needs
+system-refusal-requires : tie.Need-system-refusal-requires
+system-refusal-requires c κs = search needs
 
 returns-2 : tie.Need-returns-2
 returns-2 c = search laws
@@ -39,7 +39,7 @@ refusal-of-spec =
     (tie.spec
     list-refusal-requires
     returns
-    bad-system-requires
+    system-refusal-requires
     returns-2
     returns-3
     sub-if4

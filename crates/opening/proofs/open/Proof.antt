@@ -36,14 +36,20 @@ returns-3 c = search laws
 table-requires : tie.Need-table-requires
 table-requires c κs = search needs
 
-enum-known-table : tie.Need-enum-known-table
-enum-known-table c = search needs
+enum-known-tags : tie.Need-enum-known-tags
+enum-known-tags c = search needs
 
-enum-told-2 : tie.Need-enum-told-2
-enum-told-2 c = search needs
+at-requires : tie.Need-at-requires
+at-requires c κs = search needs
 
 returns-4 : tie.Need-returns-4
 returns-4 c = search laws
+
+enum-known-place : tie.Need-enum-known-place
+enum-known-place c = search needs
+
+at-requires-2 : tie.Need-at-requires-2
+at-requires-2 c κs = search needs
 
 returns-5 : tie.Need-returns-5
 returns-5 c = search laws
@@ -66,8 +72,10 @@ open-spec =
     bad-index-requires
     returns-3
     table-requires
-    enum-known-table
-    enum-told-2
+    enum-known-tags
+    at-requires
     returns-4
+    enum-known-place
+    at-requires-2
     returns-5
     returns-6)

@@ -1,11 +1,12 @@
-use borrow.Author.Needs.{needs}
 use Rattle.saving.proofs.Saves.{laws}
+use borrow.Author.Needs.{needs}
 use Rattle.saving.proofs.save.Statement.{statement}
 use Rattle.saving.proofs.save.Tie as tie
 use Rattle.saving.proofs.save.Reads as reads
 use Rattle.saving.proofs.save.Lts as lts
 use Rattle.opening.proofs.open.Reads as open-reads
 use Rattle.opening.proofs.open_refusal.Reads as open-refusal-reads
+use Rattle.refusal.proofs.Refusal.at.Reads as at-reads
 use Rattle.saving.proofs.save_changes.Reads as save-changes-reads
 use Rattle.sheet.proofs.changes_of.Reads as changes-of-reads
 
@@ -27,14 +28,8 @@ returns c = search laws
 changes-of-requires : tie.Need-changes-of-requires
 changes-of-requires c κs = search needs
 
-enum-known-listed : tie.Need-enum-known-listed
-enum-known-listed c = search needs
-
-enum-told-2 : tie.Need-enum-told-2
-enum-told-2 c = search needs
-
-returns-2 : tie.Need-returns-2
-returns-2 c = search laws
+enum-known-changes : tie.Need-enum-known-changes
+enum-known-changes c = search needs
 
 add-save-changes : tie.Need-add-save-changes
 add-save-changes c = search laws
@@ -42,8 +37,17 @@ add-save-changes c = search laws
 save-changes-requires : tie.Need-save-changes-requires
 save-changes-requires c κs = search laws
 
+enum-known-place : tie.Need-enum-known-place
+enum-known-place c = search needs
+
+at-requires : tie.Need-at-requires
+at-requires c κs = search needs
+
 same-length : tie.Need-same-length
 same-length c = search needs
+
+returns-2 : tie.Need-returns-2
+returns-2 c = search laws
 
 returns-3 : tie.Need-returns-3
 returns-3 c = search laws
@@ -58,10 +62,11 @@ save-spec =
     open-refusal-requires
     returns
     changes-of-requires
-    enum-known-listed
-    enum-told-2
-    returns-2
+    enum-known-changes
     add-save-changes
     save-changes-requires
+    enum-known-place
+    at-requires
     same-length
+    returns-2
     returns-3)

@@ -4,55 +4,38 @@ use Rattle.sheet.proofs.changes_of.Statement.{statement}
 use Rattle.sheet.proofs.changes_of.Tie as tie
 use Rattle.sheet.proofs.changes_of.Reads as reads
 use Rattle.sheet.proofs.changes_of.Lts as lts
-use Rattle.number.proofs.read.Reads as read-reads
-use Rattle.sheet.proofs.changes_end.Reads as changes-end-reads
-use Rattle.names.proofs.distinct_names.Reads as distinct-names-reads
+use Rattle.faults.proofs.first_fault.Reads as first-fault-reads
+use Rattle.sheet.proofs.sheet_end.Reads as sheet-end-reads
 
-returns : tie.Need-returns
-returns c = search laws
+sheet-end-requires : tie.Need-sheet-end-requires
+sheet-end-requires c κs = search needs
 
-read-requires : tie.Need-read-requires
-read-requires c κs = search needs
-
-returns-2 : tie.Need-returns-2
-returns-2 c = search laws
-
-changes-end-requires : tie.Need-changes-end-requires
-changes-end-requires c κs = search needs
-
-enum-known-changes : tie.Need-enum-known-changes
-enum-known-changes c = search needs
+enum-known-n : tie.Need-enum-known-n
+enum-known-n c = search needs
 
 enum-told : tie.Need-enum-told
 enum-told c = search needs
 
+first-fault-requires : tie.Need-first-fault-requires
+first-fault-requires c κs = search needs
+
+returns : tie.Need-returns
+returns c = search laws
+
+returns-2 : tie.Need-returns-2
+returns-2 c = search laws
+
 returns-3 : tie.Need-returns-3
 returns-3 c = search laws
-
-returns-4 : tie.Need-returns-4
-returns-4 c = search laws
-
-distinct-names-requires : tie.Need-distinct-names-requires
-distinct-names-requires c κs = search needs
-
-returns-5 : tie.Need-returns-5
-returns-5 c = search laws
-
-returns-6 : tie.Need-returns-6
-returns-6 c = search laws
 
 pub changes-of-spec : {M : Type 1} → statement M
 changes-of-spec =
     tie.close
     (tie.spec
-    returns
-    read-requires
-    returns-2
-    changes-end-requires
-    enum-known-changes
+    sheet-end-requires
+    enum-known-n
     enum-told
-    returns-3
-    returns-4
-    distinct-names-requires
-    returns-5
-    returns-6)
+    first-fault-requires
+    returns
+    returns-2
+    returns-3)

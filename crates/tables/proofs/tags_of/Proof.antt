@@ -9,11 +9,11 @@ use Rattle.tables.proofs.table.Reads as table-reads
 table-requires : tie.Need-table-requires
 table-requires c κs = search needs
 
-enum-known-read : tie.Need-enum-known-read
-enum-known-read c = search needs
+enum-known-n : tie.Need-enum-known-n
+enum-known-n c = search needs
 
-enum-told : tie.Need-enum-told
-enum-told c = search needs
+enum-known-place : tie.Need-enum-known-place
+enum-known-place c = search needs
 
 returns : tie.Need-returns
 returns c = search laws
@@ -26,4 +26,4 @@ returns-3 c = search laws
 
 pub tags-of-spec : {M : Type 1} → statement M
 tags-of-spec =
-    tie.close (tie.spec table-requires enum-known-read enum-told returns returns-2 returns-3)
+    tie.close (tie.spec table-requires enum-known-n enum-known-place returns returns-2 returns-3)
