@@ -1,13 +1,14 @@
 //! Tags of a lent table, by number, by name, and one after another.
 
+use crate::faults;
 use crate::names::TableNames;
-use crate::refusal;
+use crate::refusal::Refusal;
 use crate::table::{legal_tag, measure_whole, tag_from, tag_numbered, Tag, FIRST_TAG};
 
 /// The tag with a number; `None` is the end, from the count on.
-pub fn tag_at(table: &[u8], number: u64) -> Result<Option<Tag>, u64> {
+pub fn tag_at(table: &[u8], number: u64) -> Result<Option<Tag>, Refusal> {
     let mut names = TableNames::new();
-    let extent = measure_whole(table, &mut names).ok_or(refusal::USER_TABLE)?;
+    let extent = measure_whole(table, &mut names).ok_or_else(|| faults::user_table(table, 0))?;
     if number < extent.tags as u64 {
         Ok(Some(tag_numbered(table, number as usize)))
     } else {
@@ -16,9 +17,9 @@ pub fn tag_at(table: &[u8], number: u64) -> Result<Option<Tag>, u64> {
 }
 
 /// The tag with a name; `None` if there is no such tag.
-pub fn tag_named(table: &[u8], name: &[u8]) -> Result<Option<Tag>, u64> {
+pub fn tag_named(table: &[u8], name: &[u8]) -> Result<Option<Tag>, Refusal> {
     let mut names = TableNames::new();
-    measure_whole(table, &mut names).ok_or(refusal::USER_TABLE)?;
+    measure_whole(table, &mut names).ok_or_else(|| faults::user_table(table, 0))?;
     Ok(names.find(table, name).map(|place| tag_from(table, place)))
 }
 
@@ -30,9 +31,9 @@ pub struct Stop {
 }
 
 /// A walk begins at the first tag; `None` if the table has none.
-pub fn first_tag(table: &[u8]) -> Result<Option<Stop>, u64> {
+pub fn first_tag(table: &[u8]) -> Result<Option<Stop>, Refusal> {
     let mut names = TableNames::new();
-    let extent = measure_whole(table, &mut names).ok_or(refusal::USER_TABLE)?;
+    let extent = measure_whole(table, &mut names).ok_or_else(|| faults::user_table(table, 0))?;
     Ok(stop(table, FIRST_TAG as u64, extent.tags as u64))
 }
 

@@ -1,7 +1,7 @@
 //! The layout: fixed places, limits, numbers, and the rules that more than
 //! one job asks about.
 
-use crate::refusal;
+use crate::refusal::{self, Refusal};
 
 /// The header's changing fields, with the file's fixed places and limits.
 #[derive(Debug, Clone, Copy, PartialEq, Eq)]
@@ -33,12 +33,12 @@ impl Header {
     pub const MAX_USER: u64 = Self::MAX_FILE - Self::MAX_TABLE;
 
     /// Refused 1 or 2. The section count's byte is there if this is accepted.
-    pub fn read(file: &[u8]) -> Result<Header, u64> {
+    pub fn read(file: &[u8]) -> Result<Header, Refusal> {
         if file.len() <= Self::LENGTH || file[..4] != Self::MAGIC {
-            return Err(refusal::NOT_FSTF);
+            return Err(refusal::NOT_FSTF.into());
         }
         if file[Self::REVISION_AT] != Self::REVISION {
-            return Err(refusal::REVISION);
+            return Err(refusal::REVISION.into());
         }
         Ok(Header {
             frames: u32::from_le_bytes(array(file, Self::FRAMES_AT)),
@@ -108,20 +108,34 @@ pub(crate) fn elapsed(first: i64, time: i64) -> Option<u32> {
     u32::try_from(time.wrapping_sub(first) as u64).ok()
 }
 
-/// A section name: 1 to 255 bytes, each a digit, a capital or a small letter.
-pub(crate) fn is_section_name(name: &[u8]) -> bool {
-    !name.is_empty()
-        && name
-            .iter()
-            .all(|byte| matches!(byte, 48..=57 | 65..=90 | 97..=122))
+/// The bytes a section name may have: digits, capitals and small letters.
+#[inline]
+pub(crate) fn is_name_byte(byte: u8) -> bool {
+    matches!(byte, 48..=57 | 65..=90 | 97..=122)
 }
 
-/// The bytes a tag's name or value may have. It looks at every byte, so that
-/// long strings are tested many bytes at a time.
+/// A section name has 1 to 255 bytes.
+pub(crate) fn is_section_name(name: &[u8]) -> bool {
+    !name.is_empty() && name.iter().all(|&byte| is_name_byte(byte))
+}
+
+/// The bytes a tag's name or value may have.
+#[inline]
+pub(crate) fn is_text_byte(byte: u8) -> bool {
+    matches!(byte, 32..=126)
+}
+
+/// It looks at every byte, so that long strings are tested many bytes at a
+/// time.
 pub(crate) fn is_text(bytes: &[u8]) -> bool {
     bytes
         .iter()
-        .fold(true, |so_far, byte| so_far & matches!(byte, 32..=126))
+        .fold(true, |so_far, &byte| so_far & is_text_byte(byte))
+}
+
+/// Whether a configuration may run from one offset to the other.
+pub(crate) fn is_step(from: u64, to: u64) -> bool {
+    to >= from && to - from <= Header::MAX_CONFIGURATION
 }
 
 /// The `N` bytes at a place known to be inside.

@@ -2,10 +2,12 @@
 //! record, repair, save tags.
 //!
 //! Every call works on bytes the caller lends. A refused call answers with
-//! document 01's refusal number and changes no lent byte.
+//! document 01's refusal number, and with the place that request 102 of
+//! document 02 gives to some of them, and changes no lent byte.
 #![forbid(unsafe_code)]
 
 mod browser;
+mod faults;
 mod layout;
 mod names;
 mod opening;
@@ -21,6 +23,7 @@ pub use browser::{first_tag, next_tag, tag_at, tag_named, Stop};
 pub use opening::{open, Opened};
 pub use reading::{frame, frame_of, hold, part, part_of, Frame, Held, Item};
 pub use recorder::{add, begin, close, Piece, Stage, State};
+pub use refusal::Refusal;
 pub use repair::{repair, Repaired};
-pub use saving::{save, NotSaved};
+pub use saving::save;
 pub use table::Tag;

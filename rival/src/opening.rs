@@ -1,8 +1,9 @@
 //! Opening: refusals 1 to 7 in number order.
 
-use crate::layout::{index_length, is_section_name, Cursor, Entry, Header};
+use crate::faults;
+use crate::layout::{index_length, is_section_name, is_step, Cursor, Entry, Header};
 use crate::names::TableNames;
-use crate::refusal;
+use crate::refusal::{self, Refusal};
 use crate::table;
 use crate::walk::{frame_length, time_of, Clock};
 
@@ -21,7 +22,7 @@ pub struct Opened {
     pub user: u64,
 }
 
-pub fn open(file: &[u8]) -> Result<Opened, u64> {
+pub fn open(file: &[u8]) -> Result<Opened, Refusal> {
     let mut names = TableNames::new();
     let front = front(file, &mut names)?;
     let rest = rest(file, &front, &mut names)?;
@@ -58,15 +59,19 @@ pub(crate) struct Front {
 }
 
 /// Refusals 1 to 4.
-pub(crate) fn front(file: &[u8], names: &mut TableNames) -> Result<Front, u64> {
+pub(crate) fn front(file: &[u8], names: &mut TableNames) -> Result<Front, Refusal> {
     let header = Header::read(file)?;
-    let definitions = definitions(file).ok_or(refusal::SECTIONS)?;
+    let definitions = definitions(file).ok_or_else(|| faults::definitions(file))?;
     let last = definitions.offsets[definitions.count - 1];
     if !is_step(last, header.system) {
-        return Err(refusal::SYSTEM_TABLE);
+        return Err(Refusal::at(refusal::SYSTEM_TABLE, Header::SYSTEM_AT));
     }
-    let system = inside(header.system, file).ok_or(refusal::SYSTEM_TABLE)?;
-    let extent = table::measure(&file[system..], names).ok_or(refusal::SYSTEM_TABLE)?;
+    // So close behind the definitions it is a place, if not one in the file.
+    let system = header.system as usize;
+    let extent = file
+        .get(system..)
+        .and_then(|bytes| table::measure(bytes, names))
+        .ok_or_else(|| faults::system_table(file, system))?;
     Ok(Front {
         header,
         definitions,
@@ -109,11 +114,6 @@ fn definitions(file: &[u8]) -> Option<Definitions> {
     })
 }
 
-/// Whether a configuration may run from one offset to the other.
-fn is_step(from: u64, to: u64) -> bool {
-    to >= from && to - from <= Header::MAX_CONFIGURATION
-}
-
 /// An offset as a place in the file, its end included.
 fn inside(offset: u64, file: &[u8]) -> Option<usize> {
     usize::try_from(offset).ok().filter(|&at| at <= file.len())
@@ -129,17 +129,18 @@ pub(crate) struct Rest {
 }
 
 /// Refusals 5 to 7. Accepted, `names` finds the user table's tags.
-pub(crate) fn rest(file: &[u8], front: &Front, names: &mut TableNames) -> Result<Rest, u64> {
+pub(crate) fn rest(file: &[u8], front: &Front, names: &mut TableNames) -> Result<Rest, Refusal> {
     let header = &front.header;
     if header.index == 0 || header.user == 0 || header.user > Header::MAX_USER {
-        return Err(refusal::NOT_CLOSED);
+        return Err(refusal::NOT_CLOSED.into());
     }
     let index = inside(header.index, file).ok_or(refusal::NOT_CLOSED)?;
     let user = inside(header.user, file).ok_or(refusal::NOT_CLOSED)?;
     if !is_index(file, front, index, user) {
-        return Err(refusal::INDEX);
+        return Err(refusal::INDEX.into());
     }
-    let extent = table::measure_whole(&file[user..], names).ok_or(refusal::USER_TABLE)?;
+    let extent =
+        table::measure_whole(&file[user..], names).ok_or_else(|| faults::user_table(file, user))?;
     Ok(Rest {
         frames: header.frames as usize,
         index,

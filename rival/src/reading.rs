@@ -3,7 +3,7 @@
 use crate::layout::{array, Entry};
 use crate::names::TableNames;
 use crate::opening::{front, rest, Front, Rest};
-use crate::refusal;
+use crate::refusal::{self, Refusal};
 use crate::table::tag_numbered;
 use crate::walk::{time_of, EXPOSURE_AT, HEAD};
 
@@ -39,24 +39,24 @@ pub struct Held {
 }
 
 /// Opens a file of which many items are read.
-pub fn hold(file: &[u8]) -> Result<Held, u64> {
+pub fn hold(file: &[u8]) -> Result<Held, Refusal> {
     let mut names = TableNames::new();
     let front = front(file, &mut names)?;
     let rest = rest(file, &front, &mut names)?;
     Ok(Held { front, rest })
 }
 
-pub fn frame(file: &[u8], i: u64) -> Result<Frame, u64> {
+pub fn frame(file: &[u8], i: u64) -> Result<Frame, Refusal> {
     frame_of(file, &hold(file)?, i)
 }
 
 /// Where the item's bytes start in the file, and how many they are.
-pub fn part(file: &[u8], item: Item) -> Result<(u64, u64), u64> {
+pub fn part(file: &[u8], item: Item) -> Result<(u64, u64), Refusal> {
     part_of(file, &hold(file)?, item)
 }
 
 /// As `frame`, of a file that is held.
-pub fn frame_of(file: &[u8], held: &Held, i: u64) -> Result<Frame, u64> {
+pub fn frame_of(file: &[u8], held: &Held, i: u64) -> Result<Frame, Refusal> {
     let rest = &held.rest;
     let (place, bytes) = frame_bytes(file, rest, below(i, rest.frames)?);
     Ok(Frame {
@@ -68,7 +68,7 @@ pub fn frame_of(file: &[u8], held: &Held, i: u64) -> Result<Frame, u64> {
 }
 
 /// As `part`, of a file that is held.
-pub fn part_of(file: &[u8], held: &Held, item: Item) -> Result<(u64, u64), u64> {
+pub fn part_of(file: &[u8], held: &Held, item: Item) -> Result<(u64, u64), Refusal> {
     let Held { front, rest } = held;
     let definitions = &front.definitions;
     match item {

@@ -1,9 +1,10 @@
 //! The recorder. Its state is passed in and handed back by each call; each
 //! accepted call hands out one piece of the file.
 
+use crate::faults;
 use crate::layout::{elapsed, fits, index_length, is_section_name, Cursor, Entry, Filler, Header};
 use crate::names::TableNames;
-use crate::refusal;
+use crate::refusal::{self, Refusal};
 use crate::table;
 use crate::walk::{sections_length, Clock, EXPOSURE_AT, HEAD, MARK, TIME_AT};
 
@@ -63,23 +64,24 @@ pub struct Piece {
     pub length: u64,
 }
 
-/// Hands out everything up to the first frame.
+/// Takes a set-up list and a system table, and hands out everything up to the
+/// first frame.
 pub fn begin(
     state: State,
-    setup: &[u8],
+    list: &[u8],
     system: &[u8],
     notes: &mut [u8],
     out: &mut [u8],
-) -> Result<(State, Piece), u64> {
+) -> Result<(State, Piece), Refusal> {
     if state.stage != Stage::Fresh {
-        return Err(refusal::STAGE);
+        return Err(refusal::STAGE.into());
     }
-    let setup = Setup::read(setup).ok_or(refusal::SHEET)?;
+    let setup = Setup::read(list).ok_or_else(|| faults::incomplete_list(list))?;
     if !setup.is_legal() {
-        return Err(refusal::SECTIONS);
+        return Err(faults::sections_of_list(list));
     }
     let mut names = TableNames::new();
-    table::measure_whole(system, &mut names).ok_or(refusal::SYSTEM_TABLE)?;
+    table::measure_whole(system, &mut names).ok_or_else(|| faults::lent_system_table(system))?;
     let sections = &setup.sections[..setup.count];
     let definitions_end = sections.iter().fold(Header::LENGTH + 1, |at, section| {
         at + 1 + section.name.len() + 8
@@ -89,7 +91,7 @@ pub fn begin(
     });
     let end = system_at + system.len();
     if out.len() < end || notes.len() < 4 {
-        return Err(refusal::NO_ROOM);
+        return Err(refusal::NO_ROOM.into());
     }
 
     let header = Header {
@@ -136,18 +138,18 @@ pub fn add(
     sections: &[u8],
     notes: &mut [u8],
     out: &mut [u8],
-) -> Result<(State, Piece), u64> {
+) -> Result<(State, Piece), Refusal> {
     if state.stage != Stage::Running || !state.is_within_limits() {
-        return Err(refusal::STAGE);
+        return Err(refusal::STAGE.into());
     }
     if sections_length(sections, state.sections as usize) != Some(sections.len()) {
-        return Err(refusal::FRAME_SHAPE);
+        return Err(refusal::FRAME_SHAPE.into());
     }
     let length = HEAD + sections.len();
     let end = state.end + length as u64;
     let frames = state.frames + 1;
     if frames > Header::MAX_FRAMES || !fits(end, frames) {
-        return Err(refusal::FULL);
+        return Err(refusal::FULL.into());
     }
     let mut clock = match state.frames {
         0 => Clock::new(),
@@ -156,7 +158,7 @@ pub fn add(
     let elapsed = clock.take(time).ok_or(refusal::CLOCK)?;
     let noted = index_length(frames) as usize;
     if out.len() < length || notes.len() < noted {
-        return Err(refusal::NO_ROOM);
+        return Err(refusal::NO_ROOM.into());
     }
 
     let mut head = [0; HEAD];
@@ -190,14 +192,14 @@ pub fn add(
 
 /// Hands out the next of the five closing pieces. The index offset comes last:
 /// until all of it is written the file does not open.
-pub fn close(state: State, notes: &[u8], out: &mut [u8]) -> Result<(State, Piece), u64> {
+pub fn close(state: State, notes: &[u8], out: &mut [u8]) -> Result<(State, Piece), Refusal> {
     let number = match state.stage {
         Stage::Running => 0,
         Stage::Closing(number) if number <= 4 => number,
-        _ => return Err(refusal::STAGE),
+        _ => return Err(refusal::STAGE.into()),
     };
     if !state.is_within_limits() {
-        return Err(refusal::STAGE);
+        return Err(refusal::STAGE.into());
     }
     let index = state.end;
     let user = index + index_length(state.frames);
@@ -220,7 +222,7 @@ pub fn close(state: State, notes: &[u8], out: &mut [u8]) -> Result<(State, Piece
     Ok((State { stage, ..state }, piece))
 }
 
-fn hand_out(place: u64, bytes: &[u8], out: &mut [u8]) -> Result<Piece, u64> {
+fn hand_out(place: u64, bytes: &[u8], out: &mut [u8]) -> Result<Piece, Refusal> {
     out.get_mut(..bytes.len())
         .ok_or(refusal::NO_ROOM)?
         .copy_from_slice(bytes);

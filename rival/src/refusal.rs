@@ -1,4 +1,29 @@
-//! The refusal numbers of document 01.
+//! What a refused call answers: a number of document 01, and a place with some.
+
+/// Why a call was refused.
+#[derive(Debug, Clone, Copy, PartialEq, Eq)]
+pub struct Refusal {
+    pub number: u64,
+    /// With 3, 4, 7 and 10 where the first fault stands in the lent bytes; with
+    /// 11 the lowest change of the sheet that conflicts; 0 with all others.
+    pub place: u64,
+}
+
+impl Refusal {
+    pub(crate) fn at(number: u64, place: usize) -> Refusal {
+        Refusal {
+            number,
+            place: place as u64,
+        }
+    }
+}
+
+/// A number that carries no place.
+impl From<u64> for Refusal {
+    fn from(number: u64) -> Refusal {
+        Refusal { number, place: 0 }
+    }
+}
 
 pub const NOT_FSTF: u64 = 1;
 pub const REVISION: u64 = 2;

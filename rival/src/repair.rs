@@ -3,7 +3,7 @@
 use crate::layout::{fits, index_length, Entry, Header};
 use crate::names::TableNames;
 use crate::opening::{front, rest};
-use crate::refusal;
+use crate::refusal::{self, Refusal};
 use crate::walk::{frame_length, time_of, Clock};
 
 /// The repaired file is the first `kept` bytes with the three header fields
@@ -18,11 +18,11 @@ pub struct Repaired {
     pub tail: u64,
 }
 
-pub fn repair(file: &[u8], out: &mut [u8]) -> Result<Repaired, u64> {
+pub fn repair(file: &[u8], out: &mut [u8]) -> Result<Repaired, Refusal> {
     let mut names = TableNames::new();
     let front = front(file, &mut names)?;
     if rest(file, &front, &mut names).is_ok() {
-        return Err(refusal::WHOLE);
+        return Err(refusal::WHOLE.into());
     }
     let sections = front.definitions.count;
 
@@ -44,12 +44,12 @@ pub fn repair(file: &[u8], out: &mut [u8]) -> Result<Repaired, u64> {
     }
     let count = lengths.len() as u64;
     if !fits(kept as u64, count) {
-        return Err(refusal::FULL);
+        return Err(refusal::FULL.into());
     }
     let user = kept as u64 + index_length(count);
     let tail = index_length(count) + 4;
     if (out.len() as u64) < tail {
-        return Err(refusal::NO_ROOM);
+        return Err(refusal::NO_ROOM.into());
     }
 
     let (index, behind) = out.split_at_mut(index_length(count) as usize);

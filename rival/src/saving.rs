@@ -1,31 +1,18 @@
 //! Saving tags: a change sheet against the file's user table.
 
+use crate::faults;
 use crate::layout::{is_text, Cursor, Filler, Header};
 use crate::names::{SheetNames, TableNames};
 use crate::opening::{front, rest};
-use crate::refusal;
+use crate::refusal::{self, Refusal};
 use crate::table::{tag_from, FIRST_TAG};
 
-/// Why a save was refused.
-#[derive(Debug, Clone, Copy, PartialEq, Eq)]
-pub struct NotSaved {
-    pub refused: u64,
-    /// The lowest place in the sheet that conflicts; 0 for other refusals.
-    pub place: u64,
-}
-
-impl From<u64> for NotSaved {
-    fn from(refused: u64) -> NotSaved {
-        NotSaved { refused, place: 0 }
-    }
-}
-
 /// Fills the output with the new user table and hands back its length.
-pub fn save(file: &[u8], sheet: &[u8], out: &mut [u8]) -> Result<u64, NotSaved> {
+pub fn save(file: &[u8], sheet: &[u8], out: &mut [u8]) -> Result<u64, Refusal> {
     let mut names = TableNames::new();
     let front = front(file, &mut names)?;
     let rest = rest(file, &front, &mut names)?;
-    let changes = read_sheet(sheet).ok_or(refusal::SHEET)?;
+    let changes = read_sheet(sheet).ok_or_else(|| faults::sheet(sheet))?;
     let table = &file[rest.user..];
 
     // All seen entries are compared before anything is changed.
@@ -43,10 +30,7 @@ pub fn save(file: &[u8], sheet: &[u8], out: &mut [u8]) -> Result<u64, NotSaved> 
             Seen::NobodyLooked => true,
         };
         if !agrees {
-            return Err(NotSaved {
-                refused: refusal::CONFLICT,
-                place: place as u64,
-            });
+            return Err(Refusal::at(refusal::CONFLICT, place));
         }
         match (found, change.new) {
             (Some(span), Some(value)) => {
@@ -129,7 +113,7 @@ struct Change<'a> {
     new: Option<&'a [u8]>,
 }
 
-const MAX_CHANGES: usize = 64;
+pub(crate) const MAX_CHANGES: usize = 64;
 
 /// `None` if the sheet is malformed.
 fn read_sheet(sheet: &[u8]) -> Option<Vec<Change<'_>>> {

@@ -1,8 +1,8 @@
 //! Recordings cut or damaged at every byte, and seeded inputs.
 
 mod common;
+use common::by_number::*;
 use common::*;
-use rival::*;
 
 /// A recording with frames whose pixels look like marks, and the end of each
 /// frame, the first one being the end of the system table.
@@ -383,12 +383,14 @@ fn seeded_saves_answer_as_lists_do() {
         let mut after = tags.clone();
         let mut added = Vec::new();
         let mut conflict = None;
-        let mut twice = false;
+        let mut twice = None;
         for place in 0..seeded.below(7) {
             let name = name(&mut seeded);
             sheet[0] += 1;
+            if names.contains(&name) && twice.is_none() {
+                twice = Some(sheet.len() as u64);
+            }
             sheet.extend(short(&name));
-            twice |= names.contains(&name);
             names.push(name.clone());
             let old = tags
                 .iter()
@@ -437,17 +439,11 @@ fn seeded_saves_answer_as_lists_do() {
         file.extend(form(&tags));
         let mut out = [0xAA; 400];
         let answer = save(&file, &sheet, &mut out);
-        if twice {
-            assert_eq!(
-                answer,
-                Err(NotSaved {
-                    refused: 10,
-                    place: 0
-                })
-            );
+        if let Some(place) = twice {
+            assert_eq!(answer, Err(Refusal { number: 10, place }));
             seen[0] += 1;
         } else if let Some(place) = conflict {
-            assert_eq!(answer, Err(NotSaved { refused: 11, place }));
+            assert_eq!(answer, Err(Refusal { number: 11, place }));
             seen[1] += 1;
         } else {
             let expected = form(&after);

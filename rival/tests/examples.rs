@@ -1,8 +1,8 @@
 //! Document 01's worked file and its marked examples.
 
 mod common;
+use common::by_number::*;
 use common::*;
-use rival::*;
 
 #[test]
 fn p1_the_file_opens() {
@@ -83,8 +83,8 @@ fn p11_and_p12() {
     let mut file = WORKED[..94].to_vec();
     file.extend_from_slice(&result);
     let mut out = [0xAA; 16];
-    let conflict = NotSaved {
-        refused: 11,
+    let conflict = Refusal {
+        number: 11,
         place: 0,
     };
     assert_eq!(save(&file, &sheet, &mut out), Err(conflict));

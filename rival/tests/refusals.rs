@@ -1,31 +1,8 @@
 //! Every refusal number, at its limits where they are cheap to reach.
 
 mod common;
+use common::by_number::*;
 use common::*;
-use rival::*;
-
-/// Two sections with configurations, two system tags, three frames.
-fn rich() -> Vec<u8> {
-    let mut recording = Recording::begin(
-        &setup(&[(b"IMAGE", b"abc"), (b"STATUS", b"defgh")]),
-        &table(&[(b"RECORDER", b"X"), (b"EMPTY", b"")]),
-    );
-    recording.add(-5, 1, &sections(&[b"pix", b"s"])).unwrap();
-    recording.add(-5, 2, &sections(&[b"", b"st"])).unwrap();
-    recording.add(7, 3, &sections(&[b"elsx", b""])).unwrap();
-    recording.close()
-}
-
-fn with(file: &[u8], at: usize, bytes: &[u8]) -> Vec<u8> {
-    let mut file = file.to_vec();
-    file[at..at + bytes.len()].copy_from_slice(bytes);
-    file
-}
-
-fn with_table(file: &[u8], user: &[u8]) -> Vec<u8> {
-    let at = open(file).unwrap().user as usize;
-    [&file[..at], user].concat()
-}
 
 fn bytes_of(file: &[u8], item: Item) -> Vec<u8> {
     let (place, length) = part(file, item).unwrap();
@@ -234,14 +211,14 @@ fn refused_9_leaves_everything() {
     assert_eq!(repair(&unclosed(), &mut out[..23]), Err(9));
     let sheet = [1, 1, b'A', 2, 1, 0];
     let refused = save(&WORKED, &sheet, &mut out[..6]).unwrap_err();
-    assert_eq!(refused.refused, 9);
+    assert_eq!((refused.number, refused.place), (9, 0));
     assert_eq!(out, [0xBB; 64]);
     assert_eq!(save(&WORKED, &sheet, &mut out[..7]), Ok(7));
 }
 
 #[test]
 fn refused_10() {
-    let refused = |sheet: &[u8]| save(&WORKED, sheet, &mut [0; 2000]).map_err(|e| e.refused);
+    let refused = |sheet: &[u8]| save(&WORKED, sheet, &mut [0; 2000]).map_err(|e| e.number);
     assert_eq!(refused(&[]), Err(10));
     assert_eq!(refused(&[0]), Ok(4));
     assert_eq!(refused(&[0, 0]), Err(10));
@@ -261,7 +238,7 @@ fn refused_10() {
     assert_eq!(refused(&many(64)), Ok(4 + 64 * 3));
     assert_eq!(refused(&many(65)), Err(10));
     // Everything about the file comes first.
-    assert_eq!(save(&WORKED[..97], &[], &mut []).unwrap_err().refused, 7);
+    assert_eq!(save(&WORKED[..97], &[], &mut []).unwrap_err().number, 7);
 
     let start = |list: &[u8], system: &[u8]| {
         begin(State::new(), list, system, &mut [0; 4], &mut [0; 4000]).map(|(state, _)| state)
@@ -294,7 +271,7 @@ fn refused_11_names_the_lowest_place() {
         if answer.is_err() {
             assert_eq!(out, [0xAA; 64]);
         }
-        answer.map_err(|e| (e.refused, e.place))
+        answer.map_err(|e| (e.number, e.place))
     };
     assert_eq!(refused(&[1, 1, b'A', 0, 0]), Err((11, 0)));
     assert_eq!(refused(&[1, 1, b'A', 1, 1, b'2', 0]), Err((11, 0)));
@@ -306,7 +283,7 @@ fn refused_11_names_the_lowest_place() {
     ];
     assert_eq!(refused(&sheet), Err((11, 1)));
     // A malformed sheet is told ahead of its conflicts.
-    assert_eq!(refused(&[1, 1, b'A', 0, 0, 0]), Err((10, 0)));
+    assert_eq!(refused(&[1, 1, b'A', 0, 0, 0]), Err((10, 5)));
 }
 
 #[test]
@@ -317,7 +294,7 @@ fn refused_17_counts_after_the_save() {
     let length = file.len() as u64 - 94;
     let mut out = vec![0; 8000];
     let refused = save(&file, &[1, 1, b'A', 0, 1, 0], &mut []).unwrap_err();
-    assert_eq!((refused.refused, refused.place), (17, 0));
+    assert_eq!((refused.number, refused.place), (17, 0));
     let sheet = [2, 1, b'A', 0, 1, 0, 1, b'7', 2, 0];
     assert_eq!(save(&file, &sheet, &mut out), Ok(length - 4 + 3));
     assert_eq!(

@@ -2,8 +2,8 @@
 //! a refusal changes nothing.
 
 mod common;
+use common::by_number::*;
 use common::*;
-use rival::*;
 
 const LIMIT: i128 = 1 << 40;
 

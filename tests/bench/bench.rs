@@ -34,6 +34,7 @@ fn main() {
     let beside = opening::rows_of_frames(&mut report);
     saving::rows(&mut report);
     opening::rows_of_tags(&mut report);
+    opening::rows_of_faults(&mut report);
     reading::rows(&mut report);
     recording::rows(&mut report);
     opening::row_of_bare_loop(&mut report, &beside);

@@ -97,6 +97,26 @@ pub fn rows_of_tags(report: &mut Report) {
     row("of 8 letters drawn at random", &drawn_name);
 }
 
+/// What is refused is read once more for the place of its first fault: the file's last byte may not stand in a value, or the last name is the first one's.
+pub fn rows_of_faults(report: &mut Report) {
+    let mut row = |fault: &str, place: usize, file: &[u8]| {
+        let other = |refusal: rival::Refusal| refusal.place;
+        assert_eq!((calls::open(file).refused, calls::open(file).place), (7, place as u64));
+        let times = &mut || {
+            measure(&FULL, &mut || calls::open(file).place, &mut || rival::open(file).map_or_else(other, |_| 0))
+        };
+        report.row(&format!("opening refused at the last of 1,000 tags, {}", fault), &["open"], ROW, times);
+    };
+    let mut tags = named_tags(1000, short_name);
+    let mut file = file_with(tags.clone());
+    let last = file.len() - 1;
+    file[last] = 7;
+    row("for a byte of its value", last, &file);
+    tags[999].name = tags[0].name.clone();
+    let file = file_with(tags);
+    row("for a name used twice", file.len() - 17, &file);
+}
+
 /// A table of its own: its other side is no rival.
 pub fn row_of_bare_loop(report: &mut Report, beside: &Times) {
     println!();

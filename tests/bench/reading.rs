@@ -13,7 +13,7 @@ fn frame_sum(frame: FstfFrame) -> u64 {
     frame.start + frame.length + frame.time as u64 + frame.exposure
 }
 
-fn their_frame_sum(frame: Result<rival::Frame, u64>) -> u64 {
+fn their_frame_sum(frame: Result<rival::Frame, rival::Refusal>) -> u64 {
     frame.map_or(0, |frame| frame.place + frame.length + frame.time as u64 + u64::from(frame.exposure))
 }
 
@@ -39,7 +39,7 @@ fn part_sum(part: FstfPart) -> u64 {
     part.start + part.length
 }
 
-fn their_part_sum(part: Result<(u64, u64), u64>) -> u64 {
+fn their_part_sum(part: Result<(u64, u64), rival::Refusal>) -> u64 {
     part.map_or(0, |(start, length)| start + length)
 }
 
@@ -108,7 +108,7 @@ fn tag_sum(tag: FstfTag) -> u64 {
     tag.name + tag.name_length + tag.value + tag.value_length
 }
 
-fn their_tag_sum(tag: Result<Option<rival::Tag>, u64>) -> u64 {
+fn their_tag_sum(tag: Result<Option<rival::Tag>, rival::Refusal>) -> u64 {
     tag.unwrap().map_or(0, |tag| tag.name + tag.name_length + tag.value + tag.value_length)
 }
 

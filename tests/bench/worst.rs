@@ -134,6 +134,16 @@ fn opening(names: &Names) -> Call {
     Box::new(move || calls::open(&file).user_tags)
 }
 
+/// The last name is the first one's: the file is refused, and read once more for the place.
+fn refused(names: &Names) -> Call {
+    let mut tags = tags_of(names);
+    tags[TAGS - 1].name = tags[0].name.clone();
+    let file = file_with(tags);
+    let opened = calls::open(&file);
+    assert_eq!(rival::open(&file).map_err(|other| (other.number, other.place)), Err((opened.refused, opened.place)));
+    Box::new(move || u64::from(calls::open(&file).refused == 7))
+}
+
 fn saving(names: &Names, sheet: Vec<u8>) -> Call {
     let file = file_with(tags_of(names));
     let mut out = vec![0; file.len()];
@@ -179,7 +189,16 @@ fn by_name(names: &Names) -> Call {
 
 /// A line of the table: the call on the names in each order, in turns with the call on usual names. The slowest order counts.
 fn line(report: &mut Report, what: &str, call: fn(&Names) -> Call, orders: &[Names; 3], usual: &Names) {
-    let mut plain = call(usual);
+    beside(report, what, call, orders, call(usual));
+}
+
+/// The same beside a usual file that opens.
+fn refused_line(report: &mut Report, what: &str, orders: &[Names; 3], usual: &Names) {
+    let mut opens = opening(usual);
+    beside(report, what, refused, orders, Box::new(move || u64::from(opens() == TAGS as u64)));
+}
+
+fn beside(report: &mut Report, what: &str, call: fn(&Names) -> Call, orders: &[Names; 3], mut plain: Call) {
     let mut cells = Vec::new();
     let (mut slowest, mut least) = (Duration::ZERO, Duration::MAX);
     for names in orders {
@@ -190,7 +209,11 @@ fn line(report: &mut Report, what: &str, call: fn(&Names) -> Call, orders: &[Nam
     }
     let ratio = slowest.as_secs_f64() / least.as_secs_f64();
     println!("| {} | {} | {} | {:.2} |", what, cells.join(" | "), shown(least), ratio);
-    let limit = if what.starts_with("a save") { WORST_SAVE } else { WORST };
+    let limit = match what {
+        what if what.starts_with("a save") => WORST_SAVE,
+        what if what.starts_with("refused") => WORST_REFUSED,
+        _ => WORST,
+    };
     report.hold(what, limit, ratio);
 }
 
@@ -223,6 +246,15 @@ fn lines(report: &mut Report) {
     line(report, "a save: 64 absent and 1,000 names of 12 bytes share one mark", saving_absent, &twelve, &usual(12, 0));
     let words = orders(&short_in_one_word(), TAGS, random);
     line(report, "opening: 1,000 names of 3 bytes have marks in one word", opening, &words, &three);
+    for at in [0, 240] {
+        let sharing = orders(&sharing_a_mark(&twins, 255, at), TAGS, random);
+        let what = format!("refused: 1,000 names of 255 bytes share one mark from {} on, one of them twice", at);
+        refused_line(report, &what, &sharing, &usual(255, at));
+    }
+    refused_line(report, "refused: 1,000 names of 12 bytes share one mark, one of them twice", &twelve, &usual(12, 0));
+    refused_line(report, "refused: 1,000 names of 3 bytes have marks in one word, one of them twice", &words, &three);
+    let plain = orders(&usual(12, 0), TAGS, random);
+    refused_line(report, "refused: 1,000 usual names of 12 bytes, one of them twice", &plain, &usual(12, 0));
 }
 
 pub fn rows(report: &mut Report) {

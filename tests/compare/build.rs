@@ -43,17 +43,17 @@ pub struct Written {
 }
 
 impl Written {
-    fn number(&mut self, value: u64, width: usize) {
+    pub fn number(&mut self, value: u64, width: usize) {
         self.fields.push((self.bytes.len(), width));
         self.bytes.extend_from_slice(&value.to_le_bytes()[..width]);
     }
 
-    fn short(&mut self, bytes: &[u8]) {
+    pub fn short(&mut self, bytes: &[u8]) {
         self.number(bytes.len() as u64, 1);
         self.bytes.extend_from_slice(bytes);
     }
 
-    fn start(&mut self) {
+    pub fn start(&mut self) {
         self.starts.push(self.bytes.len());
     }
 

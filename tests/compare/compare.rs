@@ -7,6 +7,7 @@ mod build;
 #[path = "../../rust/src/calls.rs"]
 #[allow(dead_code)]
 mod calls;
+mod faults;
 mod files;
 mod limits;
 #[allow(dead_code)]
@@ -26,17 +27,22 @@ use std::process::exit;
 
 type Case = fn(&mut Sides, &mut Random);
 
-const ONCE: [(&str, Case); 6] = [
+const ONCE: [(&str, Case); 11] = [
     ("each-byte", files::each_byte),
     ("large-sections", limits::large_sections),
     ("full-tables", limits::full_tables),
     ("large-configurations", limits::large_configurations),
     ("many-frames", limits::many_frames),
     ("long-recordings", limits::long_recordings),
+    ("faults-of-files", faults::of_files),
+    ("faults-of-tables", faults::of_tables),
+    ("faults-of-sheets", faults::of_sheets),
+    ("faults-of-lists", faults::of_lists),
+    ("faults-in-twos", faults::in_twos),
 ];
 
 /// Each with how many cases it has at a turn: those of few inputs have many.
-const TURNS: [(&str, Case, u64); 25] = [
+const TURNS: [(&str, Case, u64); 29] = [
     ("legal", files::legal, 4),
     ("damaged", files::damaged, 4),
     ("numbers-nudged", files::numbers_nudged, 8),
@@ -62,6 +68,10 @@ const TURNS: [(&str, Case, u64); 25] = [
     ("crowded", tags::crowded, 1),
     ("browsed", tags::browsed, 10),
     ("cursors", tags::cursors, 10),
+    ("several-faults", faults::several, 10),
+    ("faults-of-definitions", faults::of_definitions, 4),
+    ("names-twice", faults::names_twice, 8),
+    ("names-twice-among-many", faults::names_twice_among_many, 1),
 ];
 
 const DEFAULT_COUNT: u64 = 10_000_000;

@@ -4,6 +4,8 @@
 use crate::build::number;
 use crate::calls as ours;
 use crate::raw::*;
+use rival::Refusal;
+use std::collections::HashSet;
 use std::fmt::Debug;
 
 #[derive(Clone, Copy)]
@@ -48,6 +50,9 @@ const CALLS: [(&str, &[u64]); 15] = [
     ("fstf_next_tag", &[0, 7, 11, NUMBERS as u64]),
 ];
 
+/// The numbers that carry the place of a fault, which each call that has them must be seen to give.
+const PLACED: [u64; 4] = [3, 4, 7, 10];
+
 /// Differences printed before the run is given up.
 const ENOUGH: u64 = 5;
 
@@ -60,6 +65,8 @@ pub struct Sides {
     met: [[u64; NUMBERS + 1]; CALLS.len()],
     /// Accepted, at the end of a table or where there is no such tag.
     without_tag: [u64; CALLS.len()],
+    /// Call, number and place of faults that were answered, but for place 0: all of them would stand there if no place were told.
+    places: HashSet<(usize, u64, u64)>,
 }
 
 /// Lent bytes: as given, and as each side left them.
@@ -131,16 +138,16 @@ fn flat_state(state: rival::State) -> FstfRecorder {
     }
 }
 
-fn flat_taken(given: FstfRecorder, answer: Result<(rival::State, rival::Piece), u64>) -> FstfTaken {
+fn flat_taken(given: FstfRecorder, answer: Result<(rival::State, rival::Piece), Refusal>) -> FstfTaken {
     match answer {
         Ok((state, piece)) => {
             FstfTaken { refused: 0, place: 0, start: piece.place, length: piece.length, recorder: flat_state(state) }
         }
-        Err(refused) => FstfTaken { refused, place: 0, start: 0, length: 0, recorder: given },
+        Err(Refusal { number, place }) => FstfTaken { refused: number, place, start: 0, length: 0, recorder: given },
     }
 }
 
-fn flat_tag(answer: Result<Option<rival::Tag>, u64>) -> FstfTag {
+fn flat_tag(answer: Result<Option<rival::Tag>, Refusal>) -> FstfTag {
     let none = FstfTag { refused: 0, place: 0, found: 0, name: 0, name_length: 0, value: 0, value_length: 0 };
     match answer {
         Ok(Some(tag)) => FstfTag {
@@ -153,7 +160,7 @@ fn flat_tag(answer: Result<Option<rival::Tag>, u64>) -> FstfTag {
             value_length: tag.value_length,
         },
         Ok(None) => none,
-        Err(refused) => FstfTag { refused, ..none },
+        Err(Refusal { number, place }) => FstfTag { refused: number, place, ..none },
     }
 }
 
@@ -210,8 +217,16 @@ fn refused_by(numbers: FstfOpened) -> (u64, u64) {
 
 impl Sides {
     pub fn new(seed: u64) -> Sides {
-        let met = [[0; NUMBERS + 1]; CALLS.len()];
-        Sides { seed, group: "", case: 0, inputs: 0, differences: 0, met, without_tag: [0; CALLS.len()] }
+        Sides {
+            seed,
+            group: "",
+            case: 0,
+            inputs: 0,
+            differences: 0,
+            met: [[0; NUMBERS + 1]; CALLS.len()],
+            without_tag: [0; CALLS.len()],
+            places: HashSet::new(),
+        }
     }
 
     pub fn enough(&self) -> bool {
@@ -302,10 +317,11 @@ impl Sides {
                 index: opened.index,
                 user: opened.user,
             },
-            Err(refused) => FstfOpened { refused, ..none },
+            Err(Refusal { number, place }) => FstfOpened { refused: number, place, ..none },
         };
         let input = || format!("file {}", shown(file));
         self.settle(Call::Open, ours.refused, ours == theirs, &input, [&ours, &theirs]);
+        self.count_place(Call::Open, ours.refused, ours.place);
         ours
     }
 
@@ -322,12 +338,14 @@ impl Sides {
                 time: frame.time,
                 exposure: u64::from(frame.exposure),
             },
-            Err(refused) => FstfFrame { refused, ..none },
+            Err(Refusal { number, place }) => FstfFrame { refused: number, place, ..none },
         };
         let input = || format!("frame {} of file {}", i, shown(file));
         self.settle(Call::Frame, ours.refused, ours == theirs, &input, [&ours, &theirs]);
+        self.count_place(Call::Frame, ours.refused, ours.place);
         let held = ours::frame_of(file, opened, i);
         self.settle(Call::FrameOf, held.refused, held == theirs, &input, [&held, &theirs]);
+        self.count_place(Call::FrameOf, held.refused, held.place);
         ours
     }
 
@@ -336,12 +354,14 @@ impl Sides {
         let ours = ours::part(file, kind, i, j);
         let theirs = match rival::part(file, their_item(kind, i, j)) {
             Ok((start, length)) => FstfPart { refused: 0, place: 0, start, length },
-            Err(refused) => FstfPart { refused, place: 0, start: 0, length: 0 },
+            Err(Refusal { number, place }) => FstfPart { refused: number, place, start: 0, length: 0 },
         };
         let input = || format!("kind {} numbers {} {} of file {}", kind, i, j, shown(file));
         self.settle(Call::Part, ours.refused, ours == theirs, &input, [&ours, &theirs]);
+        self.count_place(Call::Part, ours.refused, ours.place);
         let held = ours::part_of(file, opened, kind, i, j);
         self.settle(Call::PartOf, held.refused, held == theirs, &input, [&held, &theirs]);
+        self.count_place(Call::PartOf, held.refused, held.place);
         ours
     }
 
@@ -387,6 +407,7 @@ impl Sides {
         let agree = ours == theirs && kept;
         let input = || format!("{:?}\n  set-up {}\n  system {}", given, shown(setup), shown(system));
         self.settle_lent(Call::Begin, ours.refused, agree, &[&notes, &out], &input, [&ours, &theirs]);
+        self.count_place(Call::Begin, ours.refused, ours.place);
         (ours, notes.ours, out.ours)
     }
 
@@ -440,11 +461,12 @@ impl Sides {
                 user: repaired.user,
                 tail: repaired.tail,
             },
-            Err(refused) => FstfRepaired { refused, ..none },
+            Err(Refusal { number, place }) => FstfRepaired { refused: number, place, ..none },
         };
         let agree = ours == theirs && out.kept_from(ours.tail as usize);
         let input = || format!("file {}", shown(file));
         self.settle_lent(Call::Repair, ours.refused, agree, &[&out], &input, [&ours, &theirs]);
+        self.count_place(Call::Repair, ours.refused, ours.place);
         (ours, out.ours)
     }
 
@@ -454,11 +476,12 @@ impl Sides {
         let ours = ours::save(file, sheet, &mut out.ours);
         let theirs = match rival::save(file, sheet, &mut out.theirs) {
             Ok(length) => FstfSaved { refused: 0, place: 0, length },
-            Err(not) => FstfSaved { refused: not.refused, place: not.place, length: 0 },
+            Err(Refusal { number, place }) => FstfSaved { refused: number, place, length: 0 },
         };
         let agree = ours == theirs && out.kept_from(ours.length as usize);
         let input = || format!("file {}\n  sheet {}", shown(file), shown(sheet));
         self.settle_lent(Call::Save, ours.refused, agree, &[&out], &input, [&ours, &theirs]);
+        self.count_place(Call::Save, ours.refused, ours.place);
         (ours, out.ours)
     }
 
@@ -468,6 +491,7 @@ impl Sides {
         let input = || format!("number {} of table {}", number, shown(table));
         self.settle(Call::TagAt, ours.refused, ours == theirs, &input, [&ours, &theirs]);
         self.count_tag(Call::TagAt, ours.refused, ours.found);
+        self.count_place(Call::TagAt, ours.refused, ours.place);
         ours
     }
 
@@ -477,6 +501,7 @@ impl Sides {
         let input = || format!("name {}\n  table {}", shown(name), shown(table));
         self.settle(Call::TagNamed, ours.refused, ours == theirs, &input, [&ours, &theirs]);
         self.count_tag(Call::TagNamed, ours.refused, ours.found);
+        self.count_place(Call::TagNamed, ours.refused, ours.place);
         ours
     }
 
@@ -484,11 +509,12 @@ impl Sides {
         let ours = ours::first_tag(table);
         let theirs = match rival::first_tag(table) {
             Ok(stop) => flat_stop(stop),
-            Err(refused) => FstfCursor { refused, ..FstfCursor::default() },
+            Err(Refusal { number, place }) => FstfCursor { refused: number, place, ..FstfCursor::default() },
         };
         let input = || format!("table {}", shown(table));
         self.settle(Call::FirstTag, ours.refused, ours == theirs, &input, [&ours, &theirs]);
         self.count_tag(Call::FirstTag, ours.refused, ours.found);
+        self.count_place(Call::FirstTag, ours.refused, ours.place);
         ours
     }
 
@@ -502,6 +528,11 @@ impl Sides {
         let input = || format!("{:?} of table {}", at, shown(table));
         self.settle(Call::NextTag, ours.refused, ours == theirs, &input, [&ours, &theirs]);
         self.count_tag(Call::NextTag, ours.refused, ours.found);
+        // Any place is passed through, but only a fault of the table counts as one.
+        let passed = Refusal { number: ours.refused, place: ours.place };
+        if ours.refused == 7 && rival::first_tag(table) == Err(passed) {
+            self.count_place(Call::NextTag, ours.refused, ours.place);
+        }
         ours
     }
 
@@ -509,10 +540,23 @@ impl Sides {
         self.without_tag[call as usize] += u64::from(refused == 0 && found == 0);
     }
 
-    /// Prints how often each number of each call was met; answers how many of its order were never met, or met outside it.
+    fn count_place(&mut self, call: Call, refused: u64, place: u64) {
+        if place != 0 && PLACED.contains(&refused) {
+            self.places.insert((call as usize, refused, place));
+        }
+    }
+
+    /// At how many places other than 0 a call found its faults.
+    fn places_of(&self, call: usize, refused: u64) -> usize {
+        self.places.iter().filter(|met| (met.0, met.1) == (call, refused)).count()
+    }
+
+    /// Prints how often each number of each call was met, and at how many places; answers how many of its order were never met, or met outside it, or
+    /// were met at no place.
     pub fn report(&self) -> usize {
         let mut lacking = 0;
-        for (((name, order), met), without) in CALLS.iter().zip(&self.met).zip(&self.without_tag) {
+        for (call, (name, order)) in CALLS.iter().enumerate() {
+            let (met, without) = (&self.met[call], self.without_tag[call]);
             let mut line = format!("{}:", name);
             for number in *order {
                 let times = met[*number as usize];
@@ -524,6 +568,14 @@ impl Sides {
                     lacking += 1;
                     line += " NEVER MET";
                 }
+                if PLACED.contains(number) {
+                    let places = self.places_of(call, *number);
+                    line += &format!(" at {} places", places);
+                    if places == 0 {
+                        lacking += 1;
+                        line += " BUT 0";
+                    }
+                }
             }
             for (number, times) in met.iter().enumerate() {
                 if *times > 0 && !order.contains(&(number as u64)) {
@@ -534,7 +586,7 @@ impl Sides {
             // of the accepted ones some find a tag, and some find none
             if name.contains("_tag") {
                 line += &format!(", accepted without a tag {}", without);
-                if *without == 0 || *without == met[0] {
+                if without == 0 || without == met[0] {
                     lacking += 1;
                     line += " NEVER MET, OR ALWAYS";
                 }

@@ -235,7 +235,7 @@ fn sheet_with(right: &[Change], place: usize) -> Vec<Change> {
 }
 
 /// A name whose mark stands in the first word of the library's marks, where a few names set all bits: each further one may be any of them.
-fn crowding(random: &mut Random) -> Vec<u8> {
+pub fn crowding(random: &mut Random) -> Vec<u8> {
     loop {
         let length = match random.below(8) {
             0 => 255,

@@ -1,8 +1,69 @@
 //! What several tests need: the worked file, a recorder of whole files, and
 //! seeded numbers.
-#![allow(dead_code)]
+#![allow(dead_code, unused_imports)]
 
 use rival::*;
+
+/// The calls, for tests that ask for the number of a refusal and not for
+/// its place; a save answers with both.
+pub mod by_number {
+    pub use rival::{save, Frame, Item, Opened, Piece, Refusal, Repaired, Stage, State, Tag};
+
+    type Numbered<T> = Result<T, u64>;
+
+    fn numbered<T>(answer: Result<T, rival::Refusal>) -> Numbered<T> {
+        answer.map_err(|refusal| refusal.number)
+    }
+
+    pub fn open(file: &[u8]) -> Numbered<Opened> {
+        numbered(rival::open(file))
+    }
+
+    pub fn frame(file: &[u8], i: u64) -> Numbered<Frame> {
+        numbered(rival::frame(file, i))
+    }
+
+    pub fn part(file: &[u8], item: Item) -> Numbered<(u64, u64)> {
+        numbered(rival::part(file, item))
+    }
+
+    pub fn begin(
+        state: State,
+        list: &[u8],
+        system: &[u8],
+        notes: &mut [u8],
+        out: &mut [u8],
+    ) -> Numbered<(State, Piece)> {
+        numbered(rival::begin(state, list, system, notes, out))
+    }
+
+    pub fn add(
+        state: State,
+        time: i64,
+        exposure: u32,
+        sections: &[u8],
+        notes: &mut [u8],
+        out: &mut [u8],
+    ) -> Numbered<(State, Piece)> {
+        numbered(rival::add(state, time, exposure, sections, notes, out))
+    }
+
+    pub fn close(state: State, notes: &[u8], out: &mut [u8]) -> Numbered<(State, Piece)> {
+        numbered(rival::close(state, notes, out))
+    }
+
+    pub fn repair(file: &[u8], out: &mut [u8]) -> Numbered<Repaired> {
+        numbered(rival::repair(file, out))
+    }
+
+    pub fn tag_at(table: &[u8], number: u64) -> Numbered<Option<Tag>> {
+        numbered(rival::tag_at(table, number))
+    }
+
+    pub fn tag_named(table: &[u8], name: &[u8]) -> Numbered<Option<Tag>> {
+        numbered(rival::tag_named(table, name))
+    }
+}
 
 /// Document 01's whole file.
 pub const WORKED: [u8; 98] = [
@@ -89,7 +150,7 @@ impl Recording {
     }
 
     pub fn add(&mut self, time: i64, exposure: u32, sections: &[u8]) -> Result<Piece, u64> {
-        let (state, piece) = add(
+        let (state, piece) = by_number::add(
             self.state,
             time,
             exposure,
@@ -110,6 +171,29 @@ impl Recording {
         }
         self.file
     }
+}
+
+/// Two sections with configurations, two system tags, three frames.
+pub fn rich() -> Vec<u8> {
+    let mut recording = Recording::begin(
+        &setup(&[(b"IMAGE", b"abc"), (b"STATUS", b"defgh")]),
+        &table(&[(b"RECORDER", b"X"), (b"EMPTY", b"")]),
+    );
+    recording.add(-5, 1, &sections(&[b"pix", b"s"])).unwrap();
+    recording.add(-5, 2, &sections(&[b"", b"st"])).unwrap();
+    recording.add(7, 3, &sections(&[b"elsx", b""])).unwrap();
+    recording.close()
+}
+
+pub fn with(file: &[u8], at: usize, bytes: &[u8]) -> Vec<u8> {
+    let mut file = file.to_vec();
+    file[at..at + bytes.len()].copy_from_slice(bytes);
+    file
+}
+
+pub fn with_table(file: &[u8], user: &[u8]) -> Vec<u8> {
+    let at = open(file).unwrap().user as usize;
+    [&file[..at], user].concat()
 }
 
 /// The repaired file, put together as document 01 says.
