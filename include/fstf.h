@@ -13,13 +13,24 @@
  * Every answer begins with two members:
  *   - `refused` is the number of the refusal, or 0; refused, all members behind `place` are 0, but for a recorder's state;
  *   - `place` is what the number carries beside it, and 0 for all others:
+ *       3, 4, 7, 10: the position of the first fault under that number, reading front to back. It counts bytes from 0
+ *           in the file: 3, 4 and 7 of fstf_open, fstf_frame, fstf_part and fstf_save, 3 and 4 of fstf_repair;
+ *           in the sheet: 10 of fstf_save;
+ *           in the set-up list: 10 and 3 of fstf_begin;
+ *           in the table that is lent: 4 of fstf_begin, 7 of fstf_tag_at, fstf_tag_named and fstf_first_tag;
  *       11: the lowest change of the sheet, from 0, whose seen entry is not the table's.
+ *     fstf_frame_of, fstf_part_of and fstf_next_tag pass on number and place as they are given.
+ * In a name or a value a position is that of the first byte that breaks the rule: the length byte where a name is empty, else the first byte that may not
+ * stand there, or the length of the lent bytes where they run out. Of a number or a block that is cut off or not allowed it is the start, of a name that was
+ * used before its length byte, of bytes left over the first. No position is behind the end of the lent bytes but one: where the header's system offset is,
+ * that of 4 is this offset. docs/FORMAT.md says it at length.
  * The time of a call grows with the frames, the tags and the bytes of tables that it is given, and not with the bytes of sections that it only passes over.
  * Whoever chooses the names in a file can make opening it take longer than usual names of the same number and lengths would: at most 20 times, 17 in the
- * slowest file that was found. Who chooses a sheet as well can make a save take 38 times as long, 0.7 ms. These are measured (docs/PERFORMANCE.md), not
- * proved. As compiled, a call needs at most 70,000 bytes of stack.
+ * slowest file that was found. Where the file is refused it is read once more, for the place: that took up to 30 times as long as a usual file that opens.
+ * Who chooses a sheet as well can make a save take 38 times as long, 0.7 ms. These are measured (docs/PERFORMANCE.md), not proved. As compiled, a call needs
+ * at most 70,000 bytes of stack.
  * Where a frame or a piece stands in the file is `start`. Headers without FSTF_VERSION called that `place`: a program written for one of them still compiles,
- * and would store every piece at 0. Write `start` there.
+ * and would store every piece at 0. Write `start` there. Before 0.3.0, `place` was 0 for 3, 4, 7 and 10.
  */
 #ifndef FSTF_H
 #define FSTF_H
@@ -36,14 +47,14 @@ enum {
     FSTF_TAKEN = 0, /* not refused */
     FSTF_NOT_FSTF = 1, /* not FSTF: The file is no FSTF recording, or shorter than a header. */
     FSTF_REVISION = 2, /* revision: The file is of another revision; this library reads revision 1. */
-    FSTF_SECTIONS = 3, /* sections: The section names or their configuration offsets are broken. */
-    FSTF_SYSTEM_TABLE = 4, /* system table: The system table is missing, misplaced or malformed. */
+    FSTF_SECTIONS = 3, /* sections: The section names or their configuration offsets are broken: the first fault is at this place. */
+    FSTF_SYSTEM_TABLE = 4, /* system table: The system table is missing, misplaced or malformed: the first fault is at this place. */
     FSTF_NOT_CLOSED = 5, /* not closed: The recording was never closed: repair it. Repair empties the user table: keep the old file for its tags. */
     FSTF_INDEX = 6, /* index: Frames, times and index do not agree: repair it. Repair empties the user table: keep the old file for its tags. */
-    FSTF_USER_TABLE = 7, /* user table: The user table is malformed or does not end the file. */
+    FSTF_USER_TABLE = 7, /* user table: The user table is malformed or does not end the file: the first fault is at this place. */
     FSTF_NO_SUCH_ITEM = 8, /* no such item: Ask for an item number below its count. */
     FSTF_NO_ROOM = 9, /* no room: Lend a longer output (or longer notes). */
-    FSTF_SHEET = 10, /* sheet: The change sheet, or the set-up list, is malformed. */
+    FSTF_SHEET = 10, /* sheet: The change sheet, or the set-up list, is malformed: the first fault is at this place. */
     FSTF_CONFLICT = 11, /* conflict: Somebody changed the tag at this place of the sheet since it was looked at: look again. */
     FSTF_STAGE = 12, /* stage: The recorder's state does not take this call. */
     FSTF_CLOCK = 13, /* clock: The frame's time is before the last one's or too far behind the first. */
@@ -79,9 +90,9 @@ static inline const char *fstf_refusal_name(uint64_t refused) {
 }
 
 /* ── Version ── of this header and of the library that belongs to it. */
-#define FSTF_VERSION "0.2.0"
+#define FSTF_VERSION "0.3.0"
 #define FSTF_VERSION_MAJOR 0
-#define FSTF_VERSION_MINOR 2
+#define FSTF_VERSION_MINOR 3
 #define FSTF_VERSION_PATCH 0
 
 /* ── Places and limits of the format ── Numbers in a file have their low byte first. */
@@ -133,7 +144,7 @@ enum {
  * too where, say, one bit of its header flipped, and then its members' tags are not kept. They can still be read where the bytes from the header's user
  * offset, or from the repair's `user`, up to the file's end are a table: `fstf_tag_at` says so. Keep the old file. */
 
-/* ── Opening ── refused 1 to 7, the first that holds. */
+/* ── Opening ── refused 1 to 7, the first that holds. The place of 3, 4 and 7 counts from the start of the file, also where it is in a table. */
 typedef struct {
     uint64_t refused;
     uint64_t place;
@@ -214,7 +225,8 @@ FstfRecorder fstf_new(void);
 
 /* The set-up list: the number of sections in a byte, and for each a name (a byte of length, its bytes) and a configuration (two bytes of length, low
  * byte first, its bytes). `system` is the system table as it stands in the file. `notes` keep the index: 4 bytes, and 16 more for each frame.
- * Refused 12, 10, 3, 4, 9. */
+ * Refused 12, 10, 3, 4, 9. The place of 10, where the list runs out or has bytes left over, and of 3, where its number or a name breaks the rule, counts
+ * from the start of `setup`; that of 4 from the start of `system`. */
 FstfTaken fstf_begin(FstfRecorder recorder, const uint8_t *setup, size_t setup_length, const uint8_t *system, size_t system_length, uint8_t *notes,
                      size_t notes_length, uint8_t *out, size_t out_length);
 
@@ -228,7 +240,7 @@ FstfTaken fstf_add(FstfRecorder recorder, int64_t time, uint32_t exposure, const
 FstfTaken fstf_close(FstfRecorder recorder, const uint8_t *notes, size_t notes_length, uint8_t *out, size_t out_length);
 
 /* ── Repair ── of a file that was cut: keep its first `kept` bytes, put the tail behind them, and set the header's count, index offset and user
- * offset. Refused 1 to 4, 16, 13, 15, 9. */
+ * offset. Refused 1 to 4, 16, 13, 15, 9. The place of 3 and 4 counts from the start of the file. */
 typedef struct {
     uint64_t refused;
     uint64_t place;
@@ -243,7 +255,8 @@ FstfRepaired fstf_repair(const uint8_t *file, size_t file_length, uint8_t *out, 
 
 /* ── Saving tags ── the new user table, to be stored from the user table's place on, where the file then ends. The change sheet: the number of
  * changes in a byte, at most 64; for each a name; what was seen (0 absent, 1 and a value, 2 nobody looked); what is new (0 absent, 1 and a value).
- * Refused 1 to 7, 10, 11, 17, 9. */
+ * Refused 1 to 7, 10, 11, 17, 9. The place of 3, 4 and 7 counts from the start of the file, that of 10 from the start of the sheet; that of 11 is the number
+ * of a change. */
 typedef struct {
     uint64_t refused;
     uint64_t place;
@@ -252,7 +265,7 @@ typedef struct {
 
 FstfSaved fstf_save(const uint8_t *file, size_t file_length, const uint8_t *sheet, size_t sheet_length, uint8_t *out, size_t out_length);
 
-/* ── Tags of a table ── `table` is exactly a table, as it stands in a file: else refused 7. */
+/* ── Tags of a table ── `table` is exactly a table, as it stands in a file: else refused 7. The place counts from the start of `table`. */
 typedef struct {
     uint64_t refused;
     uint64_t place;
@@ -269,8 +282,8 @@ FstfTag fstf_tag_named(const uint8_t *table, size_t table_length, const uint8_t 
 /* ── One tag after another ── to list a table, where `fstf_tag_at` would look at all of it for each tag: the first call looks at the table, and each next
  * tag is read behind the one before.
  *     for (FstfCursor c = fstf_first_tag(t, n); c.found; c = fstf_next_tag(t, n, c)) ..
- * Over bytes that are not exactly a table the first call is refused 7, and the cursor stays refused; at the end it stays at the end. Any cursor is taken:
- * one of other bytes, or with any numbers, goes to the tag that stands behind its value, or to the end. */
+ * Over bytes that are not exactly a table the first call is refused 7, with a place from the start of `table`, and the cursor stays refused; at the end it
+ * stays at the end. Any cursor is taken: one of other bytes, or with any numbers, goes to the tag that stands behind its value, or to the end. */
 typedef struct {
     uint64_t refused;
     uint64_t place;

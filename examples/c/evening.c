@@ -1,4 +1,4 @@
-/* An evening at the box: record a file, lose its end, repair it, and tag it.
+/* An evening at the box: record a file, lose its end, repair it, tag it, and find one bad character.
  *
  * evening DIRECTORY: the files stay in the directory. Every step is checked; the program ends with 1 where one is not as it should be. */
 #define _POSIX_C_SOURCE 200809L
@@ -19,9 +19,23 @@ static void check(int holds, const char *what) {
     }
 }
 
-static void taken(uint64_t refused, const char *what) {
+/* A refusal, with its place where its number has one: the byte of the first fault, or for 11 the change of the sheet. */
+static void tell(uint64_t refused, uint64_t place, const char *what) {
+    printf("%s: refused %u, %s", what, (unsigned)refused, fstf_refusal_name(refused));
+    switch (refused) {
+    case FSTF_SECTIONS:
+    case FSTF_SYSTEM_TABLE:
+    case FSTF_USER_TABLE:
+    case FSTF_SHEET: printf(" at byte %llu", (unsigned long long)place); break;
+    case FSTF_CONFLICT: printf(" at change %llu", (unsigned long long)place); break;
+    default: break;
+    }
+    printf("\n");
+}
+
+static void taken(uint64_t refused, uint64_t place, const char *what) {
     if (refused != FSTF_TAKEN) {
-        printf("%s: refused %u, %s\n", what, (unsigned)refused, fstf_refusal_name(refused));
+        tell(refused, place, what);
         exit(1);
     }
 }
@@ -83,7 +97,7 @@ static void record(const char *path) {
     check(file >= 0, path);
 
     FstfTaken piece = fstf_begin(fstf_new(), setup, sizeof setup, system, sizeof system, notes, sizeof notes, first, sizeof first);
-    taken(piece.refused, "begin");
+    taken(piece.refused, piece.place, "begin");
     write_at(file, piece.start, first, piece.length);
     check(fsync(file) == 0, "from here on, what is stored can be repaired");
 
@@ -91,7 +105,7 @@ static void record(const char *path) {
     for (int number = 0; number < FRAMES; number++) {
         memset(sections + 4, 0x10 * (number + 1), PIXELS);
         piece = fstf_add(piece.recorder, 1000 + 40 * number, 40, sections, sizeof sections, notes, sizeof notes, frame, sizeof frame);
-        taken(piece.refused, "add");
+        taken(piece.refused, piece.place, "add");
         write_at(file, piece.start, frame, piece.length);
     }
     FstfTaken late = fstf_add(piece.recorder, 999, 40, sections, sizeof sections, notes, sizeof notes, frame, sizeof frame);
@@ -101,7 +115,7 @@ static void record(const char *path) {
         /* frames, index and user table are stored before the header says that the recording is closed */
         if (number == 2) check(fsync(file) == 0, "flushed ahead of the last three pieces");
         piece = fstf_close(piece.recorder, notes, sizeof notes, out, sizeof out);
-        taken(piece.refused, "close");
+        taken(piece.refused, piece.place, "close");
         write_at(file, piece.start, out, piece.length);
     }
     check(fsync(file) == 0 && close(file) == 0, "closed on the disk");
@@ -111,14 +125,14 @@ static void list(const char *path, uint64_t frames) {
     size_t length;
     uint8_t *file = read_whole(path, &length);
     FstfOpened opened = fstf_open(file, length);
-    taken(opened.refused, path);
+    taken(opened.refused, opened.place, path);
     printf("%s: %u frames, %u user tags\n", path, (unsigned)opened.frames, (unsigned)opened.user_tags);
     check(opened.frames == frames, "so many frames");
     for (uint64_t number = 0; number < opened.frames; number++) {
         FstfFrame frame = fstf_frame_of(file, length, opened, number);
         FstfPart pixels = fstf_part_of(file, length, opened, FSTF_SECTION, number, 0);
-        taken(frame.refused, "frame");
-        taken(pixels.refused, "section");
+        taken(frame.refused, frame.place, "frame");
+        taken(pixels.refused, pixels.place, "section");
         printf("  frame %u at %lld ms\n", (unsigned)number, (long long)frame.time);
         check(pixels.length == PIXELS && file[pixels.start] == 0x10 * (number + 1), "the pixels that were recorded");
     }
@@ -143,15 +157,15 @@ static uint64_t tags_from(const uint8_t *file, size_t length, uint64_t place) {
 static uint64_t repair(const char *path, const char *old, uint64_t expected) {
     size_t length;
     uint8_t *file = read_whole(path, &length);
-    uint64_t refused = fstf_open(file, length).refused;
-    printf("%s: refused %u, %s\n", path, (unsigned)refused, fstf_refusal_name(refused));
-    check(refused == expected, "the refusal that sends to a repair");
+    FstfOpened opened = fstf_open(file, length);
+    tell(opened.refused, opened.place, path);
+    check(opened.refused == expected, "the refusal that sends to a repair");
 
     uint64_t room = FSTF_REPAIR_ROOM(length);
     uint8_t *tail = malloc(room);
     check(tail != NULL, "memory");
     FstfRepaired repaired = fstf_repair(file, length, tail, room);
-    taken(repaired.refused, "repair");
+    taken(repaired.refused, repaired.place, "repair");
     uint64_t tags = tags_from(file, length, repaired.user);
     printf("  repaired: %u frames, %u tags not kept; the old file is %s\n", (unsigned)repaired.count, (unsigned)tags, old);
 
@@ -172,7 +186,7 @@ static uint64_t repair(const char *path, const char *old, uint64_t expected) {
 
 /* ── Tags ── SITE becomes a value; `seen` is what the member saw, or NULL where there was no such tag. */
 
-static uint64_t tag(const char *path, const char *seen, const char *value) {
+static FstfSaved tag(const char *path, const char *seen, const char *value) {
     uint8_t sheet[64] = {1, 4, 'S', 'I', 'T', 'E'};
     size_t end = 6;
     sheet[end++] = seen != NULL;
@@ -187,7 +201,7 @@ static uint64_t tag(const char *path, const char *seen, const char *value) {
     size_t length;
     uint8_t *file = read_whole(path, &length);
     FstfOpened opened = fstf_open(file, length);
-    taken(opened.refused, path);
+    taken(opened.refused, opened.place, path);
     uint64_t room = FSTF_SAVE_ROOM(length - opened.user, end);
     uint8_t *table = malloc(room);
     check(table != NULL, "memory");
@@ -195,7 +209,23 @@ static uint64_t tag(const char *path, const char *seen, const char *value) {
     if (saved.refused == FSTF_TAKEN) end_new(begin_new("new.fstf", file, opened.user, table, saved.length), "new.fstf", path);
     free(table);
     free(file);
-    return saved.refused;
+    return saved;
+}
+
+/* One byte of the last tag's value is damaged: the place of the refusal is that byte, counted from the file's start. */
+static void find_one_character(const char *path) {
+    size_t length;
+    uint8_t *file = read_whole(path, &length);
+    FstfOpened whole = fstf_open(file, length);
+    taken(whole.refused, whole.place, path);
+    file[length - 2] = 0x07;
+    FstfOpened damaged = fstf_open(file, length);
+    tell(damaged.refused, damaged.place, "with one byte damaged");
+    check(damaged.refused == FSTF_USER_TABLE && damaged.place == length - 2, "the place is the damaged byte");
+    /* of the table alone, it counts from the table's start */
+    FstfCursor first = fstf_first_tag(file + whole.user, length - whole.user);
+    check(first.refused == FSTF_USER_TABLE && first.place == damaged.place - whole.user, "the same byte of the table");
+    free(file);
 }
 
 int main(int count, char **arguments) {
@@ -210,7 +240,7 @@ int main(int count, char **arguments) {
     size_t length;
     uint8_t *file = read_whole("night.fstf", &length);
     FstfFrame last = fstf_frame(file, length, FRAMES - 1);
-    taken(last.refused, "the last frame");
+    taken(last.refused, last.place, "the last frame");
     /* what a cut inside the last frame leaves: the header does not say yet that the recording is closed */
     memset(file + FSTF_COUNT_PLACE, 0, 4);
     memset(file + FSTF_INDEX_PLACE, 0, 8);
@@ -221,10 +251,19 @@ int main(int count, char **arguments) {
     check(repair("cut.fstf", "cut.fstf.old", FSTF_NOT_CLOSED) == 0, "no tag was there");
     list("cut.fstf", FRAMES - 1);
 
-    taken(tag("cut.fstf", NULL, "Kuusamo"), "a tag that nobody had");
-    check(tag("cut.fstf", NULL, "Inari") == FSTF_CONFLICT, "one who did not see it is told");
-    taken(tag("cut.fstf", "Kuusamo", "Inari"), "one who saw it changes it");
+    FstfSaved saved = tag("cut.fstf", NULL, "Kuusamo");
+    taken(saved.refused, saved.place, "a tag that nobody had");
+    saved = tag("cut.fstf", NULL, "Inari");
+    tell(saved.refused, saved.place, "one who did not see it");
+    check(saved.refused == FSTF_CONFLICT && saved.place == 0, "one who did not see it is told");
+    saved = tag("cut.fstf", "Kuusamo", "Ina\tri");
+    tell(saved.refused, saved.place, "a tab in a value");
+    /* 6 bytes of count and name; kind, length and 7 letters of what was seen; kind, length and 3 letters of what is new */
+    check(saved.refused == FSTF_SHEET && saved.place == 6 + 9 + 5, "the place is the tab's in the sheet");
+    saved = tag("cut.fstf", "Kuusamo", "Inari");
+    taken(saved.refused, saved.place, "one who saw it changes it");
     list("cut.fstf", FRAMES - 1);
+    find_one_character("cut.fstf");
 
     /* one flipped bit of the frame count: a repair brings the frames back, and the tag is in the old file only */
     uint8_t bit = (FRAMES - 1) ^ 4;

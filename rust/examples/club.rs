@@ -1,4 +1,4 @@
-//! An evening at the club: record, list, lose the end of a recording and repair it, and save tags as two members at once.
+//! An evening at the club: record, list, lose the end of a recording and repair it, save tags as two members at once, and find one bad character.
 //!
 //! club [DIRECTORY]: the files stay in the directory; without one they are made under the system's temporary directory, and removed at the end.
 //! Every step is checked, and the program ends with 1 where one is not as it should be.
@@ -43,7 +43,8 @@ fn run(directory: &Path) -> Step {
     list(&night)?;
     lose_and_repair(&night, &directory.join("cut.fstf"))?;
     save_as_two_members(&night)?;
-    list(&night)
+    list(&night)?;
+    find_one_character(&night, &directory.join("damaged.fstf"))
 }
 
 fn check(holds: bool, what: &str) -> Step {
@@ -167,4 +168,28 @@ fn save_as_two_members(night: &Path) -> Step {
     let file = fs::read(night)?;
     let tags: Vec<_> = Recording::open(&file)?.user_tags().map(|tag| (tag.name, tag.value)).collect();
     check(tags == [("OBSERVER", "Aino and Veli"), ("SITE", "Kuusamo")], "both members' tags are there")
+}
+
+fn find_one_character(night: &Path, damaged: &Path) -> Step {
+    println!("4. One character of a tag was damaged on the card.");
+    let mut file = fs::read(night)?;
+    // the table is the last of the file, and SITE the last of its tags
+    let place = file.len() - 3;
+    file[place] = 0x07;
+    fs::write(damaged, &file)?;
+    let error = files::open(damaged).err().ok_or("a damaged tag is refused")?;
+    println!("   Opening it: {error}");
+    let refusal = error.refusal().ok_or("the library refuses it")?;
+    check(refusal.reason() == Reason::UserTable && refusal.place() == Some(place as u64), "7, at the character")?;
+    let spot = refusal.spot(&file).ok_or("something stands there")?.to_string();
+    println!("   There: {spot}");
+    check(spot == r#"user tag 1, "SITE": character 4 of its value, byte 0x07"#, "the refusal leads to the character")?;
+    println!("   Aino types the same character: her form tells her before she saves, and so does a save.");
+    let mut sheet = Sheet::new();
+    sheet.change("SITE").seen(Some("Kuusamo")).set("Kuus\u{7}mo");
+    let refusal = files::save(night, &sheet).err().and_then(|error| error.refusal()).ok_or("no sheet")?;
+    let fault = sheet.fault_at(refusal).ok_or("the refusal leads to a change")?;
+    println!("   {refusal}");
+    println!("   {fault}");
+    check(sheet.faults() == [fault], "the fault that the form tells is where the refusal points")
 }

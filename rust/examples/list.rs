@@ -1,4 +1,5 @@
 //! Lists a recording of any length: list FILE. Ends with 0 for a listing, with 1 where the file is refused, with 2 where it cannot be read.
+//! Of a refused file it prints the number, and says beside it where the fault is and what stands there.
 use std::process::ExitCode;
 
 use suljanko::{Recording, Refusal};
@@ -26,6 +27,10 @@ fn main() -> ExitCode {
         Ok(()) => ExitCode::SUCCESS,
         Err(refusal) => {
             println!("refused {}", refusal.number());
+            eprintln!("{}: {refusal}", path.to_string_lossy());
+            if let Some(spot) = refusal.spot(&file) {
+                eprintln!("there: {spot}");
+            }
             ExitCode::FAILURE
         }
     }

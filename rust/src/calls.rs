@@ -11,29 +11,29 @@ use crate::raw::{
     self, FstfCursor, FstfFrame, FstfOpened, FstfPart, FstfRecorder, FstfRepaired, FstfSaved, FstfTag, FstfTaken,
 };
 
-/// Opens a file: what it holds, in numbers. Refused 1 to 7.
+/// Opens a file: what it holds, in numbers. Refused 1 to 7; the place of 3, 4 and 7 counts in the file.
 #[must_use]
 pub fn open(file: &[u8]) -> FstfOpened {
     // SAFETY: pointer and length are of one shared slice, which is only read, during the call.
     unsafe { raw::fstf_open(file.as_ptr(), file.len()) }
 }
 
-/// Opens a file and reads frame `i`. Refused 1 to 7, 8.
+/// Opens a file and reads frame `i`. Refused 1 to 7 as [`open`], 8.
 #[must_use]
 pub fn frame(file: &[u8], i: u64) -> FstfFrame {
     // SAFETY: as in `open`.
     unsafe { raw::fstf_frame(file.as_ptr(), file.len(), i) }
 }
 
-/// Reads frame `i` by the numbers of an opening, without opening again. A refusal in `opened` is passed through; else refused 8, also where the
-/// numbers of another file lead nowhere.
+/// Reads frame `i` by the numbers of an opening, without opening again. A refusal in `opened` is passed through with its place; else refused 8, also
+/// where the numbers of another file lead nowhere.
 #[must_use]
 pub fn frame_of(file: &[u8], opened: FstfOpened, i: u64) -> FstfFrame {
     // SAFETY: as in `open`; the numbers may be any.
     unsafe { raw::fstf_frame_of(file.as_ptr(), file.len(), opened, i) }
 }
 
-/// Opens a file and finds an item of this kind (`raw::FSTF_SECTION` and so on). Refused 1 to 7, 8.
+/// Opens a file and finds an item of this kind (`raw::FSTF_SECTION` and so on). Refused 1 to 7 as [`open`], 8.
 #[must_use]
 pub fn part(file: &[u8], kind: u64, i: u64, j: u64) -> FstfPart {
     // SAFETY: as in `open`.
@@ -54,7 +54,8 @@ pub fn new() -> FstfRecorder {
     unsafe { raw::fstf_new() }
 }
 
-/// Begins a recording: a set-up list, a system table as it stands in a file, at least 4 bytes of notes. Refused 12, 10, 3, 4, 9.
+/// Begins a recording: a set-up list, a system table as it stands in a file, at least 4 bytes of notes. Refused 12, 10, 3, 4, 9; the
+/// place of 10 and 3 counts in the list, that of 4 in the table.
 pub fn begin(state: FstfRecorder, setup: &[u8], system: &[u8], notes: &mut [u8], out: &mut [u8]) -> FstfTaken {
     // SAFETY: each pointer has its slice's length; `notes` and `out` are borrowed alone, so that they overlap nothing; the state may be any.
     unsafe {
@@ -103,41 +104,44 @@ pub fn close(state: FstfRecorder, notes: &[u8], out: &mut [u8]) -> FstfTaken {
     unsafe { raw::fstf_close(state, notes.as_ptr(), notes.len(), out.as_mut_ptr(), out.len()) }
 }
 
-/// Repairs a file that was cut: how much of it is kept, three header fields, and a tail in `out`. Refused 1 to 4, 16, 13, 15, 9.
+/// Repairs a file that was cut: how much of it is kept, three header fields, and a tail in `out`. Refused 1 to 4, 16, 13, 15, 9; the
+/// place of 3 and 4 counts in the file.
 pub fn repair(file: &[u8], out: &mut [u8]) -> FstfRepaired {
     // SAFETY: each pointer has its slice's length; `out` is borrowed alone, so that it overlaps nothing.
     unsafe { raw::fstf_repair(file.as_ptr(), file.len(), out.as_mut_ptr(), out.len()) }
 }
 
-/// Makes the new user table of a change sheet in `out`. Refused 1 to 7, 10, 11, 17, 9.
+/// Makes the new user table of a change sheet in `out`. Refused 1 to 7 as [`open`], 10, 11, 17, 9; the place of 10 counts in the sheet, that of 11
+/// is the number of a change.
 pub fn save(file: &[u8], sheet: &[u8], out: &mut [u8]) -> FstfSaved {
     // SAFETY: as in `repair`.
     unsafe { raw::fstf_save(file.as_ptr(), file.len(), sheet.as_ptr(), sheet.len(), out.as_mut_ptr(), out.len()) }
 }
 
-/// A tag by its number, of bytes that are exactly a tag table. Refused 7.
+/// A tag by its number, of bytes that are exactly a tag table. Refused 7; its place counts in the table.
 #[must_use]
 pub fn tag_at(table: &[u8], number: u64) -> FstfTag {
     // SAFETY: as in `open`.
     unsafe { raw::fstf_tag_at(table.as_ptr(), table.len(), number) }
 }
 
-/// A tag by its name, of bytes that are exactly a tag table. Refused 7.
+/// A tag by its name, of bytes that are exactly a tag table. Refused 7; its place counts in the table.
 #[must_use]
 pub fn tag_named(table: &[u8], name: &[u8]) -> FstfTag {
     // SAFETY: as in `open`, for both slices.
     unsafe { raw::fstf_tag_named(table.as_ptr(), table.len(), name.as_ptr(), name.len()) }
 }
 
-/// The first tag of bytes that are exactly a tag table, or the end where it has none: looks at the whole table. Refused 7.
+/// The first tag of bytes that are exactly a tag table, or the end where it has none: looks at the whole table. Refused 7; its
+/// place counts in the table.
 #[must_use]
 pub fn first_tag(table: &[u8]) -> FstfCursor {
     // SAFETY: as in `open`.
     unsafe { raw::fstf_first_tag(table.as_ptr(), table.len()) }
 }
 
-/// The tag behind the one that a cursor stands at, or the end, without looking at the table again. A refusal in `at` is passed through. Any cursor
-/// is taken: one of other bytes, or with any numbers, goes to the tag that stands behind its value, or to the end.
+/// The tag behind the one that a cursor stands at, or the end, without looking at the table again. A refusal in `at` is passed through with its
+/// place. Any cursor is taken: one of other bytes, or with any numbers, goes to the tag that stands behind its value, or to the end.
 #[must_use]
 pub fn next_tag(table: &[u8], at: FstfCursor) -> FstfCursor {
     // SAFETY: as in `open`; the numbers may be any.

@@ -19,7 +19,8 @@ use crate::recording::OwnedRecording;
 use crate::refusal::{Error, Reason};
 use crate::sheet::Sheet;
 
-/// Opens a file, and owns its bytes. Refused 1 to 7.
+/// Opens a file, and owns its bytes. Refused 1 to 7. The place of 3, 4 and 7 counts in the file: [`crate::Refusal::spot`] of its bytes tells what
+/// stands there.
 pub fn open<P: AsRef<Path>>(path: P) -> Result<OwnedRecording, Error> {
     let bytes = read(&File::open(path)?)?;
     Ok(OwnedRecording::open(bytes)?)
@@ -48,7 +49,7 @@ pub fn record<P: AsRef<Path>>(
 }
 
 /// Saves the changes of a sheet to a file. Refused as [`crate::save`]; then the file is as it was. What is refused 10, [`Sheet::faults`] tells
-/// before.
+/// before, and [`Sheet::fault_at`] after.
 pub fn save<P: AsRef<Path>>(path: P, sheet: &Sheet) -> Result<(), Error> {
     replace(path.as_ref(), Old::Goes, |old| {
         let saved = crate::save(old, sheet)?;

@@ -5,6 +5,13 @@
 
 use crate::refusal::Refusal;
 
+/// Where the fields of the header stand, and where the definitions follow it.
+pub(crate) const COUNT_PLACE: u64 = 5;
+pub(crate) const INDEX_PLACE: u64 = 9;
+pub(crate) const SYSTEM_PLACE: u64 = 17;
+pub(crate) const USER_PLACE: u64 = 25;
+pub(crate) const HEADER_LENGTH: u64 = 33;
+
 /// "0 to 16,777,216, and that many bytes"
 const LARGEST_SECTION: usize = 16_777_216;
 
@@ -16,10 +23,15 @@ const MOST_FRAMES: usize = 1_000_000;
 
 /// A set-up list, or the list of no sections, which is refused 3.
 pub(crate) fn setup(sections: &[(&str, &[u8])]) -> Vec<u8> {
-    setup_list(sections).unwrap_or_else(|| vec![0])
+    set_up_list(sections).unwrap_or_else(|| vec![0])
 }
 
-fn setup_list(sections: &[(&str, &[u8])]) -> Option<Vec<u8>> {
+/// The set-up list of these sections, each with a name and a configuration: what [`crate::Recorder::begin`] lends to the library, and
+/// [`crate::Recorder::begin_in_file_form`] takes.
+///
+/// None where they have no such form: more than 255 of them, a name of more than 255 bytes, a configuration of more than 65,535.
+#[must_use]
+pub fn set_up_list(sections: &[(&str, &[u8])]) -> Option<Vec<u8>> {
     let mut list = vec![u8::try_from(sections.len()).ok()?];
     for (name, configuration) in sections {
         short_string(&mut list, name)?;
@@ -34,7 +46,10 @@ pub(crate) fn table(tags: &[(&str, &str)]) -> Vec<u8> {
     tag_table(tags).unwrap_or_default()
 }
 
-fn tag_table(tags: &[(&str, &str)]) -> Option<Vec<u8>> {
+/// The table of these tags, each with a name and a value, as it stands in a file. None where it has no such form: a name or a value of more than
+/// 255 bytes.
+#[must_use]
+pub fn tag_table(tags: &[(&str, &str)]) -> Option<Vec<u8>> {
     let mut table = u32::try_from(tags.len()).ok()?.to_le_bytes().to_vec();
     for (name, value) in tags {
         short_string(&mut table, name)?;
@@ -88,6 +103,11 @@ pub(crate) fn tail_length(file: &[u8]) -> usize {
 /// A part of a file. What the library answers lies inside it, so that there is no other case to report.
 pub(crate) fn between(file: &[u8], start: u64, end: u64) -> &[u8] {
     file.get(start as usize..end as usize).unwrap_or_default()
+}
+
+/// An offset of the header, if the file has so many bytes.
+pub(crate) fn offset(file: &[u8], place: u64) -> Option<u64> {
+    between(file, place, place + 8).try_into().ok().map(u64::from_le_bytes)
 }
 
 /// A zeroed buffer; memory that is not there is no room, 9.

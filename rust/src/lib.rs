@@ -1,7 +1,8 @@
 //! Star recordings in FSTF revision 1 files: open and read them, record them, repair those that were cut off, and save tags.
 //!
 //! The work is done by a static library that is proved correct against document 01; this crate gives it Rust's types. It takes any bytes and any
-//! order of calls and does not panic. Bad input gets a [`Refusal`], with the number of document 01.
+//! order of calls and does not panic. Bad input gets a [`Refusal`], with the number of document 01 and, where it has one, the place of the first
+//! fault; [`Refusal::spot`] tells the tag and the character there.
 //!
 //! - [`Recording`]: a file that opened, with its frames, sections and tags as parts of it; [`OwnedRecording`] keeps the bytes too.
 //! - [`Recorder`] and [`FileRecorder`]: frames as they come, in pieces that a crash cannot spoil.
@@ -11,7 +12,7 @@
 //! - [`calls`]: the library's calls over plain slices, for programs that lend their own buffers.
 //!
 //! A call's time grows with the frames, tags and bytes of tables that it is given. Whoever chooses the names in an upload can make opening it take at
-//! most 20 times as long as usual names would, as far as was measured.
+//! most 20 times as long as usual names would, and 30 times where it is refused, as far as was measured.
 //!
 //! Times are milliseconds since 1 January 2010; [`Date`] is the same by the calendar. Numbers of frames, sections and tags count from 0.
 #![deny(missing_docs)]
@@ -21,6 +22,7 @@ pub mod calls;
 mod date;
 pub mod files;
 mod form;
+mod position;
 pub mod raw;
 mod recorder;
 mod recording;
@@ -29,6 +31,8 @@ mod repair;
 mod sheet;
 
 pub use date::Date;
+pub use form::{set_up_list, tag_table};
+pub use position::{Lent, Position, Spot, SpotPart};
 pub use recorder::{FileRecorder, Piece, Recorder, Stage, CLOSING_PIECES};
 pub use recording::{Frame, FrameSections, Frames, OwnedRecording, Recording, Section, Sections, Tag, Tags};
 pub use refusal::{Error, Reason, Refusal};

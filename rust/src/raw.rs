@@ -5,8 +5,9 @@
 //! overlaps nothing else that is lent to it. [`crate::calls`] has the same calls over Rust's slices, which are all of this by their type, and
 //! nothing else in the crate comes down here.
 //!
-//! Every answer begins with `refused` and `place`. The place counts for 11 only: the lowest change of the sheet, from 0, whose seen entry is not the
-//! table's.
+//! Every answer begins with `refused` and `place`. The place of 3, 4, 7 and 10 is the position of the first fault in the lent bytes, from 0;
+//! [`crate::calls`] says for each call which bytes. The place of 11 is the lowest change of the sheet, from 0, whose seen entry is not the table's. For
+//! all other numbers it is 0. Each answer's `refusal` is the same as a [`crate::Refusal`].
 
 /// What a file holds, in numbers; refused 1 to 7, and then all members behind `place` are 0.
 #[repr(C)]

@@ -57,6 +57,9 @@ impl Recorder {
 
     /// Begins a recording whose frames have these sections, each with a name and a configuration, and with these system tags, each with a name
     /// and a value. Refused 12, 3, 4: names of sections are 1 to 255 digits, capitals and small letters; of tags 1 to 255 characters from 32 to 126.
+    ///
+    /// The place of 3 counts in [`crate::set_up_list`] of the sections, that of 4 in [`crate::tag_table`] of the tags; with one of them,
+    /// [`Refusal::spot`] tells the section or the tag and the character. It is 0 where they have no such form.
     pub fn begin(&mut self, sections: &[(&str, &[u8])], system: &[(&str, &str)]) -> Result<Piece<'_>, Refusal> {
         self.begin_in_file_form(&form::setup(sections), &form::table(system))
     }
@@ -114,7 +117,7 @@ impl Recorder {
         form::longer(&mut self.notes, form::notes_length(0))?;
         form::longer(&mut self.out, form::front_length(setup, system))?;
         let taken = calls::begin(self.state, setup, system, &mut self.notes, &mut self.out);
-        accepted(taken.refused, taken.place).map(|()| taken)
+        accepted(taken.refusal()).map(|()| taken)
     }
 
     fn taken_add(&mut self, time: i64, exposure: u32, sections: &[&[u8]]) -> Result<FstfTaken, Refusal> {
@@ -130,13 +133,13 @@ impl Recorder {
         form::longer(&mut self.notes, form::notes_length(self.state.frames.saturating_add(1)))?;
         form::longer(&mut self.out, form::frame_length(sections))?;
         let taken = calls::add(self.state, time, exposure, sections, &mut self.notes, &mut self.out);
-        accepted(taken.refused, taken.place).map(|()| taken)
+        accepted(taken.refusal()).map(|()| taken)
     }
 
     fn taken_close(&mut self) -> Result<FstfTaken, Refusal> {
         form::longer(&mut self.out, form::notes_length(self.state.frames))?;
         let taken = calls::close(self.state, &self.notes, &mut self.out);
-        accepted(taken.refused, taken.place).map(|()| taken)
+        accepted(taken.refusal()).map(|()| taken)
     }
 
     fn piece(&self, taken: &FstfTaken) -> Piece<'_> {

@@ -6,7 +6,7 @@ use std::ops::Range;
 use crate::calls;
 use crate::date::Date;
 use crate::form::between;
-use crate::raw::{self, FstfCursor, FstfOpened, FstfPart};
+use crate::raw::{self, FstfCursor, FstfOpened};
 use crate::refusal::{accepted, Refusal};
 
 /// A recording that opened.
@@ -20,10 +20,11 @@ pub struct Recording<'a> {
 }
 
 impl<'a> Recording<'a> {
-    /// Opens a file that is lent as bytes. Refused 1 to 7: a file opens exactly when it is one that the layout describes.
+    /// Opens a file that is lent as bytes. Refused 1 to 7: a file opens exactly when it is one that the layout describes. Of 3, 4 and 7,
+    /// [`Refusal::spot`] tells which section or tag is at fault, and which character of it.
     pub fn open(file: &'a [u8]) -> Result<Recording<'a>, Refusal> {
         let opened = calls::open(file);
-        accepted(opened.refused, opened.place)?;
+        accepted(opened.refusal())?;
         Ok(Recording { file, opened })
     }
 
@@ -54,7 +55,7 @@ impl<'a> Recording<'a> {
     /// A frame by its number, from 0. Refused 8.
     pub fn frame(&self, number: usize) -> Result<Frame<'a>, Refusal> {
         let found = calls::frame_of(self.file, self.opened, number as u64);
-        accepted(found.refused, found.place)?;
+        accepted(found.refusal())?;
         Ok(Frame {
             recording: *self,
             number,
@@ -171,10 +172,9 @@ impl<'a> Recording<'a> {
     }
 
     fn part(&self, kind: u64, i: usize, j: usize) -> Result<&'a [u8], Refusal> {
-        let FstfPart { refused, place, start, length } =
-            calls::part_of(self.file, self.opened, kind, i as u64, j as u64);
-        accepted(refused, place)?;
-        Ok(between(self.file, start, start.saturating_add(length)))
+        let part = calls::part_of(self.file, self.opened, kind, i as u64, j as u64);
+        accepted(part.refusal())?;
+        Ok(between(self.file, part.start, part.start.saturating_add(part.length)))
     }
 }
 

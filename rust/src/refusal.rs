@@ -5,6 +5,9 @@ use std::fmt;
 use std::io;
 use std::path::PathBuf;
 
+use crate::position::{Grouped, Lent, Position};
+use crate::raw::{FstfCursor, FstfFrame, FstfOpened, FstfPart, FstfRepaired, FstfSaved, FstfTag, FstfTaken};
+
 /// Why a call was refused, a case for each number of document 01.
 #[derive(Debug, Clone, Copy, PartialEq, Eq, Hash)]
 #[non_exhaustive]
@@ -13,21 +16,21 @@ pub enum Reason {
     NotFstf,
     /// 2: a file of another revision.
     Revision,
-    /// 3: section names or configurations break the layout.
+    /// 3: section names or configurations break the layout. Its place is the first fault's, in the file or in the set-up list.
     Sections,
-    /// 4: the system table is misplaced, malformed or cut off.
+    /// 4: the system table is misplaced, malformed or cut off. Its place is the first fault's, in the file or in the table to begin with.
     SystemTable,
     /// 5: the recording was never closed, so that it can be repaired.
     NotClosed,
     /// 6: frames, their times and the index do not agree.
     Index,
-    /// 7: the user table is malformed, or does not end where the file ends.
+    /// 7: the user table is malformed, or does not end where the file ends. Its place is the first fault's, in the file or in a table lent by itself.
     UserTable,
     /// 8: a frame, section or tag number that is not below its count.
     NoSuchItem,
     /// 9: a lent output is shorter than the answer.
     NoRoom,
-    /// 10: a change sheet or a set-up list is malformed.
+    /// 10: a change sheet or a set-up list is malformed. Its place is the first fault's, in the sheet or in the list.
     Sheet,
     /// 11: the file says otherwise than a member saw. Its place is the lowest change of the sheet, from 0, that the file disagrees with.
     Conflict,
@@ -71,20 +74,23 @@ const REASONS: [Reason; 17] = [
     Reason::TableFull,
 ];
 
+/// What a position counts.
+const BYTE: &str = "byte";
+
 impl Reason {
     /// Number, name and advice.
     fn row(self) -> (u64, &'static str, &'static str) {
         match self {
             Reason::NotFstf => (1, "not FSTF", "The file is no FSTF recording, or shorter than a header."),
             Reason::Revision => (2, "revision", "The file is of another revision; this library reads revision 1."),
-            Reason::Sections => (3, "sections", "The section names or their configuration offsets are broken."),
-            Reason::SystemTable => (4, "system table", "The system table is missing, misplaced or malformed."),
+            Reason::Sections => (3, "sections", "The section names or their configuration offsets are broken: the first fault is at this place."),
+            Reason::SystemTable => (4, "system table", "The system table is missing, misplaced or malformed: the first fault is at this place."),
             Reason::NotClosed => (5, "not closed", "The recording was never closed: repair it. Repair empties the user table: keep the old file for its tags."),
             Reason::Index => (6, "index", "Frames, times and index do not agree: repair it. Repair empties the user table: keep the old file for its tags."),
-            Reason::UserTable => (7, "user table", "The user table is malformed or does not end the file."),
+            Reason::UserTable => (7, "user table", "The user table is malformed or does not end the file: the first fault is at this place."),
             Reason::NoSuchItem => (8, "no such item", "Ask for an item number below its count."),
             Reason::NoRoom => (9, "no room", "Lend a longer output (or longer notes)."),
-            Reason::Sheet => (10, "sheet", "The change sheet, or the set-up list, is malformed."),
+            Reason::Sheet => (10, "sheet", "The change sheet, or the set-up list, is malformed: the first fault is at this place."),
             Reason::Conflict => (
                 11,
                 "conflict",
@@ -109,6 +115,7 @@ impl Reason {
     /// What the place counts that this number carries.
     fn counted(self) -> Option<&'static str> {
         match self {
+            Reason::Sections | Reason::SystemTable | Reason::UserTable | Reason::Sheet => Some(BYTE),
             Reason::Conflict => Some("change"),
             _ => None,
         }
@@ -116,22 +123,36 @@ impl Reason {
 }
 
 /// A refusal: its number, and the place that some numbers carry. It is always the first of its call's order, and nothing was changed.
+///
+/// Shown, it is as `refused 7, user table at byte 1,234 of the file: ..`, with its advice.
 #[derive(Debug, Clone, Copy, PartialEq, Eq, Hash)]
 pub struct Refusal {
     reason: Reason,
     place: Option<u64>,
+    lent: Option<Lent>,
 }
 
 impl Refusal {
     /// There is no memory for what a call is to be lent.
-    pub(crate) const NO_ROOM: Refusal = Refusal { reason: Reason::NoRoom, place: None };
+    pub(crate) const NO_ROOM: Refusal = Refusal { reason: Reason::NoRoom, place: None, lent: None };
 
-    /// The refusal that a flat answer of [`crate::calls`] holds in `refused` and `place`, or none for 0.
+    /// No bytes are a sheet.
+    pub(crate) const NO_SHEET: Refusal = Refusal { reason: Reason::Sheet, place: Some(0), lent: Some(Lent::Sheet) };
+
+    /// The refusal of this number and place, or none for 0: for who has the two numbers only.
+    ///
+    /// They do not say whether the place counts in a file or in a table, so that [`Refusal::position`] is none, and it is shown as `at byte 1,234`
+    /// alone. An answer of [`crate::calls`] knows its call: take its own `refusal`, as [`FstfOpened::refusal`].
     #[must_use]
     pub fn of(number: u64, place: u64) -> Option<Refusal> {
         let before = number.checked_sub(1)?;
         let reason = REASONS.get(before as usize).copied().unwrap_or(Reason::Unknown { number });
-        Some(Refusal { reason, place: reason.counted().map(|_| place) })
+        Some(Refusal { reason, place: reason.counted().map(|_| place), lent: None })
+    }
+
+    /// The same, where its place, if it is one of a byte, counts in these bytes.
+    fn counted_in(self, lent: Lent) -> Refusal {
+        Refusal { lent: (self.reason.counted() == Some(BYTE)).then_some(lent), ..self }
     }
 
     /// Which one it is.
@@ -146,10 +167,16 @@ impl Refusal {
         self.reason.row().0
     }
 
-    /// Where, for a number that says it: 11 names the change of the sheet, from 0.
+    /// Where, for a number that says it: 3, 4, 7 and 10 name the byte of the first fault, 11 the change of the sheet, all from 0.
     #[must_use]
     pub fn place(&self) -> Option<u64> {
         self.place
+    }
+
+    /// Where the first fault is, of 3, 4, 7 and 10: the byte, and which lent bytes it is counted in. [`Refusal::spot`] tells what stands there.
+    #[must_use]
+    pub fn position(&self) -> Option<Position> {
+        Some(Position { lent: self.lent?, at: self.place? })
     }
 
     /// The name in document 01.
@@ -169,7 +196,10 @@ impl fmt::Display for Refusal {
     fn fmt(&self, f: &mut fmt::Formatter<'_>) -> fmt::Result {
         write!(f, "refused {}, {}", self.number(), self.name())?;
         if let (Some(counted), Some(place)) = (self.reason.counted(), self.place) {
-            write!(f, " at {counted} {place}")?;
+            write!(f, " at {counted} {}", Grouped(place))?;
+        }
+        if let Some(lent) = self.lent {
+            write!(f, " of the {lent}")?;
         }
         write!(f, ": {}", self.advice())
     }
@@ -177,9 +207,54 @@ impl fmt::Display for Refusal {
 
 impl StdError for Refusal {}
 
-/// The refusal of an answer, by its first two members, as an error; an accepted answer goes on.
-pub(crate) fn accepted(refused: u64, place: u64) -> Result<(), Refusal> {
-    Refusal::of(refused, place).map_or(Ok(()), Err)
+/// The calls that take a file; a sheet is lent by a save only.
+fn file_or_sheet(reason: Reason) -> Lent {
+    match reason {
+        Reason::Sheet => Lent::Sheet,
+        _ => Lent::File,
+    }
+}
+
+/// The recorder's calls, of which the first is lent a table behind the set-up list.
+fn set_up_or_table(reason: Reason) -> Lent {
+    match reason {
+        Reason::SystemTable => Lent::Table,
+        _ => Lent::SetUp,
+    }
+}
+
+/// The calls over a table by itself.
+fn table(_: Reason) -> Lent {
+    Lent::Table
+}
+
+/// Each answer's own refusal: its type says which calls it is of, and so what its place counts in.
+macro_rules! refusals {
+    ($($answer:ident: $lent:ident,)*) => {$(
+        impl $answer {
+            /// The refusal that it holds, with the bytes that its place counts in, or none where the call was done.
+            #[must_use]
+            pub fn refusal(&self) -> Option<Refusal> {
+                Refusal::of(self.refused, self.place).map(|refusal| refusal.counted_in($lent(refusal.reason)))
+            }
+        }
+    )*};
+}
+
+refusals! {
+    FstfOpened: file_or_sheet,
+    FstfFrame: file_or_sheet,
+    FstfPart: file_or_sheet,
+    FstfRepaired: file_or_sheet,
+    FstfSaved: file_or_sheet,
+    FstfTaken: set_up_or_table,
+    FstfTag: table,
+    FstfCursor: table,
+}
+
+/// The refusal of an answer as an error; an accepted answer goes on.
+pub(crate) fn accepted(refusal: Option<Refusal>) -> Result<(), Refusal> {
+    refusal.map_or(Ok(()), Err)
 }
 
 /// What can go wrong where files are read and written: the library refuses, or the storage fails.

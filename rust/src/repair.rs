@@ -3,15 +3,10 @@
 use std::io::{self, Write};
 
 use crate::calls;
-use crate::form::{self, between};
+use crate::form::{self, between, COUNT_PLACE, INDEX_PLACE, USER_PLACE};
 use crate::raw::FstfRepaired;
 use crate::recording::Tags;
 use crate::refusal::{accepted, Refusal};
-
-/// Where the three fields that a repair sets stand in the header.
-const COUNT_PLACE: u64 = 5;
-const INDEX_PLACE: u64 = 9;
-const USER_PLACE: u64 = 25;
 
 /// How a recording that was cut off becomes a file that opens: its first bytes are kept, three fields of its header are set, and a tail follows.
 ///
@@ -27,7 +22,7 @@ pub struct Repair<'a> {
 pub fn repair(file: &[u8]) -> Result<Repair<'_>, Refusal> {
     let mut tail = form::room(form::tail_length(file))?;
     let numbers = calls::repair(file, &mut tail);
-    accepted(numbers.refused, numbers.place)?;
+    accepted(numbers.refusal())?;
     tail.truncate(numbers.tail as usize);
     Ok(Repair { file, numbers, tail })
 }
@@ -73,7 +68,7 @@ impl<'a> Repair<'a> {
         let index = between(&self.tail, 0, self.numbers.user.saturating_sub(self.numbers.index));
         let stands = between(self.file, self.numbers.kept, self.numbers.user) == index;
         let behind = if stands { between(self.file, self.numbers.user, end) } else { &[] };
-        let offset = between(self.file, USER_PLACE, USER_PLACE + 8).try_into().map_or(end, u64::from_le_bytes);
+        let offset = form::offset(self.file, USER_PLACE).unwrap_or(end);
         let tables = [behind, between(self.file, offset, end)];
         tables.into_iter().find_map(Tags::of_table).unwrap_or_default()
     }

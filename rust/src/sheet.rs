@@ -6,17 +6,15 @@ use std::io::{self, Write};
 
 use crate::calls;
 use crate::form::{self, between, short_string};
+use crate::position::{self, Lent, Spot, SpotPart};
 use crate::recording::Recording;
-use crate::refusal::{accepted, Refusal};
+use crate::refusal::{accepted, Reason, Refusal};
 
 /// The most changes of a sheet.
 const MOST_CHANGES: usize = 64;
 
 /// The most bytes of a name or a value.
 const LONGEST_STRING: usize = 255;
-
-/// The refusal of a malformed sheet.
-const SHEET_REFUSED: u64 = 10;
 
 /// The smallest recording: one section `A`, no frame, no tag. The library looks at a sheet alone by saving it there.
 const SMALLEST: [u8; 56] = *b"FSTF\x01\0\0\0\0\
@@ -124,15 +122,13 @@ impl Sheet {
         sheet
     }
 
-    /// A sheet of bytes in the form of document 01, as [`Sheet::to_vec`] gives them. Refused 10; the library says whether they are a sheet.
+    /// A sheet of bytes in the form of document 01, as [`Sheet::to_vec`] gives them. Refused 10; the library says whether they are a sheet, and where
+    /// not. [`Refusal::spot`] of the bytes tells the change and the character.
     pub fn from_bytes(bytes: &[u8]) -> Result<Sheet, Refusal> {
-        let judged = calls::save(&SMALLEST, bytes, &mut []).refused;
-        if judged != SHEET_REFUSED {
-            if let Some(rows) = rows_of(bytes) {
-                return Ok(Sheet { rows });
-            }
-        }
-        accepted(SHEET_REFUSED, 0).map(|()| Sheet::new())
+        let judged = calls::save(&SMALLEST, bytes, &mut []).refusal();
+        // any other refusal is one of the smallest recording, behind 10
+        accepted(judged.filter(|refusal| refusal.reason() == Reason::Sheet))?;
+        rows_of(bytes).map(|rows| Sheet { rows }).ok_or(Refusal::NO_SHEET)
     }
 
     /// The changes, in their order: what each tag's member saw, and what it is to be.
@@ -150,16 +146,16 @@ impl Sheet {
 
     /// What would be refused 10, by tag: the changes that break the rules of a sheet, with what breaks them. None where the sheet is one.
     ///
-    /// A sheet has at most 64 changes, and no name twice. Names have 1 to 255 characters and values 0 to 255, from the space to `~`.
+    /// A sheet has at most 64 changes, and no name twice. Names have 1 to 255 characters and values 0 to 255, from the space to `~`. They are told as
+    /// the sheet is read, that there are too many first: the first one is where the library's refusal points.
     #[must_use]
     pub fn faults(&self) -> Vec<SheetFault<'_>> {
         let mut places: HashMap<&str, usize> = HashMap::new();
-        let mut faults = Vec::new();
+        let mut faults: Vec<_> = self.too_many().into_iter().collect();
         for (place, change) in self.changes().enumerate() {
             let mut tell = |part, fault: Option<Fault>| {
                 faults.extend(fault.map(|fault| SheetFault { place, name: change.name, part, fault }));
             };
-            tell(TagPart::Change, (place == MOST_CHANGES).then_some(Fault::TooMany { changes: self.len() }));
             tell(TagPart::Name, change.name.is_empty().then_some(Fault::Empty));
             tell(TagPart::Name, string_fault(change.name));
             let first = *places.entry(change.name).or_insert(place);
@@ -170,6 +166,53 @@ impl Sheet {
             tell(TagPart::New, change.new.and_then(string_fault));
         }
         faults
+    }
+
+    /// The change, what of it and which character a refusal 10 of this sheet points at, as [`Sheet::faults`] tells it. None for any other refusal.
+    ///
+    /// It goes by the refusal's place, and so by the library's own word. A sheet that has no form, with a string of over 255 bytes or over 255
+    /// changes, was refused as no bytes at all, at 0: it is led to the first of its faults.
+    #[must_use]
+    pub fn fault_at(&self, refusal: Refusal) -> Option<SheetFault<'_>> {
+        let elsewhere = refusal.position().map_or(false, |position| position.lent != Lent::Sheet);
+        if refusal.reason() != Reason::Sheet || elsewhere {
+            return None;
+        }
+        match self.file_form() {
+            Some(form) => self.fault_of(position::in_sheet(&form, refusal.place()?)?),
+            None => self.faults().into_iter().next(),
+        }
+    }
+
+    /// What breaks the rules where the library says that something does.
+    fn fault_of(&self, spot: Spot<'_>) -> Option<SheetFault<'_>> {
+        let place = match spot.number {
+            Some(number) => number,
+            None => return self.too_many(),
+        };
+        let change = self.changes().nth(place)?;
+        let (part, string) = match (spot.part, change.seen) {
+            (SpotPart::Name, _) => (TagPart::Name, change.name),
+            (SpotPart::Seen, Seen::Value(value)) => (TagPart::Seen, value),
+            (SpotPart::New, _) => (TagPart::New, change.new?),
+            _ => return None,
+        };
+        let fault = match spot.character {
+            Some(byte) => Fault::Character {
+                character: string.get(byte..)?.chars().next()?,
+                place: string.get(..byte)?.chars().count(),
+            },
+            None if string.is_empty() => Fault::Empty,
+            None => Fault::Twice { first: self.changes().position(|other| other.name == change.name)? },
+        };
+        Some(SheetFault { place, name: change.name, part, fault })
+    }
+
+    /// That there are too many changes, at the first of these.
+    fn too_many(&self) -> Option<SheetFault<'_>> {
+        let name = self.name(MOST_CHANGES)?;
+        let fault = Fault::TooMany { changes: self.len() };
+        Some(SheetFault { place: MOST_CHANGES, name, part: TagPart::Change, fault })
     }
 
     /// How many changes are on the sheet.
@@ -184,13 +227,14 @@ impl Sheet {
         self.rows.is_empty()
     }
 
-    /// The name of the tag that the change at this place, from 0, is about: what [`Refusal::place`] points at.
+    /// The name of the tag that the change at this place, from 0, is about: what [`Refusal::place`] of an 11 points at. For 10 see
+    /// [`Sheet::fault_at`].
     #[must_use]
     pub fn name(&self, place: usize) -> Option<&str> {
         self.rows.get(place).map(|row| row.name.as_str())
     }
 
-    /// The sheet in the form of document 01; no bytes, which are refused 10, where it has none: more than 255 changes, or a longer string.
+    /// The sheet in the form of document 01; no bytes, which are refused 10 at 0, where it has none: more than 255 changes, or a longer string.
     #[must_use]
     pub fn to_vec(&self) -> Vec<u8> {
         self.file_form().unwrap_or_default()
@@ -412,7 +456,8 @@ pub struct Saved<'a> {
     table: Vec<u8>,
 }
 
-/// Makes the new user table of a change sheet. Refused 1 to 7, 10, 11, 17; with 11, [`Sheet::name`] at [`Refusal::place`] tells which tag.
+/// Makes the new user table of a change sheet. Refused 1 to 7, 10, 11, 17; with 10, [`Sheet::fault_at`] tells which tag and which character, with 11,
+/// [`Sheet::name`] at [`Refusal::place`] tells which tag.
 ///
 /// It is an answer, not a write: [`crate::files::save`] saves to a file on disk.
 pub fn save<'a>(file: &'a [u8], sheet: &Sheet) -> Result<Saved<'a>, Refusal> {
@@ -421,7 +466,7 @@ pub fn save<'a>(file: &'a [u8], sheet: &Sheet) -> Result<Saved<'a>, Refusal> {
     // no new table is longer than the old one and the sheet together
     let mut table = form::room(recording.user_table().len().saturating_add(sheet.len()))?;
     let saved = calls::save(file, &sheet, &mut table);
-    accepted(saved.refused, saved.place)?;
+    accepted(saved.refusal())?;
     table.truncate(saved.length as usize);
     Ok(Saved { file, place: recording.user_place(), table })
 }

@@ -46,7 +46,7 @@ fn one_tag_after_another() {
     // a table without tags is at its end; one that was cut is refused, and stays so
     assert_eq!(calls::first_tag(&[0; 4]), end);
     let refused = calls::first_tag(&TWO_TAGS[..13]);
-    assert_eq!(refused, FstfCursor { refused: 7, ..end });
+    assert_eq!(refused, FstfCursor { refused: 7, place: 13, ..end });
     assert_eq!(calls::next_tag(TWO_TAGS, refused), refused);
 }
 
@@ -76,7 +76,7 @@ fn a_cursor_may_have_any_numbers() {
 fn refused_answers_hold_nothing_else() {
     let nothing = FstfOpened {
         refused: 7,
-        place: 0,
+        place: 94,
         frames: 0,
         sections: 0,
         system_tags: 0,

@@ -61,6 +61,8 @@ fn p10_a_cut_system_table() {
     let cut = &before_closing()[..51];
     assert_eq!(refused(cut), Reason::SystemTable);
     assert_eq!(repair(cut).unwrap_err().reason(), Reason::SystemTable);
+    // where the table starts
+    assert_eq!(repair(cut).unwrap_err().place(), Some(48));
 }
 
 #[test]

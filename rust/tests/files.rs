@@ -205,6 +205,30 @@ fn a_recording_on_disk() {
 }
 
 #[test]
+fn an_error_shows_where_the_fault_is() {
+    let place = Place::new("positions");
+    let mut file = WHOLE.to_vec();
+    file[37] = b'-';
+    let path = place.file("damaged.fstf", &file);
+    let errors = [
+        files::open(&path).unwrap_err(),
+        files::save(&path, &Sheet::new()).unwrap_err(),
+        files::repair(&path).unwrap_err(),
+        files::repair_if_needed(&path).unwrap_err(),
+    ];
+    for error in errors {
+        assert!(error.to_string().starts_with("refused 3, sections at byte 37 of the file: "), "{error}");
+        let spot = error.refusal().unwrap().spot(&file).unwrap();
+        assert_eq!(spot.to_string(), r#"section 0, "IM-GE": character 2 of its name, byte 0x2D"#);
+    }
+    let path = place.file("night.fstf", &WHOLE);
+    let error = files::save(&path, &site(None, "A\n")).unwrap_err();
+    assert!(error.to_string().starts_with("refused 10, sheet at byte 10 of the sheet: "), "{error}");
+    let error = files::record(place.0.join("none.fstf"), &[("A B", b"")], &[]).unwrap_err();
+    assert!(error.to_string().starts_with("refused 3, sections at byte 3 of the set-up list: "), "{error}");
+}
+
+#[test]
 fn files_that_are_not_there() {
     let place = Place::new("nothing");
     assert!(matches!(files::save(place.0.join("no.fstf"), &Sheet::new()).unwrap_err(), Error::Storage(_)));

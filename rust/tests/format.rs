@@ -3,7 +3,7 @@
 mod common;
 
 use common::WHOLE;
-use suljanko::{repair, save, Recording, Sheet};
+use suljanko::{calls, repair, save, Recorder, Recording, Refusal, Sheet};
 
 const FORMAT: &str = include_str!("../../docs/FORMAT.md");
 const WORKED: &[u8] = include_bytes!("../../examples/worked.fstf");
@@ -98,4 +98,42 @@ fn the_twelve_examples() {
     assert_eq!(saved.table(), hex(answer(11).split('`').nth(1).unwrap()));
     let again = save(&saved.to_vec(), &sheet).unwrap_err();
     assert_eq!((answer(12), again.number()), ("11, place 0", 11));
+}
+
+#[test]
+fn the_positions_that_it_names() {
+    let plain = FORMAT.split_whitespace().collect::<Vec<_>>().join(" ");
+    let says = |text: &str, refusal: Option<Refusal>, number: u64, place: u64| {
+        assert!(plain.contains(text), "{text}");
+        assert_eq!(
+            refusal.and_then(|refusal| Some((refusal.number(), refusal.place()?))),
+            Some((number, place)),
+            "{text}"
+        );
+    };
+    let sheet = |bytes: &str| Sheet::from_bytes(&hex(bytes)).err();
+    let list = |bytes: &str| Recorder::new().begin_in_file_form(&hex(bytes), &[0; 4]).err();
+    let opened = |file: &[u8]| Recording::open(file).err();
+    says(
+        "The sheet `01 05 41 07` says that a name of five letters follows; the second one, at 3,",
+        sheet("01 05 41 07"),
+        10,
+        3,
+    );
+    says("cut after 51 bytes has three bytes of the system table's count: 4 at 48.", opened(&WORKED[..51]), 4, 48);
+    says("Cut after 97 it has three of the user table's: 7 at 94.", opened(&WORKED[..97]), 7, 94);
+    let cut = "01 05 49 4D 41 47 45 05 00 61 62 63";
+    says(&format!("`{cut}` is refused 10 at 9."), list(cut), 10, 9);
+    let table = "02 00 00 00 01 41 00 01 41 01 07";
+    says(&format!("the table `{table}`"), calls::first_tag(&hex(table)).refusal(), 7, 7);
+    says("`01 05 2D 41` is refused 10 at 4,", list("01 05 2D 41"), 10, 4);
+    let mut far = WORKED.to_vec();
+    far[17..25].copy_from_slice(&1048_u64.to_le_bytes());
+    says("with 1,048 for its system offset is refused 4 at 1,048.", opened(&far), 4, 1048);
+    let mut two = common::recorded(&[("IMAGE", b""), ("STATUS", b"")], &[], &[]);
+    assert_eq!((two[40], two[55]), (63, 63));
+    two[40] = 64;
+    says("With 64 at 40 the file is refused 3 at 40;", opened(&two), 3, 40);
+    two[52] = b'-';
+    says("with a `-` in the second name, at 52, besides, it is refused 3 at 52.", opened(&two), 3, 52);
 }

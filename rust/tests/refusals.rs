@@ -38,7 +38,7 @@ fn table() -> Vec<(u64, &'static str, Refusal)> {
 // The crate lends enough, so that 9 is for those who lend their own.
 fn no_room() -> Refusal {
     let mut short = [0; 7];
-    Refusal::of(calls::repair(&before_closing(), &mut short).refused, 0).unwrap()
+    calls::repair(&before_closing(), &mut short).refusal().unwrap()
 }
 
 fn sheet_refused() -> Refusal {
@@ -63,7 +63,8 @@ fn each_number_is_reached_and_has_its_name_and_advice() {
     let header = include_str!("../../include/fstf.h");
     for (number, name, refusal) in table() {
         assert_eq!((refusal.number(), refusal.name()), (number, name));
-        assert_eq!(refusal.place().is_some(), number == 11, "{name}");
+        assert_eq!(refusal.place().is_some(), [3, 4, 7, 10, 11].contains(&number), "{name}");
+        assert_eq!(refusal.position().is_some(), [3, 4, 7, 10].contains(&number), "{name}");
         let said = refusal.to_string();
         assert!(said.starts_with(&format!("refused {number}, {name}")), "{said}");
         assert!(said.ends_with(refusal.advice()), "{said}");

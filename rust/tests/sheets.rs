@@ -3,12 +3,17 @@
 mod common;
 
 use common::{tagged, WHOLE};
-use suljanko::{calls, save, Fault, Recording, Seen, Sheet, SheetChange, TagPart};
+use suljanko::{calls, save, Fault, Lent, Recorder, Recording, Refusal, Seen, Sheet, SheetChange, SheetFault, TagPart};
 
 fn one(name: &str, seen: Option<&str>, new: &str) -> Sheet {
     let mut sheet = Sheet::new();
     sheet.change(name).seen(seen).set(new);
     sheet
+}
+
+/// What a save's refusal points at, if it is refused 10.
+fn pointed(sheet: &Sheet) -> Option<SheetFault<'_>> {
+    sheet.fault_at(save(&WHOLE, sheet).err()?)
 }
 
 /// The library's word on a sheet: 9, that there is no room for the table, comes behind 10.
@@ -41,6 +46,7 @@ fn each_fault_is_told_with_its_tag() {
             assert_eq!((faults[0].place, faults[0].part, faults[0].fault), (0, part, fault));
             assert_eq!(Some(faults[0].name), sheet.name(0));
             assert!(refused(&sheet));
+            assert_eq!(pointed(&sheet), Some(faults[0]));
         }
     }
     let sheet = one("", None, "");
@@ -73,7 +79,65 @@ fn more_than_64_changes_are_told_once() {
         assert_eq!((faults.len(), faults[0].place, faults[0].name), (1, 64, "T64"));
         assert_eq!(faults[0].fault, Fault::TooMany { changes: number + 1 });
         assert!(refused(&sheet));
+        assert_eq!(pointed(&sheet), Some(faults[0]));
     }
+}
+
+#[test]
+fn a_refusal_points_at_the_first_fault() {
+    let mut sheet = Sheet::new();
+    sheet.change("SITE").seen(Some("Inari")).set("Enontekiö");
+    sheet.change("").nobody_looked().remove();
+    let refusal = save(&WHOLE, &sheet).unwrap_err();
+    // 1 and 4 letters, kind and 1 and 5 letters, kind and length, 8 letters: the first of the two bytes of the ö
+    assert_eq!((refusal.number(), refusal.place()), (10, Some(1 + 5 + 7 + 2 + 8)));
+    let fault = sheet.fault_at(refusal).unwrap();
+    assert_eq!((fault.place, fault.name, fault.part), (0, "SITE", TagPart::New));
+    assert_eq!(fault.fault, Fault::Character { character: 'ö', place: 8 });
+    // the same by the two numbers alone, and by the bytes of the sheet
+    assert_eq!(sheet.fault_at(Refusal::of(10, 23).unwrap()), Some(fault));
+    let spot = refusal.spot(&sheet.to_vec()).unwrap().to_string();
+    assert_eq!(spot, r#"change 0, "SITE": character 8 of its new value, byte 0xC3"#);
+    assert_eq!(Sheet::from_bytes(&sheet.to_vec()), Err(refusal));
+    // too many changes are told where the library tells them, ahead of the others
+    for number in 0..70 {
+        sheet.change(&format!("T{number}")).nobody_looked().remove();
+    }
+    assert_eq!(save(&WHOLE, &sheet).unwrap_err().place(), Some(0));
+    assert_eq!(pointed(&sheet).map(|fault| fault.fault), Some(Fault::TooMany { changes: 72 }));
+    assert_eq!(sheet.faults().len(), 3);
+}
+
+#[test]
+fn other_refusals_point_at_no_fault() {
+    let sheet = one("A", Some("x"), "y");
+    let conflict = save(&WHOLE, &sheet).unwrap_err();
+    let not_opened = save(&WHOLE[..97], &sheet).unwrap_err();
+    let list = Recorder::new().begin_in_file_form(&[], &[]).unwrap_err();
+    assert_eq!((conflict.number(), not_opened.number(), list.number()), (11, 7, 10));
+    assert_eq!(list.position().map(|position| position.lent), Some(Lent::SetUp));
+    for sheet in [sheet, one("", None, "")] {
+        for refusal in [conflict, not_opened, list] {
+            assert_eq!(sheet.fault_at(refusal), None);
+        }
+        // a place that is not of this sheet
+        assert_eq!(sheet.fault_at(Refusal::of(10, u64::MAX).unwrap()), None);
+    }
+}
+
+#[test]
+fn a_sheet_without_a_form_is_led_to_its_first_fault() {
+    let long = "x".repeat(256);
+    let mut sheet = one("A", None, &long);
+    let refusal = save(&WHOLE, &sheet).unwrap_err();
+    assert_eq!((refusal.number(), refusal.place(), sheet.to_vec().len()), (10, Some(0), 0));
+    assert_eq!(pointed(&sheet).map(|fault| fault.fault), Some(Fault::TooLong { bytes: 256 }));
+    sheet.change("A").nobody_looked().set("\t");
+    assert_eq!(pointed(&sheet), sheet.faults().first().copied());
+    // one that is ahead of it comes first
+    let mut sheet = one("A", None, "\t");
+    sheet.change(&long).nobody_looked().remove();
+    assert_eq!(pointed(&sheet).map(|fault| fault.fault), Some(Fault::Character { character: '\t', place: 0 }));
 }
 
 #[test]
@@ -87,7 +151,7 @@ fn what_is_legal_has_no_fault() {
 
 #[test]
 fn faults_are_what_the_library_refuses() {
-    let strings = ["", "A", "B", "a b", "~", "ä", "\t", "\u{7f}", "\u{0}"].map(str::to_string);
+    let strings = ["", "A", "B", "a b", "~", "ä", "\t", "\u{7f}", "\u{0}", "a\tb", "abcdö", "~€~"].map(str::to_string);
     let strings: Vec<_> = strings.into_iter().chain([255, 256, 511].map(|length| "y".repeat(length))).collect();
     let mut seed = 0x5eed_u64;
     let mut below = |limit: usize| {
@@ -95,9 +159,9 @@ fn faults_are_what_the_library_refuses() {
         (seed >> 33) as usize % limit
     };
     let (mut legal, mut broken) = (0, 0);
-    for _ in 0..3000 {
+    for _ in 0..6000 {
         let mut sheet = Sheet::new();
-        for _ in 0..below(4) {
+        for _ in 0..below(6) {
             // mostly good ones
             let mut pick = || strings[if below(4) == 0 { below(strings.len()) } else { 1 + below(4) }].as_str();
             let (name, seen, new) = (pick(), pick(), pick());
@@ -108,6 +172,8 @@ fn faults_are_what_the_library_refuses() {
             }
         }
         assert_eq!(sheet.faults().is_empty(), !refused(&sheet), "{sheet:?}");
+        // the library's position, by the save and by the bytes, is that of the first fault
+        assert_eq!(pointed(&sheet), sheet.faults().first().copied(), "{sheet:?}");
         match Sheet::from_bytes(&sheet.to_vec()) {
             Ok(again) => {
                 legal += 1;
@@ -117,6 +183,7 @@ fn faults_are_what_the_library_refuses() {
                 broken += 1;
                 assert_eq!(refusal.number(), 10);
                 assert!(refused(&sheet));
+                assert_eq!(sheet.fault_at(refusal), sheet.faults().first().copied(), "{sheet:?}");
             }
         }
     }
