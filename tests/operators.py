@@ -3,7 +3,7 @@
     python3 tests/operators.py [CRATE ...]           each change, in these crates or in all
     python3 tests/operators.py --edits [CRATE ...]   only the changes that stand as edits in must-fail/operators
 
-It works on a copy in target/operators and needs `rt` only. In each round one change is made in every function of a crate, and what counts is what is
+It works on copies in target/operators, one for each processor, and needs `rt` only. In each round one change is made in every function of a crate, and what counts is what is
 said of that function's own proof; where nothing is, the change is tried alone. A change can
   - fail at a fact: something that has to be shown of the function is not true, or not found, any more;
   - fail by shape: only the text of the proof does not fit, as where a sum became a difference, or the code does not compile. That says nothing of the
@@ -11,11 +11,14 @@ said of that function's own proof; where nothing is, the change is tried alone. 
   - pass.
 The last two are printed, and a line for each crate counts. docs/ACCEPTANCE.md says what was found.
 
-The edits of must-fail/operators have the form of the gate's, and docs/CALLS.md names them beside those: each changes one operator, operand, number or
-named refusal. The gate would prove a whole crate again for each; here a round serves many. With --edits the status is 1 where one does not fail at a fact.
+The edits of must-fail/operators have the form of the gate's, and docs/CALLS.md names them beside those. The gate would prove a whole crate again for each;
+here a round serves many, and an edit outside the functions, of a definition say, is tried alone. With --edits the status is 1 where one does not fail at a
+fact.
 """
 
 import collections
+import multiprocessing
+import os
 import pathlib
 import re
 import shutil
@@ -23,7 +26,8 @@ import subprocess
 import sys
 
 ROOT = pathlib.Path(__file__).resolve().parent.parent
-COPY = ROOT / "target" / "operators"
+COPIES = ROOT / "target" / "operators"
+COPY = None  # of this process
 CODE = [
     path.parent.parent.name
     for path in sorted((ROOT / "crates").glob("*/src/lib.rt"))
@@ -182,7 +186,8 @@ class Crate:
         return None, None
 
     def ask_page(self, edit):
-        """FACT, SHAPE or PASSED, of an edit that is tried alone: a definition fails at a fact where a proof over it does."""
+        """FACT, SHAPE or PASSED, of an edit that is tried alone: a definition fails at a fact where a proof over it does, and a function of another page where
+        the prover's own search for its proof does."""
         page = COPY / "crates" / self.name / edit.page
         text = page.read_text()
         page.write_text(text.replace(edit.old, edit.new))
@@ -190,7 +195,8 @@ class Crate:
         page.write_text(text)
         if run.returncode == 0:
             return PASSED
-        return FACT if re.search(r"/proofs/\S+\.antt:\d+:\d+: error", run.stdout + run.stderr) else SHAPE
+        at_fact = r"/proofs/\S+\.antt:\d+:\d+: error|of a `search` in the proof that rattle made"
+        return FACT if re.search(at_fact, run.stdout + run.stderr) else SHAPE
 
 
 Edit = collections.namedtuple("Edit", "label page old new")
@@ -202,33 +208,39 @@ def edits_of(name):
         says = dict(line.split(": ", 1) for line in path.read_text().splitlines() if re.match(r"(file|old|new): ", line))
         edit = Edit(path.stem, says["file"], says["old"], says["new"])
         if (ROOT / "crates" / name / edit.page).read_text().count(edit.old) != 1:
-            sys.exit(f"{path.relative_to(ROOT)}: its old text does not stand once in {edit.page}")
+            raise ValueError(f"{path.relative_to(ROOT)}: its old text does not stand once in {edit.page}")
         found.append(edit)
     return found
 
 
 def copied():
-    """A copy of the crates, with what is proved already."""
-    shutil.rmtree(COPY, ignore_errors=True)
+    """Makes this process its copy of the crates, with what is proved already."""
+    global COPY
+    COPY = COPIES / str(os.getpid())
     COPY.mkdir(parents=True)
     shutil.copy(ROOT / "crates.txt", COPY)
     shutil.copytree(ROOT / "crates", COPY / "crates")
     shutil.copytree(ROOT / "target", COPY / "target", ignore=shutil.ignore_patterns("operators"))
-    if subprocess.run(["rt", "check"], cwd=COPY, stdout=subprocess.DEVNULL).returncode != 0:
-        sys.exit("the code as it is is not proved")
+
+
+def tried_crate(name, only_edits):
+    """Prints what was found in a crate, and answers how many of its changes did not fail at a fact."""
+    counts = Crate(name).tried_edits() if only_edits else Crate(name).tried()
+    told = ", ".join(f"{counts[kind]} {kind}" for kind in counts)
+    print(f"{name}: {sum(counts.values())} {'edits' if only_edits else 'changes'}, {told}", flush=True)
+    return counts[SHAPE] + counts[PASSED]
 
 
 def main():
     only_edits = "--edits" in sys.argv
     named = [word for word in sys.argv[1:] if word != "--edits"]
+    shutil.rmtree(COPIES, ignore_errors=True)
     (ROOT / "target").mkdir(exist_ok=True)
-    copied()
-    missed = 0
-    for name in named or (WITH_EDITS if only_edits else CODE):
-        counts = Crate(name).tried_edits() if only_edits else Crate(name).tried()
-        told = ", ".join(f"{counts[kind]} {kind}" for kind in counts)
-        print(f"{name}: {sum(counts.values())} {'edits' if only_edits else 'changes'}, {told}", flush=True)
-        missed += counts[SHAPE] + counts[PASSED]
+    if subprocess.run(["rt", "check"], cwd=ROOT, stdout=subprocess.DEVNULL).returncode != 0:
+        sys.exit("the code as it is is not proved")
+    with multiprocessing.Pool(initializer=copied) as pool:
+        crates = [(name, only_edits) for name in named or (WITH_EDITS if only_edits else CODE)]
+        missed = sum(pool.starmap(tried_crate, crates, chunksize=1))
     sys.exit(1 if only_edits and missed else 0)
 
 

@@ -6,7 +6,8 @@ use std::time::Duration;
 
 /// The calls that there are.
 const HEADER: &str = include_str!("../../include/fstf.h");
-/// Under this title the page explains rows: their names in bold type, and behind the last of them `(up to 1.6)`.
+/// Under this title the page explains rows: their names in bold type, and behind the last of them `(up to 1.6)`, or `(up to 1.6; on x86-64 up to 4.0)`
+/// where that processor has a limit of its own.
 const TITLE: &str = "\n## Where the library is slower than 1.2 times, and why\n";
 
 #[derive(Clone, Copy)]
@@ -160,12 +161,18 @@ fn explained(page: &str) -> Vec<Explained> {
         if number % 2 == 1 {
             waiting.push(piece.to_string());
         } else if !["", ",", "and", ", and"].contains(&piece.trim()) {
-            let most = piece.trim().strip_prefix("(up to ").and_then(|rest| rest.split(')').next()?.parse().ok());
+            let most = most_stated(piece.trim());
             found.extend(waiting.drain(..).map(|name| (name, most)));
         }
     }
     found.extend(waiting.drain(..).map(|name| (name, None)));
     found
+}
+
+fn most_stated(behind: &str) -> Option<f64> {
+    let stated = behind.strip_prefix("(up to ")?.split(')').next()?;
+    let (most, on_x86) = stated.split_once("; on x86-64 up to ").unwrap_or((stated, stated));
+    if cfg!(target_arch = "x86_64") { on_x86 } else { most }.parse().ok()
 }
 
 /// The names of the calls that a header declares, without `fstf_`.
