@@ -12,7 +12,7 @@
 //! - [`calls`]: the library's calls over plain slices, for programs that lend their own buffers.
 //!
 //! A call's time grows with the frames, tags and bytes of tables that it is given. Whoever chooses the names in an upload can make opening it take at
-//! most 20 times as long as usual names would, and 30 times where it is refused, as far as was measured.
+//! most 20 times as long as usual names would, and 37 times where it is refused, as far as was measured.
 //!
 //! Times are milliseconds since 1 January 2010; [`Date`] is the same by the calendar. Numbers of frames, sections and tags count from 0.
 #![deny(missing_docs)]
