@@ -131,7 +131,7 @@ fn sections_in(file: &[u8]) -> Sections
 
 // ── Where the sections' definitions break the layout ──
 
-// Where n definitions end, whatever their names and offsets.
+// Where n definitions end: a name used twice and a wrong offset do not end the reading.
 fn definitions_end(file: &[u8], at: usize, n: usize) -> Place
     ensures { λ r. ⌜ r ≡ endOf at (times n definition (drop at (now (file .entry)))) ⌝ }
 {

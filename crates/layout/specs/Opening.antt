@@ -145,7 +145,7 @@ firstOffsetPlace f = headerLength + 1 + taken (sectionName (drop (headerLength +
 unfoldable pub firstOffset : List ℕ → ℕ
 firstOffset f = field (firstOffsetPlace f) 8 f
 
--- the definitions' end, and whether the first offset is not there: known where all can be read, whatever their names
+-- the first offset is not the definitions' end, which is known where all can be read: a name used twice and a wrong offset do not end the reading
 unfoldable pub firstOffsetWrong : List ℕ → Bool
 firstOffsetWrong f =
     elim ((numberOfSections then λ k. times k definition) (drop headerLength f)) [ bad m ↦ false | good ds n ↦ not (eqb (firstOffset f) (headerLength + n)) ]
