@@ -21,7 +21,7 @@ PROGRAMS = {
     "opening_vectors": b"ofpF",
     "recorder_vectors": b"abcLT",
     "repair_vectors": b"rR",
-    "saving_vectors": b"sSU",
+    "saving_vectors": b"lmSU",
     "browser_vectors": b"ntB",
     "whole_vectors": b"w",
 }
@@ -173,8 +173,17 @@ def of_repair(room, file):
     return b"r" + u16(room) + file
 
 
-def of_save(room, changes, file):
-    return b"s" + u16(room) + u16(len(changes)) + changes + file
+def of_saving(kind, room, changes, file):
+    return kind + u16(room) + u16(len(changes)) + changes + file
+
+
+def of_look(changes, file):
+    """A look's vector is a commit's but for its first byte; it needs no room."""
+    return of_saving(b"l", 0, changes, file)
+
+
+def of_commit(room, changes, file):
+    return of_saving(b"m", room, changes, file)
 
 
 def of_browse(number, data):
@@ -305,11 +314,18 @@ def line_of_repair(fields):
     return f"repaired kept {answer.kept} {fields_set} tail {answer.tail_length} out {hex_check(out)}"
 
 
-def line_of_save(fields):
+def line_of_look(fields):
+    fields.number(2)  # the room, which is commit's alone
+    changes = fields.bytes(fields.number(2))
+    looked = model.look(fields.rest(), changes)
+    return f"looked {looked.changes} set {looked.set}"
+
+
+def line_of_commit(fields):
     out = lent(fields.number(2))
     changes = fields.bytes(fields.number(2))
     try:
-        given = f"saved {model.save(fields.rest(), changes, out)}"
+        given = f"committed {model.commit(fields.rest(), changes, out)}"
     except Refusal as refusal:
         given = refused(refusal)
     return f"{given} out {hex_check(out)}"
@@ -358,6 +374,11 @@ def swept(base, values):
             yield changed(base, place, values[turn : turn + 1])
 
 
+def told(answer):
+    """The number that an accepted call adds to a sweep's check: the set of a look, 0 of any other call."""
+    return answer.set if isinstance(answer, model.Looked) else 0
+
+
 def line_of_sweep(base, values, *calls):
     """The line of a sweep: each input is tried by each of the calls."""
     count, answers = 0, []
@@ -365,8 +386,7 @@ def line_of_sweep(base, values, *calls):
         for call in calls:
             count += 1
             try:
-                call(data)
-                answers.append((0, 0))
+                answers.append((0, told(call(data))))
             except Refusal as refusal:
                 answers.append((refusal.number, refusal.place or 0))
     refusals = sum(number != 0 for number, _ in answers)
@@ -383,14 +403,19 @@ def line_of_repair_sweep(fields):
     return line_of_sweep(file, values, lambda data: model.repair(data, lent(512)))
 
 
+def line_of_saving_sweep(base, values, given):
+    """The line of a sweep by look and commit; `given` makes the file and the sheet of an input."""
+    return line_of_sweep(base, values, lambda data: model.look(*given(data)), lambda data: model.commit(*given(data), lent(512)))
+
+
 def line_of_sheet_sweep(fields):
     values, file, changes = fields.bytes(fields.number(1)), fields.bytes(fields.number(2)), fields.rest()
-    return line_of_sweep(changes, values, lambda data: model.save(file, data, lent(512)))
+    return line_of_saving_sweep(changes, values, lambda data: (file, data))
 
 
-def line_of_saved_file_sweep(fields):
+def line_of_tagged_file_sweep(fields):
     values, changes, file = fields.bytes(fields.number(1)), fields.bytes(fields.number(2)), fields.rest()
-    return line_of_sweep(file, values, lambda data: model.save(data, changes, lent(512)))
+    return line_of_saving_sweep(file, values, lambda data: (data, changes))
 
 
 def begun(set_up_list, system_table):
@@ -468,14 +493,15 @@ LINES = {
     "b": line_of_begin,
     "c": line_of_close,
     "r": line_of_repair,
-    "s": line_of_save,
+    "l": line_of_look,
+    "m": line_of_commit,
     "t": line_of_browse,
     "n": line_of_named,
     "w": line_of_whole,
     "F": line_of_file_sweep,
     "R": line_of_repair_sweep,
     "S": line_of_sheet_sweep,
-    "U": line_of_saved_file_sweep,
+    "U": line_of_tagged_file_sweep,
     "L": line_of_list_sweep,
     "T": line_of_system_sweep,
     "B": line_of_table_sweep,
@@ -1593,26 +1619,40 @@ def random_repairs(v):
 
 TAGS = ((b"SITE", b"Krk"), (b"OBS", b"Ana"), (b"NOTE", b""), (b"FILTER", b"R"))
 
+# Changes that agree with those tags, and one that conflicts, by its kind.
+AGREE = ((b"OBS", b"Ana", b"Eva"), (b"FREE", ABSENT, b"f"), (b"NOTE", UNSEEN, ABSENT), (b"FILTER", b"R", ABSENT))
+WRONG = {
+    "present_seen_absent": (b"SITE", ABSENT, b"x"),
+    "absent_seen_value": (b"X", b"Krk", b"x"),
+    "absent_seen_empty": (b"X", b"", b"x"),
+    "other_value": (b"SITE", b"Hvar", b"x"),
+    "value_seen_empty": (b"SITE", b"", b"x"),
+    "prefix_of_the_value": (b"SITE", b"Kr", ABSENT),
+    "longer_than_the_value": (b"SITE", b"Krk!", ABSENT),
+    "case_of_the_value": (b"SITE", b"krk", ABSENT),
+    "case_of_the_name": (b"site", b"Krk", ABSENT),
+}
 
-def save_vectors(v):
+
+def commit_vectors(v):
     def put(name, changes, expected, room=300, user=TAGS, file=None):
-        v.put("save_" + name, of_save(room, changes, build(user=user) if file is None else file), expected)
+        v.put("commit_" + name, of_commit(room, changes, build(user=user) if file is None else file), expected)
 
     def place(number):
         return f"refused 11 place {number}"
 
-    put("p11", P11_SHEET, "saved 11", file=WORKED)
+    put("p11", P11_SHEET, "committed 11", file=WORKED)
     put("p12", P11_SHEET, place(0), file=WORKED[:94] + P11_TABLE)
-    put("p11_room_exact", P11_SHEET, "saved 11", file=WORKED, room=11)
+    put("p11_room_exact", P11_SHEET, "committed 11", file=WORKED, room=11)
     put("p11_room_one_short", P11_SHEET, "refused 9", file=WORKED, room=10)
     put("p11_no_room", P11_SHEET, "refused 9", file=WORKED, room=0)
     size = len(table(*TAGS))
-    put("empty_sheet_empty_table", sheet(), "saved 4", user=())
-    put("empty_sheet", sheet(), f"saved {size}")
-    put("empty_sheet_room_exact", sheet(), f"saved {size}", room=size)
+    put("empty_sheet_empty_table", sheet(), "committed 4", user=())
+    put("empty_sheet", sheet(), f"committed {size}")
+    put("empty_sheet_room_exact", sheet(), f"committed {size}", room=size)
     put("empty_sheet_room_one_short", sheet(), "refused 9", room=size - 1)
-    put("empty_sheet_1000_tags", sheet(), "saved 4004", user=many_tags(1000), room=4004)
-    put("empty_sheet_haunted_file", sheet(), "saved 4", file=build(frames=HAUNTED))
+    put("empty_sheet_1000_tags", sheet(), "committed 4004", user=many_tags(1000), room=4004)
+    put("empty_sheet_haunted_file", sheet(), "committed 4", file=build(frames=HAUNTED))
     # Malformed sheets.
     for name, where, data in (
         ("no_bytes", 0, b""),
@@ -1648,67 +1688,55 @@ def save_vectors(v):
     full = sheet((b"SITE", b"Krk", b"Hvar"), (b"NEW", ABSENT, b"n"))
     for n in range(1, len(full)):
         put(f"sheet_cut_to_{n:02}", full[:n], f"refused 10 place {n}")
-    put("sheet_not_cut", full, "saved")
-    put("bytes_032_and_126", sheet((b" ~", ABSENT, b"~ "), (b"~", ABSENT, b" ")), "saved")
-    put("value_empty_new", sheet((b"X", ABSENT, b"")), f"saved {size + 3}")
-    put("value_empty_for_a_value", sheet((b"SITE", b"Krk", b"")), f"saved {size - 3}")
-    put("value_empty_seen", sheet((b"NOTE", b"", b"now")), f"saved {size + 3}")
-    put("changes_64", sheet(*((b"T%02d" % i, ABSENT, b"%d" % i) for i in range(64))), "saved", room=900)
-    put("name_and_value_of_255", sheet((b"n" * 255, ABSENT, b"v" * 255)), f"saved {size + 512}", room=900)
+    put("sheet_not_cut", full, "committed")
+    put("bytes_032_and_126", sheet((b" ~", ABSENT, b"~ "), (b"~", ABSENT, b" ")), "committed")
+    put("value_empty_new", sheet((b"X", ABSENT, b"")), f"committed {size + 3}")
+    put("value_empty_for_a_value", sheet((b"SITE", b"Krk", b"")), f"committed {size - 3}")
+    put("value_empty_seen", sheet((b"NOTE", b"", b"now")), f"committed {size + 3}")
+    put("changes_64", sheet(*((b"T%02d" % i, ABSENT, b"%d" % i) for i in range(64))), "committed", room=900)
+    put("name_and_value_of_255", sheet((b"n" * 255, ABSENT, b"v" * 255)), f"committed {size + 512}", room=900)
     # Removal, change, addition.
-    put("remove_first", sheet((b"SITE", b"Krk", ABSENT)), f"saved {size - 9}")
-    put("remove_middle", sheet((b"OBS", b"Ana", ABSENT)), f"saved {size - 8}")
-    put("remove_last", sheet((b"FILTER", b"R", ABSENT)), f"saved {size - 9}")
-    put("remove_all", sheet(*((name, value, ABSENT) for name, value in TAGS)), "saved 4")
-    put("remove_all_in_other_order", sheet(*((name, value, ABSENT) for name, value in TAGS[::-1])), "saved 4", room=4)
-    put("remove_unseen", sheet((b"OBS", UNSEEN, ABSENT)), f"saved {size - 8}")
-    put("remove_the_only_tag", sheet((b"A", b"b", ABSENT)), "saved 4", user=((b"A", b"b"),))
-    put("absent_stays_absent", sheet((b"X", ABSENT, ABSENT)), f"saved {size}")
-    put("absent_stays_absent_unseen", sheet((b"X", UNSEEN, ABSENT)), f"saved {size}")
-    put("absent_stays_absent_empty_table", sheet((b"X", ABSENT, ABSENT)), "saved 4", user=())
-    put("change_first", sheet((b"SITE", b"Krk", b"Hvar")), f"saved {size + 1}")
-    put("change_middle_unseen", sheet((b"OBS", UNSEEN, b"Eva!")), f"saved {size + 1}")
-    put("change_last", sheet((b"FILTER", b"R", b"G")), f"saved {size}")
-    put("change_to_the_same", sheet((b"SITE", b"Krk", b"Krk")), f"saved {size}")
-    put("change_all_in_other_order", sheet(*((n, val, val + b"+") for n, val in TAGS[::-1])), f"saved {size + 4}")
-    put("add_one", sheet((b"X", ABSENT, b"y")), f"saved {size + 4}")
-    put("add_one_unseen", sheet((b"X", UNSEEN, b"y")), f"saved {size + 4}")
-    put("add_three_in_sheet_order", sheet((b"Z", ABSENT, b"1"), (b"A", ABSENT, b"2"), (b"M", UNSEEN, b"3")), f"saved {size + 12}")
-    put("add_differs_by_case", sheet((b"site", ABSENT, b"y")), f"saved {size + 7}")
-    put("add_prefix_of_a_name", sheet((b"SIT", ABSENT, b"y")), f"saved {size + 6}")
-    put("add_longer_than_a_name", sheet((b"SITES", ABSENT, b"y")), f"saved {size + 8}")
-    put("add_name_of_the_system_table", sheet((b"CAM", ABSENT, b"y")), "saved 10", file=build(system=((b"CAM", b"x"),)))
+    put("remove_first", sheet((b"SITE", b"Krk", ABSENT)), f"committed {size - 9}")
+    put("remove_middle", sheet((b"OBS", b"Ana", ABSENT)), f"committed {size - 8}")
+    put("remove_last", sheet((b"FILTER", b"R", ABSENT)), f"committed {size - 9}")
+    put("remove_all", sheet(*((name, value, ABSENT) for name, value in TAGS)), "committed 4")
+    put("remove_all_in_other_order", sheet(*((name, value, ABSENT) for name, value in TAGS[::-1])), "committed 4", room=4)
+    put("remove_unseen", sheet((b"OBS", UNSEEN, ABSENT)), f"committed {size - 8}")
+    put("remove_the_only_tag", sheet((b"A", b"b", ABSENT)), "committed 4", user=((b"A", b"b"),))
+    put("absent_stays_absent", sheet((b"X", ABSENT, ABSENT)), f"committed {size}")
+    put("absent_stays_absent_unseen", sheet((b"X", UNSEEN, ABSENT)), f"committed {size}")
+    put("absent_stays_absent_empty_table", sheet((b"X", ABSENT, ABSENT)), "committed 4", user=())
+    put("change_first", sheet((b"SITE", b"Krk", b"Hvar")), f"committed {size + 1}")
+    put("change_middle_unseen", sheet((b"OBS", UNSEEN, b"Eva!")), f"committed {size + 1}")
+    put("change_last", sheet((b"FILTER", b"R", b"G")), f"committed {size}")
+    put("change_to_the_same", sheet((b"SITE", b"Krk", b"Krk")), f"committed {size}")
+    put("change_all_in_other_order", sheet(*((n, val, val + b"+") for n, val in TAGS[::-1])), f"committed {size + 4}")
+    put("add_one", sheet((b"X", ABSENT, b"y")), f"committed {size + 4}")
+    put("add_one_unseen", sheet((b"X", UNSEEN, b"y")), f"committed {size + 4}")
+    put("add_three_in_sheet_order", sheet((b"Z", ABSENT, b"1"), (b"A", ABSENT, b"2"), (b"M", UNSEEN, b"3")), f"committed {size + 12}")
+    put("add_differs_by_case", sheet((b"site", ABSENT, b"y")), f"committed {size + 7}")
+    put("add_prefix_of_a_name", sheet((b"SIT", ABSENT, b"y")), f"committed {size + 6}")
+    put("add_longer_than_a_name", sheet((b"SITES", ABSENT, b"y")), f"committed {size + 8}")
+    put("add_name_of_the_system_table", sheet((b"CAM", ABSENT, b"y")), "committed 10", file=build(system=((b"CAM", b"x"),)))
     put("seen_value_of_the_system_table", sheet((b"CAM", b"x", b"y")), place(0), file=build(system=((b"CAM", b"x"),)))
-    put("add_before_change_in_the_sheet", sheet((b"X", ABSENT, b"y"), (b"SITE", b"Krk", b"S")), "saved")
+    put("add_before_change_in_the_sheet", sheet((b"X", ABSENT, b"y"), (b"SITE", b"Krk", b"S")), "committed")
     mixed = ((b"NEW2", ABSENT, b"2"), (b"OBS", b"Ana", ABSENT), (b"FILTER", UNSEEN, b"Ha"))
     mixed += ((b"NEW1", UNSEEN, b"1"), (b"GONE", ABSENT, ABSENT))
-    put("mixed", sheet(*mixed), f"saved {size - 8 + 1 + 14}")
-    put("mixed_room_exact", sheet(*mixed), f"saved {size + 7}", room=size + 7)
+    put("mixed", sheet(*mixed), f"committed {size - 8 + 1 + 14}")
+    put("mixed_room_exact", sheet(*mixed), f"committed {size + 7}", room=size + 7)
     put("mixed_room_one_short", sheet(*mixed), "refused 9", room=size + 6)
-    put("mixed_in_other_order", sheet(*mixed[::-1]), f"saved {size + 7}")
-    put("shorter_room_exact", sheet((b"SITE", b"Krk", ABSENT)), "saved", room=size - 9)
+    put("mixed_in_other_order", sheet(*mixed[::-1]), f"committed {size + 7}")
+    put("shorter_room_exact", sheet((b"SITE", b"Krk", ABSENT)), "committed", room=size - 9)
     put("shorter_room_one_short", sheet((b"SITE", b"Krk", ABSENT)), "refused 9", room=size - 10)
     # Conflicts of each kind, at each place behind places that agree.
-    agree = ((b"OBS", b"Ana", b"Eva"), (b"FREE", ABSENT, b"f"), (b"NOTE", UNSEEN, ABSENT), (b"FILTER", b"R", ABSENT))
-    wrong = {
-        "present_seen_absent": (b"SITE", ABSENT, b"x"),
-        "absent_seen_value": (b"X", b"Krk", b"x"),
-        "absent_seen_empty": (b"X", b"", b"x"),
-        "other_value": (b"SITE", b"Hvar", b"x"),
-        "value_seen_empty": (b"SITE", b"", b"x"),
-        "prefix_of_the_value": (b"SITE", b"Kr", ABSENT),
-        "longer_than_the_value": (b"SITE", b"Krk!", ABSENT),
-        "case_of_the_value": (b"SITE", b"krk", ABSENT),
-        "case_of_the_name": (b"site", b"Krk", ABSENT),
-    }
-    for kind, one in wrong.items():
+    for kind, one in WRONG.items():
         for at in range(5) if kind in ("present_seen_absent", "absent_seen_value", "other_value") else (0, 3):
-            put(f"conflict_{kind}_at_{at}", sheet(*agree[:at], one, *agree[at:]), place(at))
+            put(f"conflict_{kind}_at_{at}", sheet(*AGREE[:at], one, *AGREE[at:]), place(at))
     put("conflict_empty_seen_absent", sheet((b"NOTE", ABSENT, b"x")), place(0))
     put("conflict_empty_seen_value", sheet((b"NOTE", b"x", b"x")), place(0))
     put("conflict_that_asks_for_what_is", sheet((b"SITE", b"Hvar", b"Krk")), place(0))
-    put("conflict_two_the_lower_told", sheet(agree[0], (b"SITE", ABSENT, b"x"), (b"X", b"y", b"z")), place(1))
-    put("conflict_two_first_and_last", sheet((b"X", b"y", b"z"), *agree, (b"SITE", ABSENT, b"x")), place(0))
+    put("conflict_two_the_lower_told", sheet(AGREE[0], (b"SITE", ABSENT, b"x"), (b"X", b"y", b"z")), place(1))
+    put("conflict_two_first_and_last", sheet((b"X", b"y", b"z"), *AGREE, (b"SITE", ABSENT, b"x")), place(0))
     put("conflict_all", sheet(*((name, b"?", b"!") for name, _ in TAGS)), place(0))
     put("conflict_at_63_of_64", sheet(*((b"T%02d" % i, ABSENT, b"") for i in range(63)), (b"SITE", ABSENT, b"")), place(63), room=900)
     put("conflict_seen_what_the_sheet_adds", sheet((b"A", ABSENT, b"1"), (b"B", b"1", b"2")), place(1))
@@ -1717,27 +1745,27 @@ def save_vectors(v):
     ana = sheet((b"OBS", b"Ana", b"Eva"), (b"NOTE", b"", b"clouds"))
     bob = sheet((b"SITE", b"Krk", b"Hvar"), (b"NOTE", b"", b"wind"))
     out = bytearray(300)
-    length = model.save(form, ana, out)
+    length = model.commit(form, ana, out)
     after = form[: model.number_at(form, 25, 8)] + bytes(out[:length])
-    put("two_members_first", ana, "saved", file=form)
+    put("two_members_first", ana, "committed", file=form)
     put("two_members_second_refused", bob, place(1), file=after)
-    put("two_members_second_looks_again", sheet((b"SITE", b"Krk", b"Hvar"), (b"NOTE", b"clouds", b"wind")), "saved", file=after)
+    put("two_members_second_looks_again", sheet((b"SITE", b"Krk", b"Hvar"), (b"NOTE", b"clouds", b"wind")), "committed", file=after)
     put("two_members_first_again", ana, place(0), file=after)
     # A full table.
     full = many_tags(1000)
     put("full_and_one_more", sheet((b"new", ABSENT, b"")), "refused 17", user=full, room=6000)
     put("full_and_one_more_unseen", sheet((b"new", UNSEEN, b"")), "refused 17", user=full, room=6000)
-    put("full_one_changed", sheet((full[0][0], b"", b"x")), "saved 4005", user=full, room=6000)
-    put("full_one_out_one_in", sheet((full[5][0], b"", ABSENT), (b"new", ABSENT, b"")), "saved 4005", user=full, room=4005)
-    put("full_one_in_one_out", sheet((b"new", ABSENT, b""), (full[5][0], b"", ABSENT)), "saved 4005", user=full, room=6000)
+    put("full_one_changed", sheet((full[0][0], b"", b"x")), "committed 4005", user=full, room=6000)
+    put("full_one_out_one_in", sheet((full[5][0], b"", ABSENT), (b"new", ABSENT, b"")), "committed 4005", user=full, room=4005)
+    put("full_one_in_one_out", sheet((b"new", ABSENT, b""), (full[5][0], b"", ABSENT)), "committed 4005", user=full, room=6000)
     one_for_two = sheet((full[5][0], b"", ABSENT), (b"new", ABSENT, b""), (b"too", ABSENT, b""))
     put("full_one_out_two_in", one_for_two, "refused 17", user=full, room=6000)
-    put("full_absent_stays_absent", sheet((b"new", ABSENT, ABSENT)), "saved 4004", user=full, room=6000)
-    put("full_one_out", sheet((full[999][0], b"", ABSENT)), "saved 4000", user=full, room=4000)
-    put("of_999_one_more", sheet((b"new", ABSENT, b"")), "saved 4005", user=full[:999], room=4005)
+    put("full_absent_stays_absent", sheet((b"new", ABSENT, ABSENT)), "committed 4004", user=full, room=6000)
+    put("full_one_out", sheet((full[999][0], b"", ABSENT)), "committed 4000", user=full, room=4000)
+    put("of_999_one_more", sheet((b"new", ABSENT, b"")), "committed 4005", user=full[:999], room=4005)
     put("of_999_two_more", sheet((b"new", ABSENT, b""), (b"too", ABSENT, b"")), "refused 17", user=full[:999], room=6000)
     put("of_937_64_more", sheet(*((b"n%02d" % i, ABSENT, b"") for i in range(64))), "refused 17", user=full[:937], room=6000)
-    put("of_936_64_more", sheet(*((b"n%02d" % i, ABSENT, b"") for i in range(64))), "saved", user=full[:936], room=6000)
+    put("of_936_64_more", sheet(*((b"n%02d" % i, ABSENT, b"") for i in range(64))), "committed", user=full[:936], room=6000)
     # Where two lines hold.
     put("both_10_and_11", sheet((b"SITE", ABSENT, b"x"), (b"A\x7f", ABSENT, b"x")), "refused 10 place 12")
     put("both_10_and_11_left_over", sheet((b"SITE", ABSENT, b"x")) + b"\0", "refused 10 place 10")
@@ -1753,8 +1781,79 @@ def save_vectors(v):
     put("unclosed", P11_SHEET, "refused 5", file=unclosed())
 
 
-def random_saves(v):
-    """Small tables and sheets over the same few names, drawn at random."""
+def look_vectors(v):
+    def put(name, changes, expected, user=TAGS, file=None):
+        v.put("look_" + name, of_look(changes, build(user=user) if file is None else file), expected)
+
+    def shows(name, changes, *places, **other):
+        """A look that is accepted, and the places that conflict."""
+        put(name, sheet(*changes), f"looked {len(changes)} set {sum(1 << place for place in places)}", **other)
+
+    put("p11", P11_SHEET, "looked 1 set 0", file=WORKED)
+    put("p12", P11_SHEET, "looked 1 set 1", file=WORKED[:94] + P11_TABLE)
+    shows("no_changes", ())
+    shows("no_changes_empty_table", (), user=())
+    # Changes that agree, whatever they ask for.
+    shows("agree_all", AGREE)
+    shows("agree_values", [(name, value, ABSENT) for name, value in TAGS])
+    shows("agree_values_in_other_order", [(name, value, b"new") for name, value in TAGS[::-1]])
+    shows("agree_absent", ((b"X", ABSENT, b"x"), (b"Y", ABSENT, ABSENT), (b"SIT", ABSENT, b""), (b"SITES", ABSENT, b"")))
+    shows("agree_absent_empty_table", ((b"SITE", ABSENT, b"x"),), user=())
+    shows("unseen_never_conflicts", ((b"SITE", UNSEEN, b"x"), (b"NOTE", UNSEEN, ABSENT), (b"X", UNSEEN, b"x"), (b"Y", UNSEEN, ABSENT)))
+    shows("unseen_among_conflicts", ((b"SITE", ABSENT, b"x"), (b"OBS", UNSEEN, b"x"), (b"X", b"", b"x"), (b"Y", UNSEEN, b"x")), 0, 2)
+    # Conflicts of each kind, among changes that agree.
+    for at, (kind, one) in enumerate(WRONG.items()):
+        at %= 5
+        shows(f"conflict_{kind}_at_{at}", (*AGREE[:at], one, *AGREE[at:]), at)
+    shows("conflict_empty_seen_absent", ((b"NOTE", ABSENT, b"x"),), 0)
+    shows("conflict_empty_seen_value", ((b"NOTE", b"x", b"x"),), 0)
+    shows("conflict_that_asks_for_what_is", ((b"SITE", b"Hvar", b"Krk"), (b"X", b"x", ABSENT)), 0, 1)
+    shows("conflict_seen_what_the_sheet_adds", ((b"A", ABSENT, b"1"), (b"B", b"1", b"2")), 1)
+    shows("conflict_seen_value_of_the_system_table", ((b"CAM", b"x", b"y"),), 0, file=build(system=((b"CAM", b"x"),)))
+    # Several at once.
+    one, two, three = (b"SITE", ABSENT, b"x"), (b"X", b"y", b"z"), (b"Y", b"", ABSENT)
+    shows("conflicts_0_2_5", (one, AGREE[0], two, *AGREE[1:3], three), 0, 2, 5)
+    shows("conflicts_first_and_last", (two, *AGREE, one), 0, 5)
+    shows("conflicts_side_by_side", (*AGREE[:2], one, two, three, *AGREE[2:]), 2, 3, 4)
+    shows("conflicts_all", [(name, b"?", b"!") for name, _ in TAGS], 0, 1, 2, 3)
+    # Sets as wide as they get.
+    for name, places in {
+        "none": (),
+        "0_62_63": (0, 62, 63),
+        "63": (63,),
+        "31_32_33": (31, 32, 33),
+        "every_other": range(1, 64, 2),
+        "all_but_63": range(63),
+        "all": range(64),
+    }.items():
+        shows(f"of_64_{name}", [(b"T%02d" % i, b"" if i in places else ABSENT, b"") for i in range(64)], *places)
+    # Where a commit is refused behind 10, a look is not.
+    full = many_tags(1000)
+    shows("where_commit_is_17", ((b"new", ABSENT, b""),), user=full)
+    shows("where_commit_is_11_ahead_of_17", ((b"new", ABSENT, b""), (full[999][0], b"x", b"y"), (full[0][0], b"", b"y")), 1, user=full)
+    shows("where_commit_is_9", ((b"n" * 255, ABSENT, b"v" * 255),))
+    # Refusals.
+    for name, where, data in (
+        ("no_bytes", 0, b""),
+        ("empty_and_a_byte_behind", 1, b"\x00\x00"),
+        ("changes_65", 0, sheet(*((b"T%d" % i, ABSENT, b"") for i in range(65)))),
+        ("one_byte_left_over", 10, P11_SHEET + b"\0"),
+        ("second_change_missing", 10, b"\x02" + P11_SHEET[1:]),
+        ("seen_kind_3", 3, b"\x01\x01A\x03\x00"),
+        ("name_twice", 7, sheet((b"A", ABSENT, b"x"), (b"A", ABSENT, b"x"))),
+        ("name_bad_behind_a_conflict", 12, sheet(one, (b"A\x7f", ABSENT, b"x"))),
+        ("left_over_behind_a_conflict", 10, sheet(one) + b"\0"),
+    ):
+        put(f"sheet_{name}", data, f"refused 10 place {where}")
+    for number, refusal, file in refused_files():
+        put(f"file_refused_{number}", P11_SHEET, refusal, file=file)
+    put("both_7_and_10", b"", f"refused 7 place {len(RICH) - 1}", file=RICH[:-1])
+    put("both_5_and_10", b"\xff", "refused 5", file=changed(RICH, 25, u64(0)))
+    put("unclosed", P11_SHEET, "refused 5", file=unclosed())
+
+
+def random_commits(v):
+    """Small tables and sheets over the same few names, drawn at random; a look at every fourth."""
     random = Random(5)
 
     def draw(values):
@@ -1771,7 +1870,10 @@ def random_saves(v):
         data = sheet(*changes.values())
         if random.randrange(8) == 0:
             data = data[: random.randrange(len(data) + 1)]
-        v.put(f"save_random_{i:02}", of_save(random.randrange(12, 40), data, build(frames=(), user=user.items())))
+        file = build(frames=(), user=user.items())
+        v.put(f"commit_random_{i:02}", of_commit(random.randrange(12, 40), data, file))
+        if i % 4 == 0:
+            v.put(f"look_random_{i:02}", of_look(data, file))
 
 
 # ---- (3) the browser, a tag by its name ----
@@ -1999,7 +2101,7 @@ def place_vectors(v):
     for name, data, place in alone:
         file, refusal = build(user_table=data), f"refused 7 place {94 + place}"
         v.open("place_7_" + name, file, 7, 94 + place)
-        v.put("save_place_7_" + name, of_save(200, P11_SHEET, file), refusal)
+        v.put("commit_place_7_" + name, of_commit(200, P11_SHEET, file), refusal)
         v.put("begin_place_4_" + name, of_begin(NEW, 4, 200, IMAGE, data), f"refused 4 place {place}")
         v.put("browse_place_7_" + name, of_browse(0, data), f"refused 7 place {place} next 0 walk refused 7 place {place}")
         v.put("named_place_7_" + name, of_named(b"A", data), f"refused 7 place {place} walk refused 7 place {place}")
@@ -2013,7 +2115,7 @@ def place_vectors(v):
         v.put(f"part_place_4_{name}", of_part(kind, TOP, 0, changed(WORKED, 17, u64(1048))), "refused 4 place 1048 part of 0")
         v.put(f"part_place_7_{name}", of_part(kind, 0, 0, WORKED + b"\x07"), "refused 7 place 98 part of 0")
     for name, data, place in places_of_sheets():
-        v.put("save_place_10_" + name, of_save(200, data, build(user=TAGS)), f"refused 10 place {place}")
+        v.put("commit_place_10_" + name, of_commit(200, data, build(user=TAGS)), f"refused 10 place {place}")
     for name, data, number, place in places_of_lists():
         wanted = refused(Refusal(number, place)) if number else "given 0"
         v.put(f"begin_place_{number}_" + name, of_begin(NEW, 4, 200, data, NO_TAGS), wanted)
@@ -2053,8 +2155,6 @@ def sweeps(v):
     for name, file in files.items():
         put("open_" + name, b"F", file)
         put("repair_" + name, b"R", file)
-    for name in ("worked", "small", "user_table_bad", "user_name_twice"):
-        put("save_file_" + name, b"U", files[name], P11_SHEET)
     sheets = {
         "p11": P11_SHEET,
         "all_kinds": sheet((b"A", b"B", b"x"), (b"B", UNSEEN, ABSENT), (b"D", ABSENT, b"yz"), (b"C", b"xy", ABSENT)),
@@ -2065,7 +2165,10 @@ def sweeps(v):
         "no_changes": sheet(),
     }
     for name, data in sheets.items():
-        put("save_sheet_" + name, b"S", data, small)
+        put("saving_sheet_" + name, b"S", data, small, calls=2)
+    for name in ("worked", "user_table_bad", "user_name_twice"):
+        put("saving_file_" + name, b"U", files[name], P11_SHEET, calls=2)
+    put("saving_file_small", b"U", small, sheets["all_kinds"], calls=2)
     lists = {
         "image": IMAGE,
         "two": set_up((b"AB", b"xyz"), (b"C", b"")),
@@ -2105,8 +2208,9 @@ def no_vectors(v):
     v.put("no_vector_close_short", of_close(ONE_ADDED, b"", 20)[:-1], "no vector")
     v.put("no_vector_close_notes_short", of_close(ONE_ADDED, ONE_NOTE, 20)[:-1], "no vector")
     v.put("no_vector_repair_short", b"r\x00", "no vector")
-    v.put("no_vector_save_short", b"s\x00\x01\x00", "no vector")
-    v.put("no_vector_save_sheet_short", of_save(9, P11_SHEET, b"")[:-1], "no vector")
+    for name, kind in (("commit", b"m"), ("look", b"l")):
+        v.put(f"no_vector_{name}_short", kind + b"\x00\x01\x00", "no vector")
+        v.put(f"no_vector_{name}_sheet_short", of_saving(kind, 9, P11_SHEET, b"")[:-1], "no vector")
     v.put("no_vector_browse_short", of_browse(0, b"")[:-1], "no vector")
     v.put("no_vector_named_alone", b"n", "no vector")
     v.put("no_vector_named_name_short", of_named(b"SITE", b"")[:-1], "no vector")
@@ -2121,7 +2225,8 @@ def no_vectors(v):
     v.put("no_vector_whole_frame_short", of_whole(IMAGE, NO_TAGS, ONE_FRAME)[:-1], "no vector")
     v.put("frame_no_file", of_frame(0, b""), "refused 1")
     v.put("part_no_file", of_part(0, 0, 0, b""), "refused 1 part of 0")
-    v.put("save_no_file", of_save(20, P11_SHEET, b""), "refused 1")
+    v.put("commit_no_file", of_commit(20, P11_SHEET, b""), "refused 1")
+    v.put("look_no_file", of_look(P11_SHEET, b""), "refused 1")
 
 
 # ---- checks of the model ----
@@ -2153,14 +2258,27 @@ def check_marked_examples():
     answer = model.repair(unclosed()[:74], out)
     assert model.repaired_file(unclosed(), answer, out) == WORKED
     assert number_of(model.repair, unclosed()[:51], out) == (4, 48)
-    assert model.save(WORKED, P11_SHEET, out) == 11 and out[:11] == P11_TABLE
-    assert number_of(model.save, WORKED[:94] + P11_TABLE, P11_SHEET, out) == (11, 0)
+    assert model.commit(WORKED, P11_SHEET, out) == 11 and out[:11] == P11_TABLE
+    assert number_of(model.commit, WORKED[:94] + P11_TABLE, P11_SHEET, out) == (11, 0)
     one = State(*ONE_ADDED)
     assert number_of(model.add, one, bytearray(36), bytearray(99), 999, 0, sized(b"")) == 13
     assert number_of(model.add, one, bytearray(36), bytearray(99), 1000, 0, sized(b"")) == 0
     largest, notes = bytearray(16_777_216 + 20), bytearray(36)
     assert number_of(model.add, one, notes, largest, 1000, 0, sized(bytes(16_777_216))) == 0
     assert number_of(model.add, one, notes, largest + b"\0", 1000, 0, sized(bytes(16_777_217))) == 14
+
+
+def check_looks(v):
+    """A commit is refused what a look is, and 11 exactly where a look shows a conflict, at the lowest."""
+    for name, vector in v.all.items():
+        if vector[:1] != b"m":
+            continue
+        look, commit = line_of(b"l" + vector[1:]), v.lines[name]
+        conflicts = int(look.split()[-1]) if look.startswith("looked") else 0
+        lowest = (conflicts & -conflicts).bit_length() - 1
+        expected = f"refused 11 place {lowest}" if conflicts else look if look.startswith("refused") else ""
+        assert commit.startswith(expected and expected + " "), (name, look, commit)
+        assert conflicts or not commit.startswith("refused 11"), (name, look, commit)
 
 
 def check_readings():
@@ -2220,9 +2338,10 @@ def main():
     v = Vectors()
     readers = (opening, frame_reader, part_reader)
     recorder = (begin_vectors, add_vectors, random_recorder_vectors, close_vectors, whole_recordings, repair_vectors, random_repairs)
-    tags = (save_vectors, random_saves, browser_vectors, named_vectors)
+    tags = (commit_vectors, look_vectors, random_commits, browser_vectors, named_vectors)
     for group in (*readers, *recorder, *tags, place_vectors, sweeps, no_vectors):
         group(v)
+    check_looks(v)
     v.write()
     print(len(v.all), "vectors,", sum(map(len, v.all.values())), "bytes")
 

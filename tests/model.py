@@ -1,8 +1,9 @@
-"""Document 01 in plain Python, with request #102's places: an implementation of its own, by which the vectors' answers were computed.
+"""Document 01 in plain Python, with the places of request #102 and the look and commit of #108: an implementation of its own, by which the
+vectors' answers were computed.
 
 It was written from the documents alone, without a look at the library under test. Each public call of the library stands here as a
-function: open_file, frame, part and part_refusal, begin, add, close, repair, save, browse, walk_tags, tag_by_name. A refused call raises Refusal
-with the document's number. Lent outputs are bytearrays; every test of a call comes before its first write, so that a refusal changes
+function: open_file, frame, part and part_refusal, begin, add, close, repair, look, commit, browse, walk_tags, tag_by_name. A refused call raises
+Refusal with the document's number. Lent outputs are bytearrays; every test of a call comes before its first write, so that a refusal changes
 nothing. Python's whole numbers have no width, so no sum or difference here can wrap.
 
 What is lent is read front to back, and the reading stops at the first fault: its place is the one that the refusal carries. A fault of a
@@ -48,6 +49,8 @@ State = namedtuple("State", "stage piece sections frames first last end")
 Piece = namedtuple("Piece", "place length")
 Repaired = namedtuple("Repaired", "kept count index_offset user_offset tail_length")
 Change = namedtuple("Change", "name seen_kind seen new_kind new")
+Compared = namedtuple("Compared", "tags changes conflicts")  # (name, value) pairs, Changes, numbers of changes from the lowest on
+Looked = namedtuple("Looked", "changes set")  # how many changes, and 2^i for each change i that conflicts
 
 
 class Refusal(Exception):
@@ -547,8 +550,21 @@ def changes_of(sheet):
     return changes
 
 
+def conflicts_of(tags, changes):
+    """The numbers of the changes whose seen entry is not the table's. Kind 2 is nobody's look, and never conflicts."""
+    before = dict(tags)
+    return [i for i, change in enumerate(changes) if change.seen_kind != 2 and before.get(change.name) != change.seen]
+
+
+def compared(file, sheet):
+    """Tests 1 to 7 and 10, and what they find, with every seen entry compared."""
+    tags = [(taken(file, tag.name), taken(file, tag.value)) for tag in open_file(file).user]
+    changes = changes_of(sheet)
+    return Compared(tags, changes, conflicts_of(tags, changes))
+
+
 def changed_table(tags, changes):
-    """The (name, value) pairs after the save: a dict keeps its order, and a changed name its place."""
+    """The (name, value) pairs after the commit: a dict keeps its order, and a changed name its place."""
     table = dict(tags)
     for change in changes:
         if change.new_kind == 1:
@@ -558,15 +574,18 @@ def changed_table(tags, changes):
     return list(table.items())
 
 
-def save(file, sheet, out):
-    """A save: 1 to 7, 10, 11, 17, 9. The new user table is put into `out`; its length is the answer."""
-    opened = open_file(file)
-    tags = [(taken(file, tag.name), taken(file, tag.value)) for tag in opened.user]
-    changes = changes_of(sheet)
-    before = dict(tags)
-    for place, change in enumerate(changes):
-        refuse_if(change.seen_kind != 2 and before.get(change.name) != change.seen, CONFLICT, place)
-    after = changed_table(tags, changes)
+def look(file, sheet):
+    """A look: 1 to 7, 10."""
+    found = compared(file, sheet)
+    return Looked(len(found.changes), sum(2**i for i in found.conflicts))
+
+
+def commit(file, sheet, out):
+    """A commit: 1 to 7, 10, 11, 17, 9. The new user table is put into `out`; its length is the answer."""
+    found = compared(file, sheet)
+    if found.conflicts:
+        raise Refusal(CONFLICT, min(found.conflicts))
+    after = changed_table(found.tags, found.changes)
     refuse_if(len(after) > MOST_TAGS, TABLE_FULL)
     table = table_bytes(after)
     refuse_if(len(out) < len(table), NO_ROOM)

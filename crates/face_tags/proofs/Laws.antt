@@ -9,9 +9,11 @@ use borrow.Author.Needs.{needs}
 use Rattle.layout.specs.Browser as layout
 use Rattle.layout.specs.Cursor.{firstTag}
 use Rattle.layout.proofs.Lists.{asks, asks-not}
-use Rattle.saving.specs.Save as saving
-use Rattle.saving.specs.declared.Saved.{Saved}
-use Rattle.saving.specs.declared.Saved.the-variants as save
+use Rattle.saving.specs.Answers as saving
+use Rattle.saving.specs.declared.Looked.{Looked}
+use Rattle.saving.specs.declared.Looked.the-variants as looked
+use Rattle.saving.specs.declared.Committed.{Committed}
+use Rattle.saving.specs.declared.Committed.the-variants as committed
 use Rattle.browser.specs.Browsing.{browsedAs}
 use Rattle.browser.specs.declared.Browsed.{Browsed}
 use Rattle.browser.specs.declared.Browsed.the-variants as browsed
@@ -19,23 +21,34 @@ use Rattle.cursor.specs.Cursors.{cursorAs, nextAs}
 use Rattle.cursor.specs.declared.Cursor.{Cursor}
 use Rattle.cursor.specs.declared.Cursor.the-variants as cursor
 use Rattle.refusal.specs.declared.Refusal.{Refusal}
-use Rattle.face_tags.specs.Face.{savedNot, savedFlat, saved, outcomeFlat, tagNot, tagFlat, cursorNot, cursorFlat, cursorAsked, cursorNext}
-use Rattle.face_tags.specs.declared.FstfSaved.{FstfSaved}
+use Rattle.face_tags.specs.Face.{lookedNot, lookedFlat, committedNot, committedFlat, kept, outcomeFlat, tagNot, tagFlat, cursorNot, cursorFlat, cursorAsked, cursorNext}
+use Rattle.face_tags.specs.declared.FstfLooked.{FstfLooked}
+use Rattle.face_tags.specs.declared.FstfCommitted.{FstfCommitted}
 use Rattle.face_tags.specs.declared.FstfTag.{FstfTag}
 use Rattle.face_tags.specs.declared.FstfCursor.{FstfCursor}
 
--- ── Saving ──
+-- ── To look and to commit ──
 
-pub saved-table : (o : Saved) (n : ℕ) → o ≡ save.Table n → record { refused = 0; place = 0; length = n } ≡ savedFlat o
-saved-table o n e = sym (ap savedFlat e)
+pub look-changes : (o : Looked) (k set : ℕ) → o ≡ looked.Changes k set → record { refused = 0; place = 0; changes = k; conflicts = set } ≡ lookedFlat o
+look-changes o k set e = sym (ap lookedFlat e)
 
-pub saved-not : (o : Saved) (n : Refusal) (r : FstfSaved) → o ≡ save.Refused n → r ≡ savedNot (n .number) (n .place) → r ≡ savedFlat o
-saved-not o n r e h = h ∙ sym (ap savedFlat e)
+pub look-not : (o : Looked) (n : Refusal) (r : FstfLooked) → o ≡ looked.Refused n → r ≡ lookedNot (n .number) (n .place) → r ≡ lookedFlat o
+look-not o n r e h = h ∙ sym (ap lookedFlat e)
 
-pub save-face : (f s out out' : List ℕ) (o : Saved) (r : FstfSaved) → saving.outcome o out' ≡ saving.saveOf f s out → r ≡ savedFlat o
-    → saved r out' ≡ outcomeFlat (saving.saveOf f s out)
+pub look-face : (f s : List ℕ) (o : Looked) (r : FstfLooked) → o ≡ saving.lookOf f s → r ≡ lookedFlat o → r ≡ lookedFlat (saving.lookOf f s)
+look-face f s o r e h = h ∙ ap lookedFlat e
+
+pub commit-table : (o : Committed) (n : ℕ) → o ≡ committed.Table n → record { refused = 0; place = 0; length = n } ≡ committedFlat o
+commit-table o n e = sym (ap committedFlat e)
+
+pub commit-not : (o : Committed) (n : Refusal) (r : FstfCommitted) → o ≡ committed.Refused n → r ≡ committedNot (n .number) (n .place)
+    → r ≡ committedFlat o
+commit-not o n r e h = h ∙ sym (ap committedFlat e)
+
+pub commit-face : (f s out out' : List ℕ) (o : Committed) (r : FstfCommitted) → saving.outcome o out' ≡ saving.commitOf f s out → r ≡ committedFlat o
+    → kept r out' ≡ outcomeFlat (saving.commitOf f s out)
 unfolding outcomeFlat
-save-face f s out out' o r e h = ap (λ (x : FstfSaved). saved x out') h ∙ ap outcomeFlat e
+commit-face f s out out' o r e h = ap (λ (x : FstfCommitted). kept x out') h ∙ ap outcomeFlat e
 
 -- ── Tags ──
 
@@ -94,9 +107,12 @@ next-face s c a o r e f g h k =
 
 pub ruleset laws = (
   needs,
-  saved-table,
-  saved-not,
-  save-face,
+  look-changes,
+  look-not,
+  look-face,
+  commit-table,
+  commit-not,
+  commit-face,
   tag-is,
   tag-end,
   tag-not,

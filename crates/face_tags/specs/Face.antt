@@ -1,40 +1,50 @@
--- The flat answers of saving and of tags, by cases on the answers of the calls behind them.
+-- The flat answers of look, commit and tags, by cases on the answers of the calls behind them.
 use Prim.Native.Nat.{ℕ}
 use mathlib.Core.Bool.{cond}
 use mathlib.Core.List.{List}
 use lib.Dec.{eqb}
-use Rattle.saving.specs.declared.Saved.{Saved}
-use Rattle.saving.specs.declared.Saved.the-variants as save
-use Rattle.saving.specs.Save as saving
+use Rattle.saving.specs.declared.Looked.{Looked}
+use Rattle.saving.specs.declared.Looked.the-variants as looked
+use Rattle.saving.specs.declared.Committed.{Committed}
+use Rattle.saving.specs.declared.Committed.the-variants as committed
+use Rattle.saving.specs.Answers as saving
 use Rattle.browser.specs.declared.Browsed.{Browsed}
 use Rattle.browser.specs.declared.Browsed.the-variants as browsed
 use Rattle.cursor.specs.Cursors.{nextAs}
 use Rattle.cursor.specs.declared.Cursor.{Cursor}
 use Rattle.cursor.specs.declared.Cursor.the-variants as cursor
-use Rattle.face_tags.specs.declared.FstfSaved.{FstfSaved}
+use Rattle.face_tags.specs.declared.FstfLooked.{FstfLooked}
+use Rattle.face_tags.specs.declared.FstfCommitted.{FstfCommitted}
 use Rattle.face_tags.specs.declared.FstfTag.{FstfTag}
 use Rattle.face_tags.specs.declared.FstfCursor.{FstfCursor}
 
--- ── Saving ──
+-- ── To look and to commit ──
 
--- a save that was refused: its number and its place
-abbrev pub savedNot : (number place : ℕ) → FstfSaved
-savedNot n place = record { refused = n; place = place; length = 0 }
+-- refused: its number and its place
+abbrev pub lookedNot : (number place : ℕ) → FstfLooked
+lookedNot n place = record { refused = n; place = place; changes = 0; conflicts = 0 }
 
-abbrev pub savedFlat : Saved → FstfSaved
-savedFlat (save.Table n) = record { refused = 0; place = 0; length = n }
-savedFlat (save.Refused n) = savedNot (n .number) (n .place)
+abbrev pub lookedFlat : Looked → FstfLooked
+lookedFlat (looked.Changes k set) = record { refused = 0; place = 0; changes = k; conflicts = set }
+lookedFlat (looked.Refused n) = lookedNot (n .number) (n .place)
+
+abbrev pub committedNot : (number place : ℕ) → FstfCommitted
+committedNot n place = record { refused = n; place = place; length = 0 }
+
+abbrev pub committedFlat : Committed → FstfCommitted
+committedFlat (committed.Table n) = record { refused = 0; place = 0; length = n }
+committedFlat (committed.Refused n) = committedNot (n .number) (n .place)
 
 -- an answer, and what the call leaves in the lent output
 pub record Kept : Type 0 where
-  pub answer : FstfSaved
+  pub answer : FstfCommitted
   pub out : List ℕ
 
-abbrev pub saved : FstfSaved → List ℕ → Kept
-saved r out = record { answer = r; out = out }
+abbrev pub kept : FstfCommitted → List ℕ → Kept
+kept r out = record { answer = r; out = out }
 
 unfoldable pub outcomeFlat : saving.Outcome → Kept
-outcomeFlat o = saved (savedFlat (o .answer)) (o .out)
+outcomeFlat o = kept (committedFlat (o .answer)) (o .out)
 
 -- ── Tags ──
 

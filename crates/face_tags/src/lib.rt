@@ -1,54 +1,95 @@
-// The C face of saving and of tags: answers are flat structs of numbers, each with `refused` and the refusal's `place` ahead. The crate `fstf` exports
+// The C face of look, commit and tags: answers are flat structs of numbers, each with `refused` and the refusal's `place` ahead. The crate `fstf` exports
 // the calls, and include/fstf.h declares them.
 use browser::Browsed;
 use cursor::Cursor;
-use saving::Saved;
+use saving::Committed;
+use saving::Looked;
 ghost use mathlib.Core.Path.{_≡_};
 ghost use Rattle.layout.specs.Browser.{browse, tagNamed};
 ghost use Rattle.layout.specs.Cursor.{firstTag};
-ghost use Rattle.saving.specs.Save.{saveOf};
+ghost use Rattle.saving.specs.Answers.{lookOf, commitOf};
 ghost use Rattle.browser.specs.Browsing.{browsedAs};
 ghost use Rattle.cursor.specs.Cursors.{cursorAs};
-ghost use Rattle.face_tags.specs.Face.{savedNot, savedFlat, saved, outcomeFlat, tagNot, tagFlat, cursorNot, cursorFlat, cursorAsked, cursorNext};
+ghost use Rattle.face_tags.specs.Face.{lookedNot, lookedFlat, committedNot, committedFlat, kept, outcomeFlat, tagNot, tagFlat, cursorNot, cursorFlat, cursorAsked, cursorNext};
 
-// ── Saving ──
+// ── To look and to commit ──
 
-// The length of the new user table, which stands at the start of the lent output; refused, 0. The place counts from the start of the file for 3, 4 and 7
-// and of the sheet for 10; 11's is the number of the change.
+// The number of changes, and the set of those that conflict, the first one's bit lowest; refused, 0. The place counts from the start of the file for 3, 4
+// and 7 and of the sheet for 10.
 #[repr(C)]
-pub struct FstfSaved {
+pub struct FstfLooked {
+    pub refused: u64,
+    pub place: u64,
+    pub changes: u64,
+    pub conflicts: u64,
+}
+
+fn looked_not(number: u64, place: u64) -> FstfLooked
+    ensures { λ r. ⌜ r ≡ lookedNot number place ⌝ }
+{
+    FstfLooked {
+        refused: number,
+        place,
+        changes: 0,
+        conflicts: 0,
+    }
+}
+
+fn looked_flat(answer: Looked) -> FstfLooked
+    ensures { λ r. ⌜ r ≡ lookedFlat answer ⌝ }
+{
+    match answer {
+        Looked::Changes(changes, conflicts) => FstfLooked {
+            refused: 0,
+            place: 0,
+            changes: changes as u64,
+            conflicts,
+        },
+        Looked::Refused(refusal) => looked_not(refusal.number as u64, refusal.place as u64),
+    }
+}
+
+pub fn look(file: &[u8], sheet: &[u8]) -> FstfLooked
+    ensures { λ r. ⌜ r ≡ lookedFlat (lookOf (now (file .entry)) (now (sheet .entry))) ⌝ }
+{
+    looked_flat(saving::look(file, sheet))
+}
+
+// The length of the new user table, which stands at the start of the lent output; refused, 0. The places are look's; 11's is the number of the change.
+#[repr(C)]
+pub struct FstfCommitted {
     pub refused: u64,
     pub place: u64,
     pub length: u64,
 }
 
-fn saved_not(number: u64, place: u64) -> FstfSaved
-    ensures { λ r. ⌜ r ≡ savedNot number place ⌝ }
+fn committed_not(number: u64, place: u64) -> FstfCommitted
+    ensures { λ r. ⌜ r ≡ committedNot number place ⌝ }
 {
-    FstfSaved {
+    FstfCommitted {
         refused: number,
         place,
         length: 0,
     }
 }
 
-fn saved_flat(answer: Saved) -> FstfSaved
-    ensures { λ r. ⌜ r ≡ savedFlat answer ⌝ }
+fn committed_flat(answer: Committed) -> FstfCommitted
+    ensures { λ r. ⌜ r ≡ committedFlat answer ⌝ }
 {
     match answer {
-        Saved::Table(length) => FstfSaved {
+        Committed::Table(length) => FstfCommitted {
             refused: 0,
             place: 0,
             length: length as u64,
         },
-        Saved::Refused(refusal) => saved_not(refusal.number as u64, refusal.place as u64),
+        Committed::Refused(refusal) => committed_not(refusal.number as u64, refusal.place as u64),
     }
 }
 
-pub fn save(file: &[u8], sheet: &[u8], out: &mut [u8]) -> FstfSaved
-    ensures { λ r. ⌜ saved r (now (out .exit)) ≡ outcomeFlat (saveOf (now (file .entry)) (now (sheet .entry)) (now (out .entry))) ⌝ }
+pub fn commit(file: &[u8], sheet: &[u8], out: &mut [u8]) -> FstfCommitted
+    ensures { λ r. ⌜ kept r (now (out .exit)) ≡ outcomeFlat (commitOf (now (file .entry)) (now (sheet .entry)) (now (out .entry))) ⌝ }
 {
-    saved_flat(saving::save(file, sheet, out))
+    committed_flat(saving::commit(file, sheet, out))
 }
 
 // ── Tags ──

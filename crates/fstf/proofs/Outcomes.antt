@@ -19,7 +19,8 @@ use Rattle.fstf.proofs.fstf_begin
 use Rattle.fstf.proofs.fstf_add
 use Rattle.fstf.proofs.fstf_close
 use Rattle.fstf.proofs.fstf_repair
-use Rattle.fstf.proofs.fstf_save
+use Rattle.fstf.proofs.fstf_look
+use Rattle.fstf.proofs.fstf_commit
 use Rattle.fstf.proofs.fstf_tag_at
 use Rattle.fstf.proofs.fstf_tag_named
 use Rattle.fstf.proofs.fstf_first_tag
@@ -61,8 +62,11 @@ module _ {M : Type 1} (𝓤 : URA M) (H : Heap 𝓤) (A : Atoms 𝓤) (mem : Mem
   pub fstf-repair-one : Determines 𝓤 «fstf_repair».ended («fstf_repair».clauses 𝓤 H A mem run)
   fstf-repair-one κs a g x y v w = agree 𝓤 (λ p q. let e = p ∙ sym q in (λ i. e i .answer, λ i. (v .0, (e i .out, v .1 .1))))
 
-  pub fstf-save-one : Determines 𝓤 «fstf_save».ended («fstf_save».clauses 𝓤 H A mem run)
-  fstf-save-one κs a g x y v w = agree 𝓤 (λ p q. let e = p ∙ sym q in (λ i. e i .answer, λ i. (v .0, (v .1 .0, (e i .out, v .1 .1 .1)))))
+  pub fstf-look-one : Determines 𝓤 «fstf_look».ended («fstf_look».clauses 𝓤 H A mem run)
+  fstf-look-one κs a g x y v w = agree 𝓤 (λ p q. (p ∙ sym q, refl))
+
+  pub fstf-commit-one : Determines 𝓤 «fstf_commit».ended («fstf_commit».clauses 𝓤 H A mem run)
+  fstf-commit-one κs a g x y v w = agree 𝓤 (λ p q. let e = p ∙ sym q in (λ i. e i .answer, λ i. (v .0, (v .1 .0, (e i .out, v .1 .1 .1)))))
 
   pub fstf-tag-at-one : Determines 𝓤 «fstf_tag_at».ended («fstf_tag_at».clauses 𝓤 H A mem run)
   fstf-tag-at-one κs a g x y v w = agree 𝓤 (λ p q. (p ∙ sym q, refl))

@@ -5,8 +5,9 @@ use face_reading::FstfPart;
 use face_recording::FstfRecorder;
 use face_recording::FstfTaken;
 use face_repair::FstfRepaired;
+use face_tags::FstfCommitted;
 use face_tags::FstfCursor;
-use face_tags::FstfSaved;
+use face_tags::FstfLooked;
 use face_tags::FstfTag;
 ghost use mathlib.Core.Path.{_≡_};
 ghost use Rattle.opening.specs.Opened.{openOf};
@@ -19,10 +20,10 @@ ghost use Rattle.repair.specs.Repaired.{repairOf};
 ghost use Rattle.face_repair.specs.Face.{repaired, madeFlat};
 ghost use Rattle.layout.specs.Browser.{browse, tagNamed};
 ghost use Rattle.layout.specs.Cursor.{firstTag};
-ghost use Rattle.saving.specs.Save.{saveOf};
+ghost use Rattle.saving.specs.Answers.{lookOf, commitOf};
 ghost use Rattle.browser.specs.Browsing.{browsedAs};
 ghost use Rattle.cursor.specs.Cursors.{cursorAs};
-ghost use Rattle.face_tags.specs.Face.{saved, outcomeFlat, tagFlat, cursorFlat, cursorNext};
+ghost use Rattle.face_tags.specs.Face.{lookedFlat, kept, outcomeFlat, tagFlat, cursorFlat, cursorNext};
 
 #[no_mangle]
 pub extern "C" fn fstf_open(file: &[u8]) -> FstfOpened
@@ -114,10 +115,17 @@ pub extern "C" fn fstf_repair(file: &[u8], out: &mut [u8]) -> FstfRepaired
 }
 
 #[no_mangle]
-pub extern "C" fn fstf_save(file: &[u8], sheet: &[u8], out: &mut [u8]) -> FstfSaved
-    ensures { λ r. ⌜ saved r (now (out .exit)) ≡ outcomeFlat (saveOf (now (file .entry)) (now (sheet .entry)) (now (out .entry))) ⌝ }
+pub extern "C" fn fstf_look(file: &[u8], sheet: &[u8]) -> FstfLooked
+    ensures { λ r. ⌜ r ≡ lookedFlat (lookOf (now (file .entry)) (now (sheet .entry))) ⌝ }
 {
-    face_tags::save(file, sheet, out)
+    face_tags::look(file, sheet)
+}
+
+#[no_mangle]
+pub extern "C" fn fstf_commit(file: &[u8], sheet: &[u8], out: &mut [u8]) -> FstfCommitted
+    ensures { λ r. ⌜ kept r (now (out .exit)) ≡ outcomeFlat (commitOf (now (file .entry)) (now (sheet .entry)) (now (out .entry))) ⌝ }
+{
+    face_tags::commit(file, sheet, out)
 }
 
 #[no_mangle]

@@ -13,7 +13,7 @@ use Rattle.layout.specs.Opening.{firstOf, field, headerCount, indexOffse
 use Rattle.layout.specs.Recorder.{isFresh, isRunning, takesClose, pieceNumber, tooLong, brokenState, answer, configured, setUpSection, setUpList, sectionsOf, badSetUp, firstPiece, beginLines, begun, begin, framePiece, badShape, badClock, addLines, firstAfter, added, noted, add, closingPieces, closingPiece, notesShort, stageAfter, closeLines, closedBy, close}
 use Rattle.layout.specs.Storage.{Call, begins, adds, closes, started, pieceOf, passedOn, called, session, write, writesAt, writes, stored, fileOf}
 use Rattle.layout.specs.Repair.{walked, keptLength, keptCount, tail, repairLines, repairRefusal, repairAnswer, repair, withFields, repaired}
-use Rattle.layout.specs.Saving.{malformed, entryOf, seenOf, kind, seenPart, newPart, numberOfChanges, sheetFault, savePlace, change, changeNames, sheet, changesOf, lookUp, sameEntry, agrees, conflicts, someConflict, conflictPlace, newEntry, tagWith, keptTags, newTags, applied, userTags, newTable, saveLines, saveRefusal, saveAnswer, save}
+use Rattle.layout.specs.Saving.{malformed, entryOf, seenOf, kind, seenPart, newPart, numberOfChanges, sheetFault, change, changeNames, sheet, changesOf, lookUp, sameEntry, agrees, conflicts, someConflict, conflictPlace, newEntry, tagWith, keptTags, newTags, applied, tableLines, userTags, lookLines, lookPlace, newTable, commitLines, commitRefusal, commitPlace, commitAnswer, commit}
 
 -- "A whole file, 98 bytes"
 unfoldable pub theFile : List ℕ
@@ -38,15 +38,15 @@ theSheet = 0x01 ∷ 0x04 ∷ 0x53 ∷ 0x49 ∷ 0x54 ∷ 0x45 ∷ 0x00 ∷ 0x01 �
 tableWithSite : List ℕ
 tableWithSite = 0x01 ∷ 0x00 ∷ 0x00 ∷ 0x00 ∷ 0x04 ∷ 0x53 ∷ 0x49 ∷ 0x54 ∷ 0x45 ∷ 0x01 ∷ 0x41 ∷ []
 
--- a refusal number alone, a repair and a save as numbers in a row
+-- a refusal number alone, a repair and a commit as numbers in a row
 opens : List ℕ → List ℕ
 opens f = refusal f ∷ []
 
 repairs : List ℕ → List ℕ
 repairs f = let r = repair f 98 in r .refused ∷ r .kept ∷ r .count ∷ r .index ∷ r .user ∷ r .tail
 
-saves : List ℕ → List ℕ
-saves f = let s = save f theSheet 98 in s .refused ∷ s .place ∷ s .table
+commits : List ℕ → List ℕ
+commits f = let s = commit f theSheet 98 in s .refused ∷ s .place ∷ s .table
 
 pub record Row : Type 0 where
   given : List ℕ
@@ -78,9 +78,9 @@ rows =
     -- P10
     ∷ row (repair (take 51 unclosed) 98 .refused ∷ opens (take 51 unclosed)) (4 ∷ 4 ∷ [])
     -- P11
-    ∷ row (saves theFile) (0 ∷ 0 ∷ tableWithSite)
+    ∷ row (commits theFile) (0 ∷ 0 ∷ tableWithSite)
     -- P12
-    ∷ row (saves (take 94 theFile ++ tableWithSite)) (11 ∷ 0 ∷ [])
+    ∷ row (commits (take 94 theFile ++ tableWithSite)) (11 ∷ 0 ∷ [])
     ∷ []
 
 unfoldable pub holdsAt : Row → Bool
@@ -88,7 +88,7 @@ holdsAt r = same (r .given) (r .expected)
 
 -- P1 to P12 hold of the definitions
 pub examples : T (every holdsAt rows)
-unfolding theFile unclosed theSheet tableWithSite opens repairs saves row rows holdsAt bytesOf numberOf flatMap fileMark shortString tableBytes tagBytes sizedBytes frameHeadBytes frameBytes entryBytes entriesBytes firstTime indexBytes every same among distinct isNameByte isTagByte legalSectionName legalTagName legalTagValue tagNames follows follow inOrder onward behind give _then_ only faultAt placed times exactly valueOr taken faultOf number block string outside stringFault sectionName tagName tagValue rowsFault countedFault numberOfSections numberOfTags tableFault definition definedNames definitions tag table sized frame stopped longer walk firstOf field headerCount indexOffset systemOffset userOffset readDefinitions definedIn readSystem readUser walkStart walkOf counted notFstf otherRevision steps offsetsLegal lastOffset badSections badSystem openingPlace notClosed badIndex badUser frontLines openingLines refusal nextOffset sectionsFrom shown tooLong walked keptLength keptCount tail repairLines repairRefusal repairAnswer repair withFields repaired malformed entryOf seenOf kind seenPart newPart numberOfChanges sheetFault savePlace change changeNames sheet changesOf lookUp sameEntry agrees conflicts someConflict conflictPlace newEntry tagWith keptTags newTags applied userTags newTable saveLines saveRefusal saveAnswer save
+unfolding theFile unclosed theSheet tableWithSite opens repairs commits row rows holdsAt bytesOf numberOf flatMap fileMark shortString tableBytes tagBytes sizedBytes frameHeadBytes frameBytes entryBytes entriesBytes firstTime indexBytes every same among distinct isNameByte isTagByte legalSectionName legalTagName legalTagValue tagNames follows follow inOrder onward behind give _then_ only faultAt placed times exactly valueOr taken faultOf number block string outside stringFault sectionName tagName tagValue rowsFault countedFault numberOfSections numberOfTags tableFault definition definedNames definitions tag table sized frame stopped longer walk firstOf field headerCount indexOffset systemOffset userOffset readDefinitions definedIn readSystem readUser walkStart walkOf counted notFstf otherRevision steps offsetsLegal lastOffset badSections badSystem openingPlace notClosed badIndex badUser frontLines openingLines refusal nextOffset sectionsFrom shown tooLong walked keptLength keptCount tail repairLines repairRefusal repairAnswer repair withFields repaired malformed entryOf seenOf kind seenPart newPart numberOfChanges sheetFault change changeNames sheet changesOf lookUp sameEntry agrees conflicts someConflict conflictPlace newEntry tagWith keptTags newTags applied tableLines userTags lookLines lookPlace newTable commitLines commitRefusal commitPlace commitAnswer commit
 examples = tt
 
 -- ── The worked recording, by the recorder's own calls ──

@@ -1,5 +1,6 @@
 pub mod Examples
 pub mod PositionExamples
+pub mod LookExamples
 pub mod Limits
 pub mod Lists
 pub mod Outputs
@@ -32,6 +33,7 @@ pub mod CutRepairs
 pub mod Moments
 pub mod Condition3
 pub mod Refusals
+pub mod Looked
 pub mod Fresh
 pub mod Browsing
 pub mod Cursors

@@ -12,7 +12,7 @@ use Rattle.layout.specs.Opening.{firstOf, field, headerCount, indexOffse
 use Rattle.layout.specs.Recorder.{tooLong, isFresh, configured, setUpSection, setUpList, sectionsOf, badSetUp, firstPiece, beginLines, beginPlace}
 use Rattle.layout.specs.Storage.{freshState}
 use Rattle.layout.specs.Repair.{walked, keptLength, keptCount, tail, repairLines, repairRefusal}
-use Rattle.layout.specs.Saving.{malformed, entryOf, seenOf, kind, seenPart, newPart, numberOfChanges, sheetFault, savePlace, change, changeNames, sheet, changesOf, lookUp, sameEntry, agrees, conflicts, someConflict, conflictPlace, newEntry, tagWith, keptTags, newTags, applied, userTags, newTable, saveLines, saveRefusal, saveAnswer, save}
+use Rattle.layout.specs.Saving.{malformed, entryOf, seenOf, kind, seenPart, newPart, numberOfChanges, sheetFault, change, changeNames, sheet, lookLines, lookRefusal, lookPlace}
 use Rattle.layout.proofs.Examples.{Row, row, holdsAt, theFile}
 
 -- ── What each call answers: its number, and the place that goes with it ──
@@ -24,8 +24,8 @@ repairs : List ℕ → List ℕ
 repairs f = repairRefusal f 98 ∷ openingPlace (repairRefusal f 98) f ∷ []
 
 -- a sheet, over the file of the document
-saves : List ℕ → List ℕ
-saves bytes = saveRefusal theFile bytes 98 ∷ savePlace (saveRefusal theFile bytes 98) theFile bytes ∷ []
+looks : List ℕ → List ℕ
+looks bytes = lookRefusal theFile bytes ∷ lookPlace (lookRefusal theFile bytes) theFile bytes ∷ []
 
 -- a set-up list and a system table, from a fresh recorder
 begins : (setUp system : List ℕ) → List ℕ
@@ -88,15 +88,19 @@ rows =
     -- tables alone, and the second B
     ∷ row (faultOf (exactly table badBehindTwice) ∷ []) (7 ∷ [])
     ∷ row (faultOf (exactly table twoTwice) ∷ []) (10 ∷ [])
-    -- sheets: a byte ahead of the end, kinds, a kind that is missing, a name used twice, bytes left over, the number of changes
-    ∷ row (saves (0x01 ∷ 0x05 ∷ 0x41 ∷ 0x07 ∷ [])) (10 ∷ 3 ∷ [])
-    ∷ row (saves (0x01 ∷ 0x01 ∷ 0x41 ∷ 0x03 ∷ 0x00 ∷ [])) (10 ∷ 3 ∷ [])
-    ∷ row (saves (0x01 ∷ 0x01 ∷ 0x41 ∷ 0x02 ∷ 0x02 ∷ [])) (10 ∷ 4 ∷ [])
-    ∷ row (saves (0x01 ∷ 0x01 ∷ 0x41 ∷ [])) (10 ∷ 3 ∷ [])
-    ∷ row (saves (0x02 ∷ 0x01 ∷ 0x41 ∷ 0x02 ∷ 0x00 ∷ 0x01 ∷ 0x41 ∷ 0x02 ∷ 0x00 ∷ [])) (10 ∷ 5 ∷ [])
-    ∷ row (saves (0x01 ∷ 0x01 ∷ 0x41 ∷ 0x02 ∷ 0x00 ∷ 0xFF ∷ [])) (10 ∷ 5 ∷ [])
-    ∷ row (saves (0x41 ∷ [])) (10 ∷ 0 ∷ [])
-    ∷ row (saves []) (10 ∷ 0 ∷ [])
+    -- sheets: a byte ahead of the end, an empty name, a byte of a value that was seen, a new value cut short, kinds, a kind that is missing, a name used
+    -- twice, bytes left over, the number of changes
+    ∷ row (looks (0x01 ∷ 0x05 ∷ 0x41 ∷ 0x07 ∷ [])) (10 ∷ 3 ∷ [])
+    ∷ row (looks (0x01 ∷ 0x00 ∷ 0x00 ∷ 0x00 ∷ [])) (10 ∷ 1 ∷ [])
+    ∷ row (looks (0x01 ∷ 0x01 ∷ 0x41 ∷ 0x01 ∷ 0x01 ∷ 0x07 ∷ 0x00 ∷ [])) (10 ∷ 5 ∷ [])
+    ∷ row (looks (0x01 ∷ 0x01 ∷ 0x41 ∷ 0x02 ∷ 0x01 ∷ 0x02 ∷ 0x41 ∷ [])) (10 ∷ 7 ∷ [])
+    ∷ row (looks (0x01 ∷ 0x01 ∷ 0x41 ∷ 0x03 ∷ 0x00 ∷ [])) (10 ∷ 3 ∷ [])
+    ∷ row (looks (0x01 ∷ 0x01 ∷ 0x41 ∷ 0x02 ∷ 0x02 ∷ [])) (10 ∷ 4 ∷ [])
+    ∷ row (looks (0x01 ∷ 0x01 ∷ 0x41 ∷ [])) (10 ∷ 3 ∷ [])
+    ∷ row (looks (0x02 ∷ 0x01 ∷ 0x41 ∷ 0x02 ∷ 0x00 ∷ 0x01 ∷ 0x41 ∷ 0x02 ∷ 0x00 ∷ [])) (10 ∷ 5 ∷ [])
+    ∷ row (looks (0x01 ∷ 0x01 ∷ 0x41 ∷ 0x02 ∷ 0x00 ∷ 0xFF ∷ [])) (10 ∷ 5 ∷ [])
+    ∷ row (looks (0x41 ∷ [])) (10 ∷ 0 ∷ [])
+    ∷ row (looks []) (10 ∷ 0 ∷ [])
     -- set-up lists: a configuration, a length and a name cut short, whatever the name; bytes left over; none
     ∷ row (begins (0x01 ∷ 0x05 ∷ 0x49 ∷ 0x4D ∷ 0x41 ∷ 0x47 ∷ 0x45 ∷ 0x05 ∷ 0x00 ∷ 0x61 ∷ 0x62 ∷ 0x63 ∷ []) (replicate 4 0)) (10 ∷ 9 ∷ [])
     ∷ row (begins (0x01 ∷ 0x01 ∷ 0x41 ∷ 0x05 ∷ []) (replicate 4 0)) (10 ∷ 3 ∷ [])
@@ -112,5 +116,5 @@ rows =
     ∷ []
 
 pub positions : T (every holdsAt rows)
-unfolding theFile row holdsAt opens repairs saves begins twoSections sameSections badBehindTwice twoTwice rows bytesOf numberOf flatMap fileMark shortString tableBytes tagBytes sizedBytes frameHeadBytes frameBytes entryBytes entriesBytes firstTime indexBytes every same among distinct isNameByte isTagByte legalSectionName legalTagName legalTagValue tagNames follows follow inOrder onward behind give _then_ only faultAt placed times exactly valueOr taken faultOf number block string outside stringFault sectionName tagName tagValue rowsFault countedFault numberOfSections numberOfTags tableFault definition definedNames definitions tag table sized frame stopped longer walk firstOf field headerCount indexOffset systemOffset userOffset readDefinitions definedIn readSystem readUser walkStart walkOf counted notFstf otherRevision steps offsetsLegal lastOffset badSections badSystem openingPlace notClosed badIndex badUser frontLines openingLines refusal nextOffset sectionsFrom shown tooLong walked keptLength keptCount tail repairLines repairRefusal malformed entryOf seenOf kind seenPart newPart numberOfChanges sheetFault savePlace change changeNames sheet changesOf lookUp sameEntry agrees conflicts someConflict conflictPlace newEntry tagWith keptTags newTags applied userTags newTable saveLines saveRefusal saveAnswer save headerBytes definitionListBytes definitionsEnd definitionsBytes configurationsBytes frontBytes sectionNames isFresh configured setUpSection setUpList sectionsOf badSetUp firstPiece beginLines keeping firstOffsetPlace firstOffset firstOffsetWrong offsetBehind sectionsFault systemFault userFault beginPlace
+unfolding theFile row holdsAt opens repairs looks begins twoSections sameSections badBehindTwice twoTwice rows bytesOf numberOf flatMap fileMark shortString tableBytes tagBytes sizedBytes frameHeadBytes frameBytes entryBytes entriesBytes firstTime indexBytes every same among distinct isNameByte isTagByte legalSectionName legalTagName legalTagValue tagNames follows follow inOrder onward behind give _then_ only faultAt placed times exactly valueOr taken faultOf number block string outside stringFault sectionName tagName tagValue rowsFault countedFault numberOfSections numberOfTags tableFault definition definedNames definitions tag table sized frame stopped longer walk firstOf field headerCount indexOffset systemOffset userOffset readDefinitions definedIn readSystem readUser walkStart walkOf counted notFstf otherRevision steps offsetsLegal lastOffset badSections badSystem openingPlace notClosed badIndex badUser frontLines openingLines refusal nextOffset sectionsFrom shown tooLong walked keptLength keptCount tail repairLines repairRefusal malformed entryOf seenOf kind seenPart newPart numberOfChanges sheetFault change changeNames sheet lookLines lookRefusal lookPlace headerBytes definitionListBytes definitionsEnd definitionsBytes configurationsBytes frontBytes sectionNames isFresh configured setUpSection setUpList sectionsOf badSetUp firstPiece beginLines keeping firstOffsetPlace firstOffset firstOffsetWrong offsetBehind sectionsFault systemFault userFault beginPlace
 positions = tt

@@ -17,10 +17,11 @@ use Rattle.layout.specs.Reading.{Parsed, bad, good, Reader, onward, behi
 use Rattle.layout.specs.Opening.{Line, firstOf, indexOffset, systemOffset, userOffset, readSystem, readUser, notFstf, notClosed, frontLines, openingLines, refusal, firstOffset, firstOffsetPlace, firstOffsetWrong, step, offsetBehind, farSystem, sectionsFault, systemFault, userFault, openingPlace}
 use Rattle.layout.specs.Recorder.{configured, setUpSection, setUpList, beginPlace}
 use Rattle.layout.specs.Repair.{repairLines, repairRefusal}
-use Rattle.layout.specs.Saving.{Entry, absent, holds, saw, nobodyLooked, mostChanges, malformed, entryOf, seenOf, kind, seenPart, newPart, change, changeNames, numberOfChanges, sheetFault, sheet, savePlace, saveLines, saveRefusal}
+use Rattle.layout.specs.Saving.{Entry, absent, holds, saw, nobodyLooked, mostChanges, malformed, entryOf, seenOf, kind, seenPart, newPart, change, changeNames, numberOfChanges, sheetFault, sheet, lookLines, lookRefusal, lookPlace, commitRefusal, commitPlace}
 use Rattle.layout.proofs.Lists.{or-false}
 use Rattle.layout.proofs.Readers.{onward-good, cond-good, then-good, then-takes, number-is, number-good, block-is, block-good, placed-good, placed-takes}
 use Rattle.layout.proofs.Orders.{without, no-lines, line-other, lines-other}
+use Rattle.layout.proofs.Saved.{commit-is}
 
 -- ── Where a reader stops ──
 
@@ -309,7 +310,7 @@ whole-list-within =
     exactly-within (number 1 then λ k. times k setUpSection)
     (then-within (number 1) (λ k. times k setUpSection) (number-within 1) (λ k. times-within k setUpSection set-up-section-within))
 
--- ── To begin and to save ──
+-- ── To begin, to look and to commit ──
 
 -- 10 and 3 count in the set-up list, 4 in the table
 pub begin-list-within : (setUp system : List ℕ) → beginPlace 10 setUp system ≤ length setUp
@@ -326,9 +327,13 @@ unfolding beginPlace
 begin-table-within setUp system = fault-within (exactly table) whole-table-within system
 
 -- 10 counts in the sheet
-pub save-sheet-within : (f bytes : List ℕ) → savePlace 10 f bytes ≤ length bytes
-unfolding savePlace
-save-sheet-within f bytes = fault-within (exactly sheet) whole-sheet-within bytes
+pub look-sheet-within : (f bytes : List ℕ) → lookPlace 10 f bytes ≤ length bytes
+unfolding lookPlace
+look-sheet-within f bytes = fault-within (exactly sheet) whole-sheet-within bytes
+
+pub commit-sheet-within : (f bytes : List ℕ) → commitPlace 10 f bytes ≤ length bytes
+unfolding commitPlace
+commit-sheet-within f bytes = look-sheet-within f bytes
 
 -- ── In a file ──
 
@@ -436,11 +441,16 @@ repair-within f room =
     let e : 0 ≡ 7 = sym no-lines ∙ lines-other (repairLines f room) [] 7 refl (ap firstOf (append-nil (repairLines f room)) ∙ h) .1 in
     absurd (omega arith))
 
--- and in a save, where it is not the sheet that is refused.
-pub save-within : (f bytes : List ℕ) (room n : ℕ) → saveRefusal f bytes room ≡ n → (n ≡ 10 → ⊥) → (n ≡ 11 → ⊥)
-    → (savePlace n f bytes ≡ openingPlace n f) × InFile n f
-unfolding saveRefusal saveLines savePlace
-save-within f bytes room n e h k = (rw (ne-eqb n 10 h, ne-eqb n 11 k), opened-within f _ n e)
+-- in look, where it is not the sheet that is refused,
+pub look-within : (f bytes : List ℕ) (n : ℕ) → lookRefusal f bytes ≡ n → (n ≡ 10 → ⊥) → (lookPlace n f bytes ≡ openingPlace n f) × InFile n f
+unfolding lookRefusal lookLines lookPlace
+look-within f bytes n e h = (rw (ne-eqb n 10 h), opened-within f _ n e)
+
+-- and in a commit, where it is neither the sheet nor a conflict.
+pub commit-within : (f bytes : List ℕ) (room n : ℕ) → commitRefusal f bytes room ≡ n → (n ≡ 10 → ⊥) → (n ≡ 11 → ⊥)
+    → (commitPlace n f bytes ≡ openingPlace n f) × InFile n f
+unfolding commitPlace lookPlace
+commit-within f bytes room n e h k = (rw (ne-eqb n 11 k, ne-eqb n 10 h), opened-within f _ n (sym (commit-is f bytes room) ∙ e))
 
 -- ── A string that is refused at a byte is so whatever follows that byte ──
 

@@ -1,18 +1,16 @@
--- "No lent byte changes and the recorder's state comes back equal": what each refused call leaves, and that it answers nothing but its number.
+-- "No lent byte changes and the recorder's state comes back equal": what each refused call leaves, and that it answers nothing but its number and its place.
 -- Assumes nothing.
 use Prim.Native.Nat.{ℕ, zero, suc}
 use native.Mathlib.Omega.{arith}
 use mathlib.Core.Path.{_≡_, refl, ap}
+use mathlib.Core.Bool.{Bool}
 use mathlib.Core.List.{List, []}
 use lib.ListN.{length}
-use lib.Dec.{eqb}
-use borrow.Author.Tests.{eq-eqb, ne-eqb}
 use Rattle.layout.specs.Recording.{Tag}
 use Rattle.layout.specs.Opening.{firstOf}
 use Rattle.layout.specs.Recorder.{State, piece, Step, filled, answer, beginLines, begin, addLines, add, closeLines, close}
 use Rattle.layout.specs.Repair.{Repair, repairRefusal, repairAnswer, repair}
-use Rattle.layout.specs.Saving.{saveRefusal, savePlace, saveAnswer, save}
-use Rattle.layout.proofs.Lists.{cond-true, cond-false}
+use Rattle.layout.specs.Saving.{lookRefusal, lookPlace, lookAnswer, look, commitRefusal, commitPlace, commitAnswer, commit}
 
 -- an output into which nothing is filled
 pub filled-none : (out : List ℕ) → filled out [] ≡ out
@@ -96,26 +94,55 @@ repair-refused f out n h = go (repairRefusal f (length out)) _ refl h
     go zero r e k = absurd (omega (arith, e, k))
     go (suc m) r e k = (ap {B = Repair} (λ (i : ℕ). record { refused = i; kept = 0; count = 0; index = 0; user = 0; tail = [] }) k, filled-none out)
 
--- ── Saving ──
+-- ── To look and to commit ──
 
--- A save answers the number of its order;
-pub save-number : (f sheet : List ℕ) (room : ℕ) → save f sheet room .refused ≡ saveRefusal f sheet room
-unfolding save saveAnswer
-save-number f sheet room = go (saveRefusal f sheet room) _ _
+-- Look answers the number of its order;
+pub look-number : (f sheet : List ℕ) → look f sheet .refused ≡ lookRefusal f sheet
+unfolding look lookAnswer
+look-number f sheet = go (lookRefusal f sheet) _ _
   where
-    go : (m place : ℕ) (ts : List Tag) → saveAnswer m place ts .refused ≡ m
+    go : (m place : ℕ) (bs : List Bool) → lookAnswer m place bs .refused ≡ m
+    go zero place bs = refl
+    go (suc m) place bs = refl
+
+-- refused, it shows no change, and carries the place that goes with its number.
+pub look-refused : (f sheet : List ℕ) (n : ℕ)
+    → look f sheet .refused ≡ suc n
+    → (look f sheet .conflicting ≡ [])
+    × (look f sheet .place ≡ lookPlace (suc n) f sheet)
+unfolding look lookAnswer
+look-refused f sheet n h = go (lookRefusal f sheet) _ h
+  where
+    go : (m : ℕ) (bs : List Bool) → lookAnswer m (lookPlace m f sheet) bs .refused ≡ suc n → (lookAnswer m (lookPlace m f sheet) bs .conflicting ≡ []) × (lookAnswer m (lookPlace m f sheet) bs .place ≡ lookPlace (suc n) f sheet)
+    go zero bs k = absurd (omega (arith, k))
+    go (suc m) bs k = (refl, ap (λ (i : ℕ). lookPlace i f sheet) k)
+
+-- A commit answers the number of its order;
+pub commit-number : (f sheet : List ℕ) (room : ℕ) → commit f sheet room .refused ≡ commitRefusal f sheet room
+unfolding commit commitAnswer
+commit-number f sheet room = go (commitRefusal f sheet room) _ _
+  where
+    go : (m place : ℕ) (ts : List Tag) → commitAnswer m place ts .refused ≡ m
     go zero place ts = refl
     go (suc m) place ts = refl
 
--- refused, it has no table, leaves the output as it was, and carries the place that goes with its number.
-pub save-refused : (f sheet out : List ℕ) (n : ℕ)
-    → save f sheet (length out) .refused ≡ suc n
-    → (save f sheet (length out) .table ≡ [])
-    × (filled out (save f sheet (length out) .table) ≡ out)
-    × (save f sheet (length out) .place ≡ savePlace (suc n) f sheet)
-unfolding save saveAnswer
-save-refused f sheet out n h = go (saveRefusal f sheet (length out)) _ h
+-- refused, it carries the place that goes with its number,
+pub commit-place : (f sheet : List ℕ) (room n : ℕ) → commit f sheet room .refused ≡ suc n → commit f sheet room .place ≡ commitPlace (suc n) f sheet
+unfolding commit commitAnswer
+commit-place f sheet room n h = go (commitRefusal f sheet room) _ h
   where
-    go : (m : ℕ) (ts : List Tag) → saveAnswer m (savePlace m f sheet) ts .refused ≡ suc n → (saveAnswer m (savePlace m f sheet) ts .table ≡ []) × (filled out (saveAnswer m (savePlace m f sheet) ts .table) ≡ out) × (saveAnswer m (savePlace m f sheet) ts .place ≡ savePlace (suc n) f sheet)
+    go : (m : ℕ) (ts : List Tag) → commitAnswer m (commitPlace m f sheet) ts .refused ≡ suc n → commitAnswer m (commitPlace m f sheet) ts .place ≡ commitPlace (suc n) f sheet
     go zero ts k = absurd (omega (arith, k))
-    go (suc m) ts k = (refl, filled-none out, ap (λ (i : ℕ). savePlace i f sheet) k)
+    go (suc m) ts k = ap (λ (i : ℕ). commitPlace i f sheet) k
+
+-- has no table, and leaves the output as it was.
+pub commit-refused : (f sheet out : List ℕ) (n : ℕ)
+    → commit f sheet (length out) .refused ≡ suc n
+    → (commit f sheet (length out) .table ≡ [])
+    × (filled out (commit f sheet (length out) .table) ≡ out)
+unfolding commit commitAnswer
+commit-refused f sheet out n h = go (commitRefusal f sheet (length out)) _ _ h
+  where
+    go : (m place : ℕ) (ts : List Tag) → commitAnswer m place ts .refused ≡ suc n → (commitAnswer m place ts .table ≡ []) × (filled out (commitAnswer m place ts .table) ≡ out)
+    go zero place ts k = absurd (omega (arith, k))
+    go (suc m) place ts k = (refl, filled-none out)

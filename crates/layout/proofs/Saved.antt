@@ -1,10 +1,10 @@
--- Saving: no member's change is lost.
+-- To commit: no member's change is lost.
 -- Assumes nothing.
 use Prim.Native.Nat.{ℕ, zero, suc, _≤_, _<_}
 use mathlib.Core.Path.{_≡_, refl, ap, sym, _∙_}
 use mathlib.Core.Bool.{Bool, true, false, not, cond, _&&_, _||_}
 use mathlib.Core.Logic.{_↔_}
-use mathlib.Core.List.{List, [], _∷_, _++_, flatMap, append-cancel-right}
+use mathlib.Core.List.{List, [], _∷_, _++_, flatMap, append-assoc, append-cancel-right}
 use native.Mathlib.Omega.{arith}
 use lib.ListN.{length, take, drop, getD, take-append-drop}
 use lib.Dec.{ltb, leb}
@@ -16,7 +16,7 @@ use Rattle.layout.specs.Recording.{Tag, Recording, Legal, mostTags, ever
 use Rattle.layout.specs.Reading.{Parsed, bad, good, onward, behind, _then_, only, faultAt, placed, times, number, exactly, table, isBad, valueOr}
 use Rattle.layout.specs.Opening.{Line, line, firstOf, frontLines, openingLines, refusal, shown, userOffset, readUser, badUser}
 use Rattle.layout.specs.Recorder.{noRoom}
-use Rattle.layout.specs.Saving.{nobodyLooked, Change, numberOfChanges, sheet, changeNames, changesOf, lookUp, agrees, conflicts, someConflict, conflictPlace, userTags, newTable, saveLines, savePlace, saveRefusal, saveAnswer, save}
+use Rattle.layout.specs.Saving.{nobodyLooked, Change, numberOfChanges, sheet, changeNames, changesOf, lookUp, agrees, conflicts, someConflict, conflictPlace, tableLines, userTags, badSheet, lookLines, newTable, commitLines, commitPlace, commitRefusal, commitAnswer, commit}
 use Rattle.layout.proofs.Lists.{or-false, or-right, not-or, bytes-drop}
 use Rattle.layout.proofs.Exact.{table-exact, exactly-gives}
 use Rattle.layout.proofs.Lines.{line-pass, line-holds, opening-pass, opens-passes}
@@ -29,73 +29,83 @@ use Rattle.layout.proofs.Orders.{without, no-lines, line-other, line-ow
 unfoldable pub withUser : Recording → List Tag → Recording
 withUser r ts = record { sections = r .sections; system = r .system; frames = r .frames; user = ts }
 
--- ── The save's order ──
+-- ── Commit's order ──
 
--- the number that a save answers is the first of its lines that holds
-refused-is : (n place : ℕ) (ts : List Tag) → saveAnswer n place ts .refused ≡ n
-unfolding saveAnswer
+-- the number that a commit answers is the first of its lines that holds
+refused-is : (n place : ℕ) (ts : List Tag) → commitAnswer n place ts .refused ≡ n
+unfolding commitAnswer
 refused-is zero place ts = refl
 refused-is (suc n) place ts = refl
 
-table-is : (n place : ℕ) (ts : List Tag) → saveAnswer n place ts .refused ≡ 0 → saveAnswer n place ts .table ≡ tableBytes ts
-unfolding saveAnswer
+table-is : (n place : ℕ) (ts : List Tag) → commitAnswer n place ts .refused ≡ 0 → commitAnswer n place ts .table ≡ tableBytes ts
+unfolding commitAnswer
 table-is zero place ts e = refl
 table-is (suc n) place ts e = absurd (omega arith)
 
-place-is : (n place : ℕ) (ts : List Tag) → saveAnswer n place ts .refused ≡ 11 → saveAnswer n place ts .place ≡ place
-unfolding saveAnswer
+place-is : (n place : ℕ) (ts : List Tag) → commitAnswer n place ts .refused ≡ 11 → commitAnswer n place ts .place ≡ place
+unfolding commitAnswer
 place-is zero place ts e = absurd (omega arith)
 place-is (suc n) place ts e = refl
 
-place-eleven : (n : ℕ) (f bytes : List ℕ) → n ≡ 11 → savePlace n f bytes ≡ conflictPlace (userTags f) (changesOf bytes)
-unfolding savePlace
+place-eleven : (n : ℕ) (f bytes : List ℕ) → n ≡ 11 → commitPlace n f bytes ≡ conflictPlace (userTags f) (changesOf bytes)
+unfolding commitPlace
 place-eleven n f bytes e = rw e
 
--- the four lines that a save has past those of opening
+-- the four lines that a commit has past those of opening
 unfoldable pub sheetLines : (f sheet : List ℕ) → (room : ℕ) → List Line
 sheetLines f bytes room =
-    line 10 (isBad (exactly sheet bytes))
+    line 10 (badSheet bytes)
     ∷ line 11 (someConflict (userTags f) (changesOf bytes))
     ∷ line 17 (ltb mostTags (length (newTable f bytes)))
     ∷ line 9 (noRoom room (length (tableBytes (newTable f bytes))))
     ∷ []
 
-pub save-order : (f bytes : List ℕ) (room k : ℕ)
+-- those of look and of a table are these, in this order
+pub commit-is : (f bytes : List ℕ) (room : ℕ) → commitRefusal f bytes room ≡ firstOf (openingLines f ++ sheetLines f bytes room)
+unfolding commitRefusal commitLines lookLines tableLines sheetLines newTable
+commit-is f bytes room = ap firstOf (append-assoc (openingLines f) (line 10 (badSheet bytes) ∷ []) _)
+
+-- past the lines of opening
+pub commit-opened : (f bytes : List ℕ) (room : ℕ) → refusal f ≡ 0 → commitRefusal f bytes room ≡ firstOf (sheetLines f bytes room)
+commit-opened f bytes room o = commit-is f bytes room ∙ opening-pass f (sheetLines f bytes room) (opens-passes f o)
+
+pub commit-order : (f bytes : List ℕ) (room k : ℕ)
     → without k (openingLines f) ≡ true
-    → save f bytes room .refused ≡ k
+    → commit f bytes room .refused ≡ k
     → (refusal f ≡ 0)
     × (firstOf (sheetLines f bytes room) ≡ k)
-unfolding save saveRefusal saveLines sheetLines refusal
-save-order f bytes room k w e = lines-other (openingLines f) (sheetLines f bytes room) k w (sym (refused-is _ _ _) ∙ e)
+unfolding commit refusal
+commit-order f bytes room k w e =
+    lines-other (openingLines f) (sheetLines f bytes room) k w (sym (commit-is f bytes room) ∙ sym (refused-is _ _ _) ∙ e)
 
-pub save-lines : (f bytes : List ℕ) (room : ℕ)
-    → save f bytes room .refused ≡ 0
+pub commit-lines : (f bytes : List ℕ) (room : ℕ)
+    → commit f bytes room .refused ≡ 0
     → (refusal f ≡ 0)
-    × (isBad (exactly sheet bytes) ≡ false)
+    × (badSheet bytes ≡ false)
     × (someConflict (userTags f) (changesOf bytes) ≡ false)
     × (length (newTable f bytes) ≤ mostTags)
     × (length (tableBytes (newTable f bytes)) ≤ room)
 unfolding sheetLines openingLines frontLines without
-save-lines f bytes room a =
-    let o = save-order f bytes room 0 refl a in
+commit-lines f bytes room a =
+    let o = commit-order f bytes room 0 refl a in
     let p = line-other 10 _ _ 0 (omega arith) (o .1) in
     let q = line-other 11 _ _ 0 (omega arith) (p .1) in
     let r = line-other 17 _ _ 0 (omega arith) (q .1) in
     let s = line-other 9 _ _ 0 (omega arith) (r .1) in
     (o .0, p .0, q .0, ltb-false _ _ (r .0), ltb-false _ _ (s .0))
 
-pub lines-save : (f bytes : List ℕ) (room : ℕ)
+pub lines-commit : (f bytes : List ℕ) (room : ℕ)
     → refusal f ≡ 0
-    → isBad (exactly sheet bytes) ≡ false
+    → badSheet bytes ≡ false
     → someConflict (userTags f) (changesOf bytes) ≡ false
     → length (newTable f bytes) ≤ mostTags
     → length (tableBytes (newTable f bytes)) ≤ room
-    → save f bytes room .refused ≡ 0
-unfolding save saveRefusal saveLines
-lines-save f bytes room o p q r s =
-    refused-is (saveRefusal f bytes room) _ _
-    ∙ opening-pass f _ (opens-passes f o)
-    ∙ line-pass 10 (isBad (exactly sheet bytes)) _ p
+    → commit f bytes room .refused ≡ 0
+unfolding commit sheetLines
+lines-commit f bytes room o p q r s =
+    refused-is (commitRefusal f bytes room) _ _
+    ∙ commit-opened f bytes room o
+    ∙ line-pass 10 (badSheet bytes) _ p
     ∙ line-pass 11 (someConflict (userTags f) (changesOf bytes)) _ q
     ∙ line-pass 17 (ltb mostTags (length (newTable f bytes))) _ (le-ltb _ _ r)
     ∙ line-pass 9 (ltb room (length (tableBytes (newTable f bytes)))) _ (le-ltb _ _ s)
@@ -138,37 +148,35 @@ lowest-conflict ts (c ∷ cs) e = go (conflicts ts c) refl e (lowest-conflict ts
     go true p q l = (omega arith, p, λ i h. absurd (omega arith))
     go false p q l = (omega (arith, l q .0), l q .1, below (conflictPlace ts cs) p (l q .2))
 
--- A save is accepted exactly when the file opens, the sheet is well formed, no seen entry disagrees with the table, the new table has at most 1,000 tags,
+-- A commit is accepted exactly when the file opens, the sheet is well formed, no seen entry disagrees with the table, the new table has at most 1,000 tags,
 -- and there is room for it.
-pub save-accepted : (f bytes : List ℕ) (room : ℕ)
-    → (save f bytes room .refused ≡ 0)
-    ↔ ((refusal f ≡ 0) × (isBad (exactly sheet bytes) ≡ false) × ((i : ℕ) → i < length (changesOf bytes) → conflicts (userTags f) (getD (changesOf bytes) i noChange) ≡ false) × (length (newTable f bytes) ≤ mostTags) × (length (tableBytes (newTable f bytes)) ≤ room))
-save-accepted f bytes room = (
+pub commit-accepted : (f bytes : List ℕ) (room : ℕ)
+    → (commit f bytes room .refused ≡ 0)
+    ↔ ((refusal f ≡ 0) × (badSheet bytes ≡ false) × ((i : ℕ) → i < length (changesOf bytes) → conflicts (userTags f) (getD (changesOf bytes) i noChange) ≡ false) × (length (newTable f bytes) ≤ mostTags) × (length (tableBytes (newTable f bytes)) ≤ room))
+commit-accepted f bytes room = (
   λ a.
-      let l = save-lines f bytes room a in
+      let l = commit-lines f bytes room a in
       (l .0, l .1, no-conflict (userTags f) (changesOf bytes) (l .2), l .3, l .4),
-  λ c. lines-save f bytes room (c .0) (c .1) (none-conflicts (userTags f) (changesOf bytes) (c .2)) (c .3) (c .4),
+  λ c. lines-commit f bytes room (c .0) (c .1) (none-conflicts (userTags f) (changesOf bytes) (c .2)) (c .3) (c .4),
 )
 
 -- Then the answer is the new table in file form:
-pub saved-table : (f bytes : List ℕ) (room : ℕ) → save f bytes room .refused ≡ 0 → save f bytes room .table ≡ tableBytes (newTable f bytes)
-unfolding save
+pub saved-table : (f bytes : List ℕ) (room : ℕ) → commit f bytes room .refused ≡ 0 → commit f bytes room .table ≡ tableBytes (newTable f bytes)
+unfolding commit
 saved-table f bytes room a = table-is _ _ _ a
 
 -- each tag that the sheet names is what the sheet says of it,
 pub saved-named : (f bytes : List ℕ) (room : ℕ) (i : ℕ)
-    → save f bytes room .refused ≡ 0
+    → commit f bytes room .refused ≡ 0
     → i < length (changesOf bytes)
     → lookUp (getD (changesOf bytes) i noChange .name) (newTable f bytes) ≡ getD (changesOf bytes) i noChange .new
 unfolding newTable
-saved-named f bytes room i a h = applied-named (changesOf bytes) (userTags f) i (sheet-legal bytes (save-lines f bytes room a .1) .1) h
+saved-named f bytes room i a h = applied-named (changesOf bytes) (userTags f) i (sheet-legal bytes (commit-lines f bytes room a .1) .1) h
 
 -- no other tag changed, in value or in order,
-pub saved-others : (f bytes : List ℕ) (room : ℕ)
-    → save f bytes room .refused ≡ 0
-    → unnamed (changesOf bytes) (newTable f bytes) ≡ unnamed (changesOf bytes) (userTags f)
+pub saved-others : (f bytes : List ℕ) → unnamed (changesOf bytes) (newTable f bytes) ≡ unnamed (changesOf bytes) (userTags f)
 unfolding newTable
-saved-others f bytes room a = applied-others (changesOf bytes) (userTags f)
+saved-others f bytes = applied-others (changesOf bytes) (userTags f)
 
 -- and the new table's names are the old ones that the sheet does not remove, in their order, and then, in sheet order, those that the sheet gives a value
 -- and the old table had not. So a changed tag keeps its place, removed tags vanish, and new ones come last.
@@ -177,33 +185,33 @@ pub saved-places : (f bytes : List ℕ)
 unfolding newTable
 saved-places f bytes = applied-names (changesOf bytes) (userTags f)
 
--- Where the file opens, the sheet is well formed and any seen entry disagrees with the table, a save is refused 11,
-pub save-conflicts : (f bytes : List ℕ) (room : ℕ) (i : ℕ)
+-- Where the file opens, the sheet is well formed and any seen entry disagrees with the table, a commit is refused 11,
+pub commit-conflicts : (f bytes : List ℕ) (room : ℕ) (i : ℕ)
     → refusal f ≡ 0
-    → isBad (exactly sheet bytes) ≡ false
+    → badSheet bytes ≡ false
     → i < length (changesOf bytes)
     → conflicts (userTags f) (getD (changesOf bytes) i noChange) ≡ true
-    → save f bytes room .refused ≡ 11
-unfolding save saveRefusal saveLines
-save-conflicts f bytes room i o p h c =
-    refused-is (saveRefusal f bytes room) _ _
-    ∙ opening-pass f _ (opens-passes f o)
-    ∙ line-pass 10 (isBad (exactly sheet bytes)) _ p
+    → commit f bytes room .refused ≡ 11
+unfolding commit sheetLines
+commit-conflicts f bytes room i o p h c =
+    refused-is (commitRefusal f bytes room) _ _
+    ∙ commit-opened f bytes room o
+    ∙ line-pass 10 (badSheet bytes) _ p
     ∙ line-holds 11 (someConflict (userTags f) (changesOf bytes)) _ (some-conflict (userTags f) (changesOf bytes) i h c)
 
 -- and names the lowest place whose seen entry disagrees with the table.
-pub save-conflict : (f bytes : List ℕ) (room : ℕ)
-    → save f bytes room .refused ≡ 11
-    → (save f bytes room .place < length (changesOf bytes))
-    × (conflicts (userTags f) (getD (changesOf bytes) (save f bytes room .place) noChange) ≡ true)
-    × ((i : ℕ) → i < save f bytes room .place → conflicts (userTags f) (getD (changesOf bytes) i noChange) ≡ false)
-unfolding save sheetLines openingLines frontLines without
-save-conflict f bytes room r =
-    let o = save-order f bytes room 11 refl r in
+pub commit-conflict : (f bytes : List ℕ) (room : ℕ)
+    → commit f bytes room .refused ≡ 11
+    → (commit f bytes room .place < length (changesOf bytes))
+    × (conflicts (userTags f) (getD (changesOf bytes) (commit f bytes room .place) noChange) ≡ true)
+    × ((i : ℕ) → i < commit f bytes room .place → conflicts (userTags f) (getD (changesOf bytes) i noChange) ≡ false)
+unfolding commit sheetLines openingLines frontLines without
+commit-conflict f bytes room r =
+    let o = commit-order f bytes room 11 refl r in
     let p = line-other 10 _ _ 11 (omega arith) (o .1) in
-    rw (place-is (saveRefusal f bytes room) _ _ r, place-eleven (saveRefusal f bytes room) f bytes (sym (refused-is (saveRefusal f bytes room) _ _) ∙ r)) (lowest-conflict (userTags f) (changesOf bytes) (line-own 11 _ _ (omega arith) refl (p .1)))
+    rw (place-is (commitRefusal f bytes room) _ _ r, place-eleven (commitRefusal f bytes room) f bytes (sym (refused-is (commitRefusal f bytes room) _ _) ∙ r)) (lowest-conflict (userTags f) (changesOf bytes) (line-own 11 _ _ (omega arith) refl (p .1)))
 
--- ── The file of a save ──
+-- ── The file of a commit ──
 
 -- the user table of a file that opens is legal, and the file ends with it
 user-stands : (f : List ℕ) → areBytes f ≡ true → refusal f ≡ 0 → (legalTable (userTags f) ≡ true) × (drop (userOffset f) f ≡ tableBytes (userTags f))
@@ -245,22 +253,22 @@ withUser-bytes f front r ts e d = ap (λ (l : List ℕ). l ++ tableBytes ts) (ap
 -- The file with the new table in the old one's place opens, with the same sections, system tags and frames.
 pub saved-opens : (f bytes : List ℕ) (room : ℕ)
     → areBytes f ≡ true
-    → save f bytes room .refused ≡ 0
-    → (refusal (take (userOffset f) f ++ save f bytes room .table) ≡ 0)
-    × (shown (take (userOffset f) f ++ save f bytes room .table) ≡ withUser (shown f) (newTable f bytes))
-unfolding save newTable userTags
+    → commit f bytes room .refused ≡ 0
+    → (refusal (take (userOffset f) f ++ commit f bytes room .table) ≡ 0)
+    × (shown (take (userOffset f) f ++ commit f bytes room .table) ≡ withUser (shown f) (newTable f bytes))
+unfolding commit newTable userTags
 saved-opens f bytes room h a = rw (table-is _ _ _ a, ← e) (legal-opens (withUser (shown f) ts) l, legal-shown (withUser (shown f) ts) l)
   where
     ts : List Tag
     ts = newTable f bytes
 
     o : refusal f ≡ 0
-    o = save-lines f bytes room a .0
+    o = commit-lines f bytes room a .0
 
     l : Legal (withUser (shown f) ts)
     l =
-        let p = sheet-legal bytes (save-lines f bytes room a .1) in
-        withUser-legal (shown f) ts (opens-legal f h o .0) (applied-legal (changesOf bytes) (userTags f) (p .0) (p .1) (user-stands f h o .0) (save-lines f bytes room a .3))
+        let p = sheet-legal bytes (commit-lines f bytes room a .1) in
+        withUser-legal (shown f) ts (opens-legal f h o .0) (applied-legal (changesOf bytes) (userTags f) (p .0) (p .1) (user-stands f h o .0) (commit-lines f bytes room a .3))
 
     e : encode (withUser (shown f) ts) ≡ take (userOffset f) f ++ tableBytes ts
     e = withUser-bytes f (take (userOffset f) f) (shown f) ts (opens-legal f h o .1) (rw (← user-stands f h o .1) (take-append-drop (userOffset f) f))
@@ -275,14 +283,14 @@ unfolding legalTable
 table-few ts h = leb-true _ _ (both-true _ _ (both-true (leb (length ts) mostTags && every legalTag ts) (distinct (tagNames ts)) h .0) .0)
 
 -- An empty sheet gives the same table.
-pub save-nothing : (f : List ℕ) (room : ℕ)
+pub commit-nothing : (f : List ℕ) (room : ℕ)
     → areBytes f ≡ true
     → refusal f ≡ 0
     → length (drop (userOffset f) f) ≤ room
-    → (save f (0 ∷ []) room .refused ≡ 0)
-    × (save f (0 ∷ []) room .table ≡ drop (userOffset f) f)
-unfolding changesOf valueOr newTable save
-save-nothing f room h o r = (a, table-is _ _ _ a ∙ ap tableBytes t ∙ sym (u .1))
+    → (commit f (0 ∷ []) room .refused ≡ 0)
+    × (commit f (0 ∷ []) room .table ≡ drop (userOffset f) f)
+unfolding changesOf valueOr newTable commit
+commit-nothing f room h o r = (a, table-is _ _ _ a ∙ ap tableBytes t ∙ sym (u .1))
   where
     u : (legalTable (userTags f) ≡ true) × (drop (userOffset f) f ≡ tableBytes (userTags f))
     u = user-stands f h o
@@ -293,8 +301,8 @@ save-nothing f room h o r = (a, table-is _ _ _ a ∙ ap tableBytes t ∙ sym (u 
     t : newTable f (0 ∷ []) ≡ userTags f
     t = rw c (applied-none (userTags f))
 
-    a : save f (0 ∷ []) room .refused ≡ 0
-    a = save-accepted f (0 ∷ []) room .1 (o, rw sheet-none, rw c (λ i q. absurd (omega arith)), rw t (table-few (userTags f) (u .0)), rw (t, ← u .1) r)
+    a : commit f (0 ∷ []) room .refused ≡ 0
+    a = commit-accepted f (0 ∷ []) room .1 (o, rw sheet-none, rw c (λ i q. absurd (omega arith)), rw t (table-few (userTags f) (u .0)), rw (t, ← u .1) r)
 
 -- "Nobody looked" never conflicts.
 pub nobody-looked : (ts : List Tag) (c : Change) → c .seen ≡ nobodyLooked → conflicts ts c ≡ false

@@ -1,5 +1,5 @@
--- "Saving tags": sheets, and the save's order 1 to 7, 10, 11 with its place, 17, 9.
-use Prim.Native.Nat.{ℕ, zero, suc, _+_}
+-- "Saving tags": sheets; to look, in the order 1 to 7, 10; and to commit, in the order 1 to 7, 10, 11, 17, 9.
+use Prim.Native.Nat.{ℕ, zero, suc, _+_, _*_}
 use mathlib.Core.Bool.{Bool, true, false, not, _||_, cond}
 use mathlib.Core.List.{List, [], _∷_, _++_, map, flatMap}
 use lib.ListN.{length}
@@ -82,7 +82,7 @@ changeBytes c = shortString (c .name) ++ seenBytes (c .seen) ++ newBytes (c .new
 unfoldable pub sheetBytes : List Change → List ℕ
 sheetBytes cs = length cs ∷ flatMap changeBytes cs
 
--- ── To look: all seen entries are compared with the table before the save ──
+-- ── To compare: "All seen entries are compared with the table before the save" ──
 
 -- what a table has under a name
 unfoldable pub lookUp : List ℕ → List Tag → Entry
@@ -106,7 +106,7 @@ unfoldable pub someConflict : List Tag → List Change → Bool
 someConflict ts [] = false
 someConflict ts (c ∷ cs) = conflicts ts c || someConflict ts cs
 
--- "the lowest such place, from 0"
+-- "the lowest such place, from 0"; where none conflicts, the number of changes
 unfoldable pub conflictPlace : List Tag → List Change → ℕ
 conflictPlace ts [] = 0
 conflictPlace ts (c ∷ cs) = cond (conflicts ts c) 0 (suc (conflictPlace ts cs))
@@ -135,52 +135,79 @@ newTags ts (c ∷ cs) = cond (among (c .name) (tagNames ts)) [] (tagWith (c .nam
 unfoldable pub applied : List Change → List Tag → List Tag
 applied cs ts = keptTags cs ts ++ newTags ts cs
 
--- ── The save ──
+-- ── A sheet on a table ──
+
+-- 17 "more than 1,000 tags after a save"
+abbrev pub tooMany : List Tag → Bool
+tooMany ts = ltb mostTags (length ts)
+
+-- what a table refuses of a sheet: 11 "a seen entry disagrees", 17
+unfoldable pub tableLines : List Tag → List Change → List Line
+tableLines ts cs = line 11 (someConflict ts cs) ∷ line 17 (tooMany (applied cs ts)) ∷ []
+
+-- ── To look: "look runs 1 to 7, 10" ──
 
 unfoldable pub userTags : List ℕ → List Tag
 userTags f = shown f .user
-
-unfoldable pub newTable : (f sheet : List ℕ) → List Tag
-newTable f bytes = applied (changesOf bytes) (userTags f)
 
 -- 10 "a change sheet is malformed"
 abbrev pub badSheet : (sheet : List ℕ) → Bool
 badSheet bytes = isBad (exactly sheet bytes)
 
--- 11 "a seen entry disagrees"
-abbrev pub conflict : (f sheet : List ℕ) → Bool
-conflict f bytes = someConflict (userTags f) (changesOf bytes)
+unfoldable pub lookLines : (f sheet : List ℕ) → List Line
+lookLines f bytes = openingLines f ++ (line 10 (badSheet bytes) ∷ [])
 
--- 17 "more than 1,000 tags after a save"
-abbrev pub tableFull : (f sheet : List ℕ) → Bool
-tableFull f bytes = ltb mostTags (length (newTable f bytes))
+unfoldable pub lookRefusal : (f sheet : List ℕ) → ℕ
+lookRefusal f bytes = firstOf (lookLines f bytes)
 
-unfoldable pub saveLines : (f sheet : List ℕ) → (room : ℕ) → List Line
-saveLines f bytes room =
-    openingLines f
-    ++ (line 10 (badSheet bytes)
-    ∷ line 11 (conflict f bytes)
-    ∷ line 17 (tableFull f bytes)
-    ∷ line 9 (noRoom room (length (tableBytes (newTable f bytes))))
-    ∷ [])
+-- the place of the refusal: 10's "the first fault", and those of opening; else 0
+unfoldable pub lookPlace : (refused : ℕ) → (f sheet : List ℕ) → ℕ
+lookPlace n f bytes = cond (eqb n 10) (faultOf (exactly sheet bytes)) (openingPlace n f)
 
--- the place of the refusal: 10's "the first fault", 11's "the lowest such place", and those of opening; else 0
-unfoldable pub savePlace : (refused : ℕ) → (f sheet : List ℕ) → ℕ
-savePlace n f bytes =
-    cond (eqb n 10) (faultOf (exactly sheet bytes)) (cond (eqb n 11) (conflictPlace (userTags f) (changesOf bytes)) (openingPlace n f))
+-- the refusal number, 0 for none; its place; and "for each change, agrees or conflicts"
+pub record Look : Type 0 where
+  pub refused : ℕ
+  pub place : ℕ
+  pub conflicting : List Bool
 
-unfoldable pub saveRefusal : (f sheet : List ℕ) → (room : ℕ) → ℕ
-saveRefusal f bytes room = firstOf (saveLines f bytes room)
+unfoldable pub lookAnswer : (refused place : ℕ) → List Bool → Look
+lookAnswer zero place bs = record { refused = 0; place = 0; conflicting = bs }
+lookAnswer (suc n) place bs = record { refused = suc n; place = place; conflicting = [] }
+
+unfoldable pub look : (f sheet : List ℕ) → Look
+look f bytes = lookAnswer (lookRefusal f bytes) (lookPlace (lookRefusal f bytes) f bytes) (map (conflicts (userTags f)) (changesOf bytes))
+
+-- the changes that conflict as a set: a number with a bit for each change, 1 where it conflicts, the first one's lowest
+unfoldable pub bits : List Bool → ℕ
+bits [] = 0
+bits (b ∷ bs) = cond b 1 0 + 2 * bits bs
+
+-- ── To commit: "commit runs 1 to 7, 10, 11, 17, 9" ──
+
+unfoldable pub newTable : (f sheet : List ℕ) → List Tag
+newTable f bytes = applied (changesOf bytes) (userTags f)
+
+unfoldable pub commitLines : (f sheet : List ℕ) → (room : ℕ) → List Line
+commitLines f bytes room =
+    lookLines f bytes
+    ++ (tableLines (userTags f) (changesOf bytes) ++ (line 9 (noRoom room (length (tableBytes (newTable f bytes)))) ∷ []))
+
+unfoldable pub commitRefusal : (f sheet : List ℕ) → (room : ℕ) → ℕ
+commitRefusal f bytes room = firstOf (commitLines f bytes room)
+
+-- the place of the refusal: 11's "the lowest such place", and those of look; else 0
+unfoldable pub commitPlace : (refused : ℕ) → (f sheet : List ℕ) → ℕ
+commitPlace n f bytes = cond (eqb n 11) (conflictPlace (userTags f) (changesOf bytes)) (lookPlace n f bytes)
 
 -- the refusal number, 0 for none; its place; and the new user table in file form
-pub record Save : Type 0 where
+pub record Commit : Type 0 where
   pub refused : ℕ
   pub place : ℕ
   pub table : List ℕ
 
-unfoldable pub saveAnswer : (refused place : ℕ) → List Tag → Save
-saveAnswer zero place ts = record { refused = 0; place = 0; table = tableBytes ts }
-saveAnswer (suc n) place ts = record { refused = suc n; place = place; table = [] }
+unfoldable pub commitAnswer : (refused place : ℕ) → List Tag → Commit
+commitAnswer zero place ts = record { refused = 0; place = 0; table = tableBytes ts }
+commitAnswer (suc n) place ts = record { refused = suc n; place = place; table = [] }
 
-unfoldable pub save : (f sheet : List ℕ) → (room : ℕ) → Save
-save f bytes room = saveAnswer (saveRefusal f bytes room) (savePlace (saveRefusal f bytes room) f bytes) (newTable f bytes)
+unfoldable pub commit : (f sheet : List ℕ) → (room : ℕ) → Commit
+commit f bytes room = commitAnswer (commitRefusal f bytes room) (commitPlace (commitRefusal f bytes room) f bytes) (newTable f bytes)

@@ -1,17 +1,18 @@
 -- The look: what a table has under a name, and whether what was seen agrees with it.
 -- Assumes nothing.
-use Prim.Native.Nat.{ℕ, _+_, _-_, _^_, _<_, _≤_}
+use Prim.Native.Nat.{ℕ, zero, suc, _+_, _-_, _*_, _%_, _^_, _<_, _≤_}
+use native.Mathlib.Nat.{zero-add, add-zero, add-assoc, two-mul, mul-comm, mul-assoc, mul-zero, mul-suc, mul-one, mul-add, mod-add-mod, add-mod-mod, mod-eq-of-lt, mod-lt}
 use native.Mathlib.Omega.{arith}
-use mathlib.Core.Path.{_≡_, refl, sym, _∙_}
-use mathlib.Core.Bool.{Bool, true, false, not, cond}
-use mathlib.Core.List.{List}
+use mathlib.Core.Path.{_≡_, refl, sym, ap, ap₂, _∙_}
+use mathlib.Core.Bool.{Bool, true, false, not}
+use mathlib.Core.List.{List, [], _∷_}
 use lib.ListN.{length, take, drop, getD}
 use borrow.Author.Needs.{needs}
 use borrow.Author.Tests.{lt-ltb, le-ltb, ne-eqb}
 use mir.Syntax.{w64}
 use mir.Val.{Fits}
 use Rattle.layout.specs.Reading.{good, number, string}
-use Rattle.layout.specs.Saving.{Entry, sameEntry, agrees}
+use Rattle.layout.specs.Saving.{Entry, sameEntry, agrees, bits}
 use Rattle.parts.specs.Parts.{samePart}
 use Rattle.rows.specs.Rows.{entry, rest, rowName, rowOf}
 use Rattle.rows.specs.declared.Row.the-variants as row
@@ -22,11 +23,9 @@ use Rattle.parts.proofs.Taken.{then-parts}
 use Rattle.tables.proofs.Places.{number-parts}
 use Rattle.sheet.specs.Rows.{rowWith, tagWithName, changeWithName, changesAt, tagHolds, beside}
 use Rattle.sheet.specs.Values.{entryValue, valueIn, Stands, Finds}
-use Rattle.look.specs.Look.{isNothing, tagEntry, differs, lookedBy, lookOf}
+use Rattle.look.specs.Look.{isNothing, tagEntry, differs, comparedBy, compareOf, withBit}
 use Rattle.sheet.specs.declared.Value.{Value}
 use Rattle.sheet.specs.declared.Value.the-variants as value
-use Rattle.look.specs.declared.Looked.{Looked}
-use Rattle.look.specs.declared.Looked.the-variants as looked
 use Rattle.sheet.proofs.Values.{string-stands, first-of, entry-finds, row-rest, row-fits-2, tag-row-broken, tag-row-value, tag-row-end, tag-fits-3}
 use Rattle.sheet.proofs.Rows.{beside-done, beside-stop, beside-step}
 
@@ -111,40 +110,84 @@ kind-there s at len end r e f =
     then-parts (number 1) _ (drop (at + 1 + len) s) y a g (λ kind c d j u w.
     let z = number-parts 1 s (at + 1 + len) kind c (omega arith) (omega arith) j .0 in omega arith)))
 
-pub looked-start : (table sheet ps : List ℕ) → lookedBy table (beside ps (changesAt sheet 1 (length ps))) 0 ≡ lookOf table sheet ps
-unfolding lookOf
-looked-start table sheet ps = refl
+-- a factor may be taken by its lowest 64 bits
+factor-wraps : (s x z : ℕ) → (s + x % 2 ^ 64 * z) % 2 ^ 64 ≡ (s + x * z) % 2 ^ 64
+factor-wraps s x zero = rw (mul-zero (x % 2 ^ 64), mul-zero x)
+factor-wraps s x (suc z) =
+    rw (mul-suc (x % 2 ^ 64) z, mul-suc x z)
+    (ap (λ (k : ℕ). k % 2 ^ 64) (regroup s (x % 2 ^ 64 * z) (x % 2 ^ 64))
+    ∙ factor-wraps (s + x % 2 ^ 64) x z
+    ∙ ap (λ (k : ℕ). k % 2 ^ 64) (swap s (x % 2 ^ 64) (x * z))
+    ∙ add-mod-mod (s + x * z) x (2 ^ 64)
+    ∙ ap (λ (k : ℕ). k % 2 ^ 64) (add-assoc s (x * z) x))
+  where
+    regroup : (a b c : ℕ) → a + (b + c) ≡ a + c + b
+    regroup a b c = omega arith
 
-pub looked-done : (table ps s : List ℕ) (at left i : ℕ) (all : Looked) → left ≤ 0
-    → lookedBy table (beside (drop i ps) (changesAt s at left)) i ≡ all → looked.Agrees ≡ all
-unfolding lookedBy
-looked-done table ps s at left i all h e = sym (rw (beside-done (rowWith row.Change changeWithName) ps s i at left h)) ∙ e
+    swap : (a b c : ℕ) → a + b + c ≡ a + c + b
+    swap a b c = omega arith
 
-pub looked-stop : (table ps s : List ℕ) (at left i : ℕ) (r : RowPlace) (all : Looked) → r ≡ rowOf at (rowName row.Change (drop at s))
-    → r ≡ rowPlace.Broken → lookedBy table (beside (drop i ps) (changesAt s at left)) i ≡ all → looked.Agrees ≡ all
-unfolding lookedBy
-looked-stop table ps s at left i r all f g e = sym (rw (beside-stop row.Change changeWithName ps s i at left r f g)) ∙ e
+-- the set so far, and the changes that are left with the next bit
+unfoldable pub setWith : (set bit : ℕ) → List Bool → ℕ
+setWith set bit bs = (set + bit * bits bs) % 2 ^ 64
 
-looked-one : (table ps s : List ℕ) (at left len end i : ℕ) (r : RowPlace) → 0 < left → i + left ≤ length ps
+doubled : (x n : ℕ) → x * (2 * n) ≡ (x + x) * n
+doubled x n = sym (mul-assoc x 2 n) ∙ ap (λ (k : ℕ). k * n) (mul-comm x 2 ∙ two-mul x)
+
+-- one change more
+set-next : (set bit : ℕ) (b : Bool) (bs : List Bool) → setWith set bit (b ∷ bs) ≡ setWith (withBit set bit b) ((bit + bit) % 2 ^ 64) bs
+unfolding setWith withBit bits
+set-next set bit true bs =
+    ap (λ (k : ℕ). k % 2 ^ 64) (ap (λ (k : ℕ). set + k) (mul-add bit 1 (2 * bits bs) ∙ ap₂ _+_ (mul-one bit) (doubled bit (bits bs))) ∙ sym (add-assoc set bit _))
+    ∙ sym (mod-add-mod (set + bit) (2 ^ 64) ((bit + bit) * bits bs))
+    ∙ sym (factor-wraps ((set + bit) % 2 ^ 64) (bit + bit) (bits bs))
+set-next set bit false bs =
+    ap (λ (k : ℕ). (set + k) % 2 ^ 64) (ap (λ (k : ℕ). bit * k) (zero-add (2 * bits bs)) ∙ doubled bit (bits bs))
+    ∙ sym (factor-wraps set (bit + bit) (bits bs))
+
+pub set-start : (table sheet ps : List ℕ) → setWith 0 1 (comparedBy table (beside ps (changesAt sheet 1 (length ps)))) ≡ compareOf table sheet ps
+unfolding compareOf setWith
+set-start table sheet ps = ap (λ (k : ℕ). k % 2 ^ 64) (omega arith)
+
+-- with no change left, the set is whole
+set-whole : (set bit all : ℕ) → set < 2 ^ 64 → setWith set bit [] ≡ all → set ≡ all
+unfolding setWith bits
+set-whole set bit all h e = sym (mod-eq-of-lt h) ∙ ap (λ (k : ℕ). k % 2 ^ 64) (sym (ap (λ (k : ℕ). set + k) (mul-zero bit) ∙ add-zero set)) ∙ e
+
+pub looked-done : (table ps s : List ℕ) (at left i set bit all : ℕ) → left ≤ 0 → set < 2 ^ 64
+    → setWith set bit (comparedBy table (beside (drop i ps) (changesAt s at left))) ≡ all → set ≡ all
+unfolding comparedBy
+looked-done table ps s at left i set bit all h w e = set-whole set bit all w (rw (beside-done (rowWith row.Change changeWithName) ps s i at left h) at e)
+
+pub looked-stop : (table ps s : List ℕ) (at left i set bit all : ℕ) (r : RowPlace) → r ≡ rowOf at (rowName row.Change (drop at s))
+    → r ≡ rowPlace.Broken → set < 2 ^ 64 → setWith set bit (comparedBy table (beside (drop i ps) (changesAt s at left))) ≡ all → set ≡ all
+unfolding comparedBy
+looked-stop table ps s at left i set bit all r f g w e = set-whole set bit all w (rw (beside-stop row.Change changeWithName ps s i at left r f g) at e)
+
+pub looked-step : (table ps s : List ℕ) (at left len end i set bit set′ bit′ all : ℕ) (r : RowPlace) (d : Bool) → 0 < left → i + left ≤ length ps
     → r ≡ rowOf at (rowName row.Change (drop at s)) → r ≡ rowPlace.Whole len end
-    → lookedBy table (beside (drop i ps) (changesAt s at left)) i ≡ cond
-    (differs (tagEntry table (getD ps i 0)) (changeWithName (take len (drop (at + 1) s)) (drop (at + 1 + len) s))) (looked.Conflict i)
-    (lookedBy table (beside (drop (i + 1) ps) (changesAt s end (left - 1))) (i + 1))
-unfolding lookedBy
-looked-one table ps s at left len end i r h l f g = rw (beside-step row.Change changeWithName ps s i at left len end r h l f g)
+    → d ≡ differs (tagEntry table (getD ps i 0)) (changeWithName (take len (drop (at + 1) s)) (drop (at + 1 + len) s))
+    → set′ ≡ withBit set bit d → bit′ ≡ (bit + bit) % 2 ^ 64
+    → setWith set bit (comparedBy table (beside (drop i ps) (changesAt s at left))) ≡ all
+    → setWith set′ bit′ (comparedBy table (beside (drop (i + 1) ps) (changesAt s end (left - 1)))) ≡ all
+unfolding comparedBy
+looked-step table ps s at left len end i set bit set′ bit′ all r d h l f g j k m e =
+    let n = rw (beside-step row.Change changeWithName ps s i at left len end r h l f g, ← j) at e in
+    rw (k, m) (sym (set-next set bit d _) ∙ n)
 
-pub looked-hit : (table ps s : List ℕ) (at left len end i : ℕ) (r : RowPlace) (d : Bool) (all : Looked) → 0 < left → i + left ≤ length ps
-    → r ≡ rowOf at (rowName row.Change (drop at s)) → r ≡ rowPlace.Whole len end
-    → d ≡ differs (tagEntry table (getD ps i 0)) (changeWithName (take len (drop (at + 1) s)) (drop (at + 1 + len) s)) → d ≡ true
-    → lookedBy table (beside (drop i ps) (changesAt s at left)) i ≡ all → looked.Conflict i ≡ all
-looked-hit table ps s at left len end i r d all h l f g j k e = sym (looked-one table ps s at left len end i r h l f g ∙ rw (← j, k)) ∙ e
+-- a set has 64 bits
+pub set-fits : (set bit set′ : ℕ) (b : Bool) → set < 2 ^ 64 → set′ ≡ withBit set bit b → set′ < 2 ^ 64
+unfolding withBit
+set-fits set bit set′ true h e = rw e (mod-lt (set + bit) (omega arith))
+set-fits set bit set′ false h e = rw e h
 
-pub looked-step : (table ps s : List ℕ) (at left len end i : ℕ) (r : RowPlace) (d : Bool) (all : Looked) → 0 < left → i + left ≤ length ps
-    → r ≡ rowOf at (rowName row.Change (drop at s)) → r ≡ rowPlace.Whole len end
-    → d ≡ differs (tagEntry table (getD ps i 0)) (changeWithName (take len (drop (at + 1) s)) (drop (at + 1 + len) s)) → d ≡ false
-    → lookedBy table (beside (drop i ps) (changesAt s at left)) i ≡ all
-    → lookedBy table (beside (drop (i + 1) ps) (changesAt s end (left - 1))) (i + 1) ≡ all
-looked-step table ps s at left len end i r d all h l f g j k e = sym (looked-one table ps s at left len end i r h l f g ∙ rw (← j, k)) ∙ e
+pub bit-set : (set bit n : ℕ) (b : Bool) → b ≡ true → n ≡ (set + bit) % 2 ^ 64 → n ≡ withBit set bit b
+unfolding withBit
+bit-set set bit n b e h = rw e h
+
+pub bit-left : (set bit : ℕ) (b : Bool) → b ≡ false → set ≡ withBit set bit b
+unfolding withBit
+bit-left set bit b e = rw e
 
 pub ruleset laws = (
   needs,
@@ -167,9 +210,11 @@ pub ruleset laws = (
   looked-at,
   entry-stands,
   kind-there,
-  looked-start,
+  bit-set,
+  bit-left,
+  set-start,
+  set-fits,
   looked-done,
   looked-stop,
-  looked-hit,
   looked-step,
 )

@@ -8,13 +8,7 @@ ghost use lib.ListN.{length, take, drop};
 ghost use Rattle.layout.specs.Saving.{sameEntry};
 ghost use Rattle.sheet.specs.Rows.{rowWith, tagWithName, changeWithName, tagHolds};
 ghost use Rattle.sheet.specs.Values.{valueIn, Stands, Finds};
-ghost use Rattle.look.specs.Look.{isNothing, tagEntry, differs, lookOf};
-
-// Whether the seen entries agree with the table, or the lowest place that does not, from 0.
-pub enum Looked {
-    Agrees,
-    Conflict(usize),
-}
+ghost use Rattle.look.specs.Look.{isNothing, tagEntry, differs, withBit, compareOf};
 
 // The value of the tag at a place.
 fn held_value(table: &[u8], place: usize) -> Value
@@ -63,7 +57,7 @@ fn is_nothing(value: Value) -> bool
     }
 }
 
-// Whether what a change has seen is not what the tag at a place holds.
+// Whether what a change saw is not what the tag at a place holds. Where nobody looked it is not so.
 fn disagrees(sheet: &[u8], place: usize, len: usize, table: &[u8], tag: usize) -> bool
     requires { ⌜ place + 1 + len < length (now sheet) ⌝ }
     ensures { λ r. ⌜ r ≡ differs (tagEntry (now (table .entry)) tag) (changeWithName (take len (drop (place + 1) (now (sheet .entry)))) (drop (place + 1 + len) (now (sheet .entry)))) ⌝ }
@@ -77,24 +71,37 @@ fn disagrees(sheet: &[u8], place: usize, len: usize, table: &[u8], tag: usize) -
     !same_value(sheet, value, table, old)
 }
 
-// "All seen entries are compared with the table before the save." `places` has for each change where its tag stands, or 0.
-pub fn compare(table: &[u8], sheet: &[u8], places: &[usize]) -> Looked
-    ensures { λ r. ⌜ r ≡ lookOf (now (table .entry)) (now (sheet .entry)) (now (places .entry)) ⌝ }
+// The set with the bit of a change, where that conflicts.
+fn with_bit(set: u64, bit: u64, conflicts: bool) -> u64
+    ensures { λ r. ⌜ r ≡ withBit set bit conflicts ⌝ }
 {
+    if conflicts {
+        return std::num::wrapping_add_u64(set, bit);
+    }
+    set
+}
+
+// "All seen entries are compared with the table before the save." Which of them disagree: a set with a bit for each change, the first one's lowest, and none
+// for those behind the 64th. `places` has for each change where its tag stands, or 0.
+pub fn compare(table: &[u8], sheet: &[u8], places: &[usize]) -> u64
+    ensures { λ r. ⌜ r ≡ compareOf (now (table .entry)) (now (sheet .entry)) (now (places .entry)) ⌝ }
+{
+    let mut set = 0;
+    let mut bit = 1;
     let mut place = 1;
     let mut passed = 0;
     let mut left = places.len();
     while 0 < left {
         let row = rows::row_at(sheet, place, Row::Change);
         let RowPlace::Whole(len, end) = row else {
-            return Looked::Agrees;
+            return set;
         };
-        if disagrees(sheet, place, len, table, places[passed]) {
-            return Looked::Conflict(passed);
-        }
+        let conflicts = disagrees(sheet, place, len, table, places[passed]);
+        set = with_bit(set, bit, conflicts);
+        bit = std::num::wrapping_add_u64(bit, bit);
         place = end;
         passed += 1;
         left -= 1;
     }
-    Looked::Agrees
+    set
 }

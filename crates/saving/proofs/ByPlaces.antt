@@ -1,6 +1,6 @@
 -- That by places the table and the sheet say the same as by names.
 -- Assumes nothing.
-use Prim.Native.Nat.{ℕ, zero, suc, _+_, _-_, _<_}
+use Prim.Native.Nat.{ℕ, zero, suc, _+_, _-_, _<_, _≤_}
 use native.Mathlib.Omega.{arith}
 use mathlib.Core.Path.{_≡_, refl, ap, sym, _∙_}
 use mathlib.Core.Bool.{Bool, true, false, cond, _||_}
@@ -17,10 +17,8 @@ use Rattle.rows.specs.declared.Row.the-variants as row
 use Rattle.names.specs.declared.NameFound.{NameFound}
 use Rattle.names.specs.declared.NameFound.the-variants as found
 use Rattle.sheet.specs.Rows.{rows, rowWith, tagWithName, made, tagHolds, changeWithName, changesAt, pair, beside, tagsAt, changeMakes}
-use Rattle.layout.specs.Saving.{Change, conflicts, someConflict, conflictPlace, absent, holds, lookUp, newEntry, tagWith, keptTags, newTags, applied}
-use Rattle.look.specs.Look.{tagEntry, differs, lookedBy, lookOf}
-use Rattle.saving.specs.Save.{lookedFrom, lookedAt}
-use Rattle.look.specs.declared.Looked.the-variants as looked
+use Rattle.layout.specs.Saving.{Change, conflicts, absent, holds, lookUp, newEntry, tagWith, keptTags, newTags, applied}
+use Rattle.look.specs.Look.{tagEntry, differs, comparedBy}
 use Rattle.sheet.proofs.Values.{row-makes-none, row-read}
 use Rattle.sheet.proofs.Rows.{rows-more, rows-none, no-rows, beside-none}
 use lib.Dec.{eqb, ltb}
@@ -64,26 +62,6 @@ module _ {A B : Type 0} (k : Row) (make : List ℕ → List ℕ → A) (name : L
   unfolding foundIn
   by-found zero s i at = rw (no-rows (rowWith k make) (drop at s), no-found name (rowName k) s i at) nil
   by-found (suc n) s i at = found-step n s i at (rowName k (drop at s)) refl (by-found n s)
-
--- ── The look ──
-
--- the look answers the layout's place of conflict
-pub looked-is : (ts : List Tag) (cs : List Change) (i : ℕ) → lookedFrom ts cs i ≡ cond (someConflict ts cs)
-    (looked.Conflict (i + conflictPlace ts cs)) looked.Agrees
-unfolding lookedFrom someConflict conflictPlace
-looked-is ts [] i = refl
-looked-is ts (c ∷ cs) i = go (conflicts ts c) (looked-is ts cs (i + 1))
-  where
-    later : (b : Bool) → cond b (looked.Conflict (i + 1 + conflictPlace ts cs)) looked.Agrees ≡ cond b
-        (looked.Conflict (i + suc (conflictPlace ts cs))) looked.Agrees
-    later true = ap looked.Conflict (omega arith)
-    later false = refl
-
-    go : (b : Bool) → lookedFrom ts cs (i + 1) ≡ cond (someConflict ts cs) (looked.Conflict (i + 1 + conflictPlace ts cs)) looked.Agrees
-        → cond b (looked.Conflict i) (lookedFrom ts cs (i + 1)) ≡ cond (b || someConflict ts cs)
-        (looked.Conflict (i + cond b 0 (suc (conflictPlace ts cs)))) looked.Agrees
-    go true ih = ap looked.Conflict (omega arith)
-    go false ih = ih ∙ later (someConflict ts cs)
 
 -- ── By places as by names ──
 
@@ -232,11 +210,23 @@ module _ (table : List ℕ) (at n : ℕ) (z : 0 < at) where
   new-same [] = refl
   new-same (c ∷ cs) = rw (new-by-place table at n z c, new-same cs)
 
-  looks-same : (cs : List Change) (i : ℕ) → lookedBy table (map (λ c. pair (tagPlace table at n (c .name)) c) cs) i ≡ lookedFrom
-      (tagsAt table at n) cs i
-  unfolding lookedBy lookedFrom differs conflicts
-  looks-same [] i = refl
-  looks-same (c ∷ cs) i = rw (entry-by-place (c .name) table at n z, looks-same cs (i + 1))
+  conflicts-same : (cs : List Change) → comparedBy table (map (λ c. pair (tagPlace table at n (c .name)) c) cs) ≡ map (conflicts (tagsAt table at n)) cs
+  unfolding comparedBy differs conflicts
+  conflicts-same [] = refl
+  conflicts-same (c ∷ cs) = rw (entry-by-place (c .name) table at n z, conflicts-same cs)
+
+-- no more changes than are asked for
+rows-few : {A : Type 0} (k : Row) (make : List ℕ → List ℕ → A) (n : ℕ) (t : List ℕ) → length (rows n (rowWith k make) t) ≤ n
+rows-few k make zero t = rw (no-rows (rowWith k make) t) (omega arith)
+rows-few k make (suc n) t = go (rowName k t) refl (rows-few k make n)
+  where
+    go : (r : Parsed (List ℕ)) → rowName k t ≡ r → ((t : List ℕ) → length (rows n (rowWith k make) t) ≤ n)
+        → length (rows (suc n) (rowWith k make) t) ≤ suc n
+    go (bad j) e ih = rw (rows-none n (rowWith k make) t (row-makes-none k make t e)) (omega arith)
+    go (good v m) e ih = rw (rows-more n (rowWith k make) t _ m (row-read k make t v m e)) (omega (arith, ih (drop m t)))
+
+pub changes-few : (sheet : List ℕ) (k : ℕ) → length (changesAt sheet 1 k) ≤ k
+changes-few sheet k = rows-few row.Change changeWithName k (drop 1 sheet)
 
 module _ (table : List ℕ) (at n : ℕ) (sheet : List ℕ) (k : ℕ) (ps : List ℕ) (w : Placed table at n sheet k ps) (m : length ps ≡ k) where
   placed-changes : beside ps (changesAt sheet 1 k) ≡ map (λ c. pair (tagPlace table at n (c .name)) c) (changesAt sheet 1 k)
@@ -248,7 +238,6 @@ module _ (table : List ℕ) (at n : ℕ) (sheet : List ℕ) (k : ℕ) (ps : List
   unfolding tagsBy addedBy applied
   tags-by walk a b = rw (a, b, kept-all table at n sheet k, m, placed-changes, new-same table at n (w .behind) (changesAt sheet 1 k))
 
-  -- the look by places is the look
-  pub looks-by : lookOf table sheet ps ≡ lookedAt table at n sheet k
-  unfolding lookOf lookedAt
-  looks-by = rw (m, placed-changes) (looks-same table at n (w .behind) (changesAt sheet 1 k) 0)
+  -- the changes that conflict by places are those that conflict
+  pub conflicts-by : comparedBy table (beside ps (changesAt sheet 1 (length ps))) ≡ map (conflicts (tagsAt table at n)) (changesAt sheet 1 k)
+  conflicts-by = rw (m, placed-changes) (conflicts-same table at n (w .behind) (changesAt sheet 1 k))

@@ -1,3 +1,5 @@
 pub mod ByPlaces
-pub mod Saves
+pub mod Sets
+pub mod Requests
+pub mod Answered
 pub mod Outcomes

@@ -1,34 +1,106 @@
-// Saving tags: the change sheet, the look at what was seen, and the new user table.
+// Saving tags: to look at what a sheet's changes have seen, and to commit them.
 use apply::Applied;
 use apply::Walk;
 use header::Header;
-use look::Looked;
 use opening::Opening;
 use refusal::Refusal;
 use sheet::Sheet;
 ghost use mathlib.Core.Path.{_≡_};
 ghost use lib.ListN.{length};
-ghost use Rattle.saving.specs.Save.{outcome, answerOf, savedIn, saveOf, Legal, Begun};
+ghost use Rattle.saving.specs.Answers.{askedOf, setIn, lookOf, outcome, answerOf, committedIn, commitOf};
+ghost use Rattle.saving.specs.Begun.{Legal, Begun};
 
-// What a save answers: the length of the new table, or the refusal, whose place is in the file for 3, 4 and 7 and in the sheet for 10; 11's is the
-// number of the change.
-pub enum Saved {
+// What a sheet asks of a file: so many changes of the `tags` tags that stand from `at` on.
+enum Asked {
+    Changes {
+        at: usize,
+        tags: usize,
+        changes: usize,
+    },
+    Refused(Refusal),
+}
+
+// What look answers: the number of changes, and the set of those that conflict, the first one's bit lowest; or the refusal, whose place is in the file for 3,
+// 4 and 7 and in the sheet for 10.
+pub enum Looked {
+    Changes(usize, u64),
+    Refused(Refusal),
+}
+
+// What a commit answers: the length of the new table, or the refusal, with look's places; 11's is the number of the change, from 0.
+pub enum Committed {
     Table(usize),
     Refused(Refusal),
 }
 
-// What was applied, as a save answers it.
-fn answer_of(applied: Applied) -> Saved
-    ensures { λ r. ⌜ r ≡ answerOf applied ⌝ }
+// What look and commit begin with: 1 to 7, 10.
+fn asked_of(file: &[u8], sheet: &[u8]) -> Asked
+    ensures { λ r. ⌜ r ≡ askedOf (now (file .entry)) (now (sheet .entry)) ⌝ }
 {
-    match applied {
-        Applied::Table(bytes) => Saved::Table(bytes),
-        Applied::Refused(refusal) => Saved::Refused(refusal),
+    let opening = opening::open(file);
+    let Opening::Opened(held) = opening else {
+        return Asked::Refused(opening::open_refusal(opening));
+    };
+    match sheet::changes_of(sheet) {
+        Sheet::Whole(changes) => Asked::Changes {
+            at: held.user + 4,
+            tags: held.user_tags,
+            changes,
+        },
+        Sheet::Broken(place) => Asked::Refused(Refusal::SHEET.at(place)),
     }
 }
 
-// The look, and the new table where all seen entries agree. `list` has room for the tags of all changes, `places` has a place for each change.
-fn look_and_apply(
+// The changes that conflict. `list` has room for the tags of all changes, `places` has a place for each change.
+fn compare_changes(
+    table: &[u8],
+    at: usize,
+    n: usize,
+    sheet: &[u8],
+    list: &mut [usize],
+    places: &mut [usize],
+) -> u64
+    requires { ⌜ Begun (now table) at n (now sheet) (now list) (now places) ⌝ }
+    ensures { λ r. ⌜ r ≡ setIn (now (table .entry)) at n (now (sheet .entry)) (length (now (places .entry))) ⌝ }
+{
+    places::place_tags(table, at, n, sheet, list, places);
+    look::compare(table, sheet, places)
+}
+
+// The same with places for the changes, and a list for their tags.
+fn conflicts(table: &[u8], at: usize, n: usize, sheet: &[u8], changes: usize) -> u64
+    requires { ⌜ Legal (now table) at n (now sheet) changes ⌝ }
+    ensures { λ r. ⌜ r ≡ setIn (now (table .entry)) at n (now (sheet .entry)) changes ⌝ }
+{
+    let mut list = [0; places::WORDS];
+    let mut places = [0; Header::MOST_CHANGES];
+    compare_changes(table, at, n, sheet, &mut list, &mut places[..changes])
+}
+
+// "Look takes a file and a sheet and answers, for each change, agrees or conflicts": 1 to 7, 10.
+pub fn look(file: &[u8], sheet: &[u8]) -> Looked
+    ensures { λ r. ⌜ r ≡ lookOf (now (file .entry)) (now (sheet .entry)) ⌝ }
+{
+    match asked_of(file, sheet) {
+        Asked::Changes { at, tags, changes } => {
+            Looked::Changes(changes, conflicts(file, at, tags, sheet, changes))
+        }
+        Asked::Refused(refusal) => Looked::Refused(refusal),
+    }
+}
+
+// What was applied, as a commit answers it.
+fn answer_of(applied: Applied) -> Committed
+    ensures { λ r. ⌜ r ≡ answerOf applied ⌝ }
+{
+    match applied {
+        Applied::Table(bytes) => Committed::Table(bytes),
+        Applied::Refused(refusal) => Committed::Refused(refusal),
+    }
+}
+
+// The new table, where no change conflicts; else the lowest that does. `list` and `places` as above.
+fn apply_changes(
     table: &[u8],
     at: usize,
     n: usize,
@@ -36,15 +108,15 @@ fn look_and_apply(
     list: &mut [usize],
     places: &mut [usize],
     out: &mut [u8],
-) -> Saved
+) -> Committed
     requires { ⌜ Begun (now table) at n (now sheet) (now list) (now places) ⌝ }
-    ensures { λ r. ⌜ outcome r (now (out .exit)) ≡ savedIn (now (table .entry)) at n (now (sheet .entry)) (length (now (places .entry))) (now (out .entry)) ⌝ }
+    ensures { λ r. ⌜ outcome r (now (out .exit)) ≡ committedIn (now (table .entry)) at n (now (sheet .entry)) (length (now (places .entry))) (now (out .entry)) ⌝ }
 {
     let words = places::place_tags(table, at, n, sheet, list, places);
-    let looked = look::compare(table, sheet, places);
-    if let Looked::Conflict(place) = looked {
+    let set = look::compare(table, sheet, places);
+    if 0 < set {
         let conflict = Refusal::CONFLICT;
-        return Saved::Refused(conflict.at(place));
+        return Committed::Refused(conflict.at(u64::trailing_zeros(set) as usize));
     }
     let walk = Walk {
         changes: places.len(),
@@ -56,34 +128,30 @@ fn look_and_apply(
 }
 
 // The same with places for the changes, and a list for their tags.
-fn save_changes(
+fn commit_changes(
     table: &[u8],
     at: usize,
     n: usize,
     sheet: &[u8],
     changes: usize,
     out: &mut [u8],
-) -> Saved
+) -> Committed
     requires { ⌜ Legal (now table) at n (now sheet) changes ⌝ }
-    ensures { λ r. ⌜ outcome r (now (out .exit)) ≡ savedIn (now (table .entry)) at n (now (sheet .entry)) changes (now (out .entry)) ⌝ }
+    ensures { λ r. ⌜ outcome r (now (out .exit)) ≡ committedIn (now (table .entry)) at n (now (sheet .entry)) changes (now (out .entry)) ⌝ }
 {
     let mut list = [0; places::WORDS];
     let mut places = [0; Header::MOST_CHANGES];
-    look_and_apply(table, at, n, sheet, &mut list, &mut places[..changes], out)
+    apply_changes(table, at, n, sheet, &mut list, &mut places[..changes], out)
 }
 
-// "A save: 1 to 7, 10, 11, 17, 9." The answer is the new user table.
-pub fn save(file: &[u8], sheet: &[u8], out: &mut [u8]) -> Saved
-    ensures { λ r. ⌜ outcome r (now (out .exit)) ≡ saveOf (now (file .entry)) (now (sheet .entry)) (now (out .entry)) ⌝ }
+// "Commit does what the save did": 1 to 7, 10, 11, 17, 9. The answer is the new user table.
+pub fn commit(file: &[u8], sheet: &[u8], out: &mut [u8]) -> Committed
+    ensures { λ r. ⌜ outcome r (now (out .exit)) ≡ commitOf (now (file .entry)) (now (sheet .entry)) (now (out .entry)) ⌝ }
 {
-    let opening = opening::open(file);
-    let Opening::Opened(held) = opening else {
-        return Saved::Refused(opening::open_refusal(opening));
-    };
-    match sheet::changes_of(sheet) {
-        Sheet::Whole(changes) => {
-            save_changes(file, held.user + 4, held.user_tags, sheet, changes, out)
+    match asked_of(file, sheet) {
+        Asked::Changes { at, tags, changes } => {
+            commit_changes(file, at, tags, sheet, changes, out)
         }
-        Sheet::Broken(place) => Saved::Refused(Refusal::SHEET.at(place)),
+        Asked::Refused(refusal) => Committed::Refused(refusal),
     }
 }

@@ -1,7 +1,8 @@
 // The vectors of saving: runs those that its arguments name, and prints a line for each.
 // tests/VECTORS.md says what a vector holds and how its line reads.
 use refusal::Refusal;
-use saving::Saved;
+use saving::Committed;
+use saving::Looked;
 use vector::lend::lent;
 use vector::print::no_vector;
 use vector::print::refused;
@@ -14,25 +15,38 @@ use vector::sweep::turn_bytes;
 use vector::sweep::turn_length;
 use vector::sweep::turns;
 
-const SAVE: u8 = b's';
+const COMMIT: u8 = b'm';
+
+const LOOK: u8 = b'l';
 
 const SWEEP_OF_FILE: u8 = b'U';
 
 const SWEEP_OF_SHEET: u8 = b'S';
 
-fn table(saved: Saved) {
-    match saved {
-        Saved::Table(length) => with(b"saved ", length as u64),
-        Saved::Refused(refusal) => refused(refusal),
+fn conflicts(looked: Looked) {
+    match looked {
+        Looked::Changes(changes, set) => {
+            with(b"looked ", changes as u64);
+            with(b" set ", set);
+        }
+        Looked::Refused(refusal) => refused(refusal),
     }
 }
 
-fn saved(file: &[u8], sheet: &[u8], out: &mut [u8]) {
-    table(saving::save(file, sheet, out));
+fn table(committed: Committed) {
+    match committed {
+        Committed::Table(length) => with(b"committed ", length as u64),
+        Committed::Refused(refusal) => refused(refusal),
+    }
+}
+
+fn committed(file: &[u8], sheet: &[u8], out: &mut [u8]) {
+    table(saving::commit(file, sheet, out));
     with_check(b" out ", out);
 }
 
-fn save(fields: &[u8]) {
+// A look and a commit have the same fields, of which the room is commit's alone.
+fn call(kind: u8, fields: &[u8]) {
     if fields.len() < 4 {
         no_vector();
         return;
@@ -44,29 +58,49 @@ fn save(fields: &[u8]) {
         no_vector();
         return;
     }
+    if kind == LOOK {
+        conflicts(saving::look(&given[length..], &given[..length]));
+        return;
+    }
     let mut space = lent(0x5A);
     let out: &mut [u8] = &mut space;
     if room <= out.len() {
-        saved(&given[length..], &given[..length], &mut out[..room]);
+        committed(&given[length..], &given[..length], &mut out[..room]);
     }
 }
 
-fn refusal_of(saved: Saved) -> Refusal {
-    if let Saved::Refused(refusal) = saved {
+// What a sweep's check takes of a look: its refusal, or none, with the set where the place stands.
+fn told(looked: Looked) -> Refusal {
+    match looked {
+        Looked::Changes(_, set) => Refusal {
+            number: 0,
+            place: set as usize,
+        },
+        Looked::Refused(refusal) => refusal,
+    }
+}
+
+fn refusal_of(committed: Committed) -> Refusal {
+    if let Committed::Refused(refusal) = committed {
         return refusal;
     }
     Refusal::NONE
 }
 
+// A look, then a commit.
+fn both(file: &[u8], sheet: &[u8], before: Tally) -> Tally {
+    let mut out = [0; 512];
+    let looked = vector::sweep::tried(before, told(saving::look(file, sheet)));
+    let committed = saving::commit(file, sheet, &mut out);
+    vector::sweep::tried(looked, refusal_of(committed))
+}
+
 // A sweep changes the sheet or the file, and leaves the other as it is.
 fn tried(kind: u8, bytes: &[u8], other: &[u8], before: Tally) -> Tally {
-    let mut out = [0; 512];
     if kind == SWEEP_OF_SHEET {
-        let saved = saving::save(other, bytes, &mut out);
-        return vector::sweep::tried(before, refusal_of(saved));
+        return both(other, bytes, before);
     }
-    let saved = saving::save(bytes, other, &mut out);
-    vector::sweep::tried(before, refusal_of(saved))
+    both(bytes, other, before)
 }
 
 // Each turn of a sweep.
@@ -122,7 +156,7 @@ fn answer(vector: &[u8]) {
     }
     let fields = &vector[1..];
     match vector[0] {
-        SAVE => save(fields),
+        COMMIT | LOOK => call(vector[0], fields),
         SWEEP_OF_FILE | SWEEP_OF_SHEET => swept(vector[0], fields),
         _ => no_vector(),
     }

@@ -1,23 +1,26 @@
-use Prim.Native.Nat.{_+_, _≤_}
+use Prim.Native.Nat.{_+_, _^_, _<_, _≤_}
 use mathlib.Core.Path.{_≡_}
 use lib.ListN.{length, drop}
 use Rattle.sheet.specs.Rows.{changesAt, beside}
-use Rattle.look.specs.Look.{lookedBy, lookOf}
-use Rattle.look.proofs.Looks.{laws}
+use Rattle.look.specs.Look.{comparedBy, compareOf}
+use Rattle.look.proofs.Looks.{setWith, laws}
 use Rattle.look.proofs.compare.Statement.{statement}
 use Rattle.look.proofs.compare.Tie as tie
 use Rattle.look.proofs.compare.Reads as reads
 use Rattle.look.proofs.compare.Lts as lts
 use Rattle.look.proofs.disagrees.Reads as disagrees-reads
+use Rattle.look.proofs.with_bit.Reads as with-bit-reads
 use Rattle.rows.proofs.row_at.Reads as row-at-reads
+use Rattle.std.proofs.num.wrapping_add_u64.Reads as wrapping-add-u64-reads
 
 abbrev Inv-loop : tie.InvT-loop
-Inv-loop table sheet places place₀ passed₀ left₀ place passed left =
+Inv-loop table sheet places set₀ bit₀ place₀ passed₀ left₀ set bit place passed left =
     (passed + left ≤ length places)
-    × (lookedBy table (beside (drop passed places) (changesAt sheet place left)) passed ≡ lookOf table sheet places)
+    × (set < 2 ^ 64)
+    × (setWith set bit (comparedBy table (beside (drop passed places) (changesAt sheet place left))) ≡ compareOf table sheet places)
 
 abbrev μ-loop : tie.MeasureT-loop
-μ-loop table sheet places place₀ passed₀ left₀ place passed left = left
+μ-loop table sheet places set₀ bit₀ place₀ passed₀ left₀ set bit place passed left = left
 
 loop-holds : tie.Need-loop-holds Inv-loop μ-loop
 loop-holds c = search laws
@@ -43,8 +46,11 @@ shared-slice-read-disagrees c = search laws
 disagrees-requires : tie.Need-disagrees-requires Inv-loop μ-loop
 disagrees-requires c κs = search laws
 
-returns-2 : tie.Need-returns-2 Inv-loop μ-loop
-returns-2 c = search laws
+with-bit-requires : tie.Need-with-bit-requires Inv-loop μ-loop
+with-bit-requires c κs = search laws
+
+wrapping-add-u64-requires : tie.Need-wrapping-add-u64-requires Inv-loop μ-loop
+wrapping-add-u64-requires c κs = search laws
 
 add-passed : tie.Need-add-passed Inv-loop μ-loop
 add-passed c = search laws
@@ -58,8 +64,8 @@ loop-less c = search laws
 loop-again : tie.Need-loop-again Inv-loop μ-loop
 loop-again c = search laws
 
-returns-3 : tie.Need-returns-3 Inv-loop μ-loop
-returns-3 c = search laws
+returns-2 : tie.Need-returns-2 Inv-loop μ-loop
+returns-2 c = search laws
 
 pub compare-spec : {M : Type 1} → statement M
 compare-spec =
@@ -75,9 +81,10 @@ compare-spec =
     mul-disagrees
     shared-slice-read-disagrees
     disagrees-requires
-    returns-2
+    with-bit-requires
+    wrapping-add-u64-requires
     add-passed
     sub-left
     loop-less
     loop-again
-    returns-3)
+    returns-2)

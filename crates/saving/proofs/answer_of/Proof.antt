@@ -1,4 +1,4 @@
-use Rattle.saving.proofs.Saves.{laws}
+use Rattle.saving.proofs.Answered.{laws}
 use borrow.Author.Needs.{needs}
 use Rattle.saving.proofs.answer_of.Statement.{statement}
 use Rattle.saving.proofs.answer_of.Tie as tie
