@@ -1,4 +1,5 @@
-//! Saving tags: a change sheet against the file's user table.
+//! Saving tags: a change sheet against the file's user table. Look tells which
+//! changes conflict, commit makes the new table.
 
 use crate::faults;
 use crate::layout::{is_text, Cursor, Filler, Header};
@@ -7,77 +8,165 @@ use crate::opening::{front, rest};
 use crate::refusal::{self, Refusal};
 use crate::table::{tag_from, FIRST_TAG};
 
-/// Fills the output with the new user table and hands back its length.
-pub fn save(file: &[u8], sheet: &[u8], out: &mut [u8]) -> Result<u64, Refusal> {
-    let mut names = TableNames::new();
-    let front = front(file, &mut names)?;
-    let rest = rest(file, &front, &mut names)?;
-    let changes = read_sheet(sheet).ok_or_else(|| faults::sheet(sheet))?;
-    let table = &file[rest.user..];
+/// What look answers: how many changes the sheet has, and which of them
+/// conflict.
+#[derive(Debug, Clone, Copy, PartialEq, Eq)]
+pub struct Looked {
+    pub changes: u64,
+    /// Bit `i`, worth 2^`i`, is set if change `i` conflicts. A sheet has no
+    /// more changes than there are bits.
+    pub conflicts: u64,
+}
 
-    // All seen entries are compared before anything is changed.
-    let mut edits = Vec::with_capacity(changes.len());
-    let mut added = Vec::with_capacity(changes.len());
-    let mut tags = rest.user_tags;
-    let mut length = table.len();
-    for (place, change) in changes.iter().enumerate() {
-        let found = names
-            .find(table, change.name)
-            .map(|at| Span::of_tag(table, at));
-        let agrees = match change.seen {
-            Seen::Absent => found.is_none(),
-            Seen::Value(value) => found.map(|span| &table[span.value..span.end]) == Some(value),
-            Seen::NobodyLooked => true,
-        };
-        if !agrees {
-            return Err(Refusal::at(refusal::CONFLICT, place));
+/// Which changes of a sheet conflict with the file's user table.
+pub fn look(file: &[u8], sheet: &[u8]) -> Result<Looked, Refusal> {
+    let mut names = TableNames::new();
+    let meeting = Meeting::open(file, sheet, &mut names)?;
+    let conflicts = meeting
+        .changes
+        .iter()
+        .enumerate()
+        .filter(|(_, change)| meeting.conflicts(change, meeting.find(change)))
+        .fold(0, |set, (place, _)| set | 1 << place);
+    Ok(Looked {
+        changes: meeting.changes.len() as u64,
+        conflicts,
+    })
+}
+
+/// Fills the output with the new user table and hands back its length.
+pub fn commit(file: &[u8], sheet: &[u8], out: &mut [u8]) -> Result<u64, Refusal> {
+    let mut names = TableNames::new();
+    let meeting = Meeting::open(file, sheet, &mut names)?;
+    let plan = Plan::make(&meeting)?;
+    if plan.tags > Header::MAX_TAGS {
+        return Err(refusal::TABLE_FULL.into());
+    }
+    if out.len() < plan.length {
+        return Err(refusal::NO_ROOM.into());
+    }
+    let length = plan.length as u64;
+    plan.write(meeting.table, out);
+    Ok(length)
+}
+
+/// A sheet's changes and the user table that they are for.
+struct Meeting<'a> {
+    table: &'a [u8],
+    tags: usize,
+    names: &'a TableNames,
+    changes: Vec<Change<'a>>,
+}
+
+impl<'a> Meeting<'a> {
+    /// Refusals 1 to 7 and 10.
+    fn open(
+        file: &'a [u8],
+        sheet: &'a [u8],
+        names: &'a mut TableNames,
+    ) -> Result<Meeting<'a>, Refusal> {
+        let front = front(file, names)?;
+        let rest = rest(file, &front, names)?;
+        let changes = read_sheet(sheet).ok_or_else(|| faults::sheet(sheet))?;
+        Ok(Meeting {
+            table: &file[rest.user..],
+            tags: rest.user_tags,
+            names,
+            changes,
+        })
+    }
+
+    /// The tag that a change names.
+    fn find(&self, change: &Change) -> Option<Span> {
+        self.names
+            .find(self.table, change.name)
+            .map(|at| Span::of_tag(self.table, at))
+    }
+
+    /// Whether the table, in which `found` is the change's tag, disagrees with
+    /// what was seen.
+    fn conflicts(&self, change: &Change, found: Option<Span>) -> bool {
+        match change.seen {
+            Seen::Absent => found.is_some(),
+            Seen::Value(seen) => found.map(|span| span.value_in(self.table)) != Some(seen),
+            Seen::NobodyLooked => false,
         }
+    }
+}
+
+/// What a sheet does to a table, and the count and length that come of it.
+struct Plan<'a> {
+    /// Tags of the table with their new values; `None` removes one.
+    edits: Vec<(Span, Option<&'a [u8]>)>,
+    /// Names and values of new tags.
+    added: Vec<(&'a [u8], &'a [u8])>,
+    tags: usize,
+    length: usize,
+}
+
+impl<'a> Plan<'a> {
+    /// Refused 11 at the first change that conflicts. Nothing is written yet,
+    /// so the changes ahead of it are not made either.
+    fn make(meeting: &Meeting<'a>) -> Result<Plan<'a>, Refusal> {
+        let count = meeting.changes.len();
+        let mut plan = Plan {
+            edits: Vec::with_capacity(count),
+            added: Vec::with_capacity(count),
+            tags: meeting.tags,
+            length: meeting.table.len(),
+        };
+        for (place, change) in meeting.changes.iter().enumerate() {
+            let found = meeting.find(change);
+            if meeting.conflicts(change, found) {
+                return Err(Refusal::at(refusal::CONFLICT, place));
+            }
+            plan.take(change, found);
+        }
+        Ok(plan)
+    }
+
+    fn take(&mut self, change: &Change<'a>, found: Option<Span>) {
         match (found, change.new) {
             (Some(span), Some(value)) => {
-                length = length - (span.end - span.value) + value.len();
-                edits.push((span, Some(value)));
+                self.length = self.length - (span.end - span.value) + value.len();
+                self.edits.push((span, Some(value)));
             }
             (Some(span), None) => {
-                length -= span.end - span.tag;
-                tags -= 1;
-                edits.push((span, None));
+                self.length -= span.end - span.tag;
+                self.tags -= 1;
+                self.edits.push((span, None));
             }
             (None, Some(value)) => {
-                length += 1 + change.name.len() + 1 + value.len();
-                tags += 1;
-                added.push((change.name, value));
+                self.length += 1 + change.name.len() + 1 + value.len();
+                self.tags += 1;
+                self.added.push((change.name, value));
             }
             (None, None) => {}
         }
     }
-    if tags > Header::MAX_TAGS {
-        return Err(refusal::TABLE_FULL.into());
-    }
-    if out.len() < length {
-        return Err(refusal::NO_ROOM.into());
-    }
 
-    // Tags between two edits are copied in one go.
-    edits.sort_unstable_by_key(|(span, _)| span.tag);
-    let mut filler = Filler::new(out);
-    filler.put(&(tags as u32).to_le_bytes());
-    let mut from = FIRST_TAG;
-    for (span, new) in edits {
-        match new {
-            Some(value) => {
-                filler.put(&table[from..span.value - 1]);
-                filler.put_short_string(value);
+    /// Tags between two edits are copied in one go.
+    fn write(mut self, table: &[u8], out: &mut [u8]) {
+        self.edits.sort_unstable_by_key(|(span, _)| span.tag);
+        let mut filler = Filler::new(out);
+        filler.put(&(self.tags as u32).to_le_bytes());
+        let mut from = FIRST_TAG;
+        for (span, new) in self.edits {
+            match new {
+                Some(value) => {
+                    filler.put(&table[from..span.value - 1]);
+                    filler.put_short_string(value);
+                }
+                None => filler.put(&table[from..span.tag]),
             }
-            None => filler.put(&table[from..span.tag]),
+            from = span.end;
         }
-        from = span.end;
+        filler.put(&table[from..]);
+        for (name, value) in self.added {
+            filler.put_short_string(name);
+            filler.put_short_string(value);
+        }
     }
-    filler.put(&table[from..]);
-    for (name, value) in added {
-        filler.put_short_string(name);
-        filler.put_short_string(value);
-    }
-    Ok(length as u64)
 }
 
 /// A tag's places in its table: of the tag, of its value's bytes, and its end.
@@ -96,6 +185,10 @@ impl Span {
             value: tag.value as usize,
             end: (tag.value + tag.value_length) as usize,
         }
+    }
+
+    fn value_in(self, table: &[u8]) -> &[u8] {
+        &table[self.value..self.end]
     }
 }
 

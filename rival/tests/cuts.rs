@@ -313,6 +313,9 @@ fn damaged_files_answer_as_the_plain_reading() {
         let answer = open(file).map(|opened| opened.frames);
         assert_eq!(answer, plain::open(file), "{:?}", file);
         seen[answer.err().unwrap_or(0) as usize] += 1;
+        // A sheet without bytes is told where nothing is wrong with the file.
+        let looked = look(file, &[]).map_err(|refusal| refusal.number);
+        assert_eq!(looked, Err(answer.err().unwrap_or(10)), "{:?}", file);
         let mut out = [0xAA; 400];
         let answer = repair(file, &mut out);
         let tail = match answer {
@@ -363,11 +366,28 @@ fn damaged_files_answer_as_the_plain_reading() {
     }
 }
 
-/// Saving once more, over lists of tags.
 #[test]
-fn seeded_saves_answer_as_lists_do() {
+fn every_cut_of_a_sheet() {
+    let whole = sheet(&[
+        (b"A", &[1, 2, b'b', b'c'], &[0]),
+        (b"SITE", &[0], &[1, 0]),
+        (b"NOTE", &[2], &[1, 1, b'x']),
+    ]);
+    for cut in 0..whole.len() {
+        let mut out = [0xAA; 64];
+        let refused = commit(&WORKED, &whole[..cut], &mut out).unwrap_err();
+        assert_eq!(refused.number, 10, "{}", cut);
+        assert_eq!(look(&WORKED, &whole[..cut]), Err(refused));
+        assert_eq!(out, [0xAA; 64]);
+    }
+    assert_eq!(look(&WORKED, &whole).unwrap().conflicts, 0b001);
+}
+
+/// Look and commit once more, over lists of tags.
+#[test]
+fn seeded_sheets_answer_as_lists_do() {
     let mut seeded = Seeded(0xC0FF_EE11_2233_4455);
-    let mut seen = [0u32; 3];
+    let mut seen = [0u32; 4];
     for _ in 0..20_000 {
         let name = |seeded: &mut Seeded| format!("N{}", seeded.below(12)).into_bytes();
         let value = |seeded: &mut Seeded| vec![b'v'; seeded.below(3) as usize];
@@ -382,7 +402,7 @@ fn seeded_saves_answer_as_lists_do() {
         let mut names: Vec<Vec<u8>> = Vec::new();
         let mut after = tags.clone();
         let mut added = Vec::new();
-        let mut conflict = None;
+        let mut conflicts = 0;
         let mut twice = None;
         for place in 0..seeded.below(7) {
             let name = name(&mut seeded);
@@ -397,7 +417,7 @@ fn seeded_saves_answer_as_lists_do() {
                 .find(|tag| tag.0 == name)
                 .map(|tag| tag.1.clone());
             // Mostly what is there, now and then anything.
-            let claimed = match seeded.below(12) {
+            let claimed = match seeded.below(6) {
                 0 => None,
                 1 => Some(value(&mut seeded)),
                 _ => old.clone(),
@@ -412,8 +432,8 @@ fn seeded_saves_answer_as_lists_do() {
                         sheet.extend(short(value));
                     }
                 }
-                if claimed != old && conflict.is_none() {
-                    conflict = Some(place);
+                if claimed != old {
+                    conflicts |= 1 << place;
                 }
             }
             if seeded.below(3) == 0 {
@@ -438,14 +458,20 @@ fn seeded_saves_answer_as_lists_do() {
         let mut file = WORKED[..94].to_vec();
         file.extend(form(&tags));
         let mut out = [0xAA; 400];
-        let answer = save(&file, &sheet, &mut out);
+        let answer = commit(&file, &sheet, &mut out);
+        let looked = look(&file, &sheet);
         if let Some(place) = twice {
+            assert_eq!(looked, Err(Refusal { number: 10, place }));
             assert_eq!(answer, Err(Refusal { number: 10, place }));
             seen[0] += 1;
-        } else if let Some(place) = conflict {
-            assert_eq!(answer, Err(Refusal { number: 11, place }));
+        } else if conflicts != 0 {
+            let changes = u64::from(sheet[0]);
+            assert_eq!(looked, Ok(Looked { changes, conflicts }));
+            assert_eq!(answer, Err(conflict_at(lowest(conflicts))));
             seen[1] += 1;
+            seen[2] += u32::from(conflicts.count_ones() > 1);
         } else {
+            assert_eq!(looked.unwrap().conflicts, 0);
             let expected = form(&after);
             assert_eq!(answer, Ok(expected.len() as u64));
             assert_eq!(out[..expected.len()], expected[..]);
@@ -455,7 +481,7 @@ fn seeded_saves_answer_as_lists_do() {
                 let at = found.value as usize;
                 assert_eq!(expected[at..at + found.value_length as usize], tag.1[..]);
             }
-            seen[2] += 1;
+            seen[3] += 1;
         }
         let written = answer.unwrap_or(0) as usize;
         assert!(out[written..].iter().all(|&byte| byte == 0xAA));

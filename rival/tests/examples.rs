@@ -75,19 +75,25 @@ fn p11_and_p12() {
     let result = [
         0x01, 0x00, 0x00, 0x00, 0x04, 0x53, 0x49, 0x54, 0x45, 0x01, 0x41,
     ];
+    let agrees = Looked {
+        changes: 1,
+        conflicts: 0,
+    };
+    assert_eq!(look(&WORKED, &sheet), Ok(agrees));
     let mut out = [0xAA; 16];
-    assert_eq!(save(&WORKED, &sheet, &mut out), Ok(11));
+    assert_eq!(commit(&WORKED, &sheet, &mut out), Ok(11));
     assert_eq!(out[..11], result);
     assert_eq!(out[11..], [0xAA; 5]);
 
     let mut file = WORKED[..94].to_vec();
     file.extend_from_slice(&result);
-    let mut out = [0xAA; 16];
-    let conflict = Refusal {
-        number: 11,
-        place: 0,
+    let conflicts = Looked {
+        changes: 1,
+        conflicts: 1,
     };
-    assert_eq!(save(&file, &sheet, &mut out), Err(conflict));
+    assert_eq!(look(&file, &sheet), Ok(conflicts));
+    let mut out = [0xAA; 16];
+    assert_eq!(commit(&file, &sheet, &mut out), Err(conflict_at(0)));
     assert_eq!(out, [0xAA; 16]);
 }
 

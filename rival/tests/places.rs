@@ -16,7 +16,8 @@ fn file_told(file: &[u8]) -> (u64, u64) {
     assert_eq!(told(hold(file)), opened);
     assert_eq!(told(frame(file, u64::MAX)), opened);
     assert_eq!(told(part(file, Item::UserName(0))), opened);
-    assert_eq!(told(save(file, &[9], &mut [])), opened);
+    assert_eq!(told(look(file, &[9])), opened);
+    assert_eq!(told(commit(file, &[9], &mut [])), opened);
     if opened.0 < 5 {
         assert_eq!(told(repair(file, &mut [])), opened);
     }
@@ -45,7 +46,9 @@ fn list_told(list: &[u8]) -> (u64, u64) {
 }
 
 fn sheet_told(sheet: &[u8]) -> (u64, u64) {
-    told(save(&WORKED, sheet, &mut []))
+    let looked = told(look(&WORKED, sheet));
+    assert_eq!(told(commit(&WORKED, sheet, &mut [])), looked);
+    looked
 }
 
 fn offset(file: &[u8], at: usize, offset: u64) -> Vec<u8> {
@@ -267,7 +270,8 @@ fn sheets() {
     assert_eq!(two(&[1, b'A', 3, 0, 1, b'A', 2, 0]), (10, 3));
     assert_eq!(two(&[1, b'A', 2, 0]), (10, 5));
     // What the file breaks is told first, with its own place.
-    assert_eq!(told(save(&WORKED[..97], &[65], &mut [])), (7, 94));
+    assert_eq!(told(look(&WORKED[..97], &[65])), (7, 94));
+    assert_eq!(told(commit(&WORKED[..97], &[65], &mut [])), (7, 94));
 }
 
 #[test]
@@ -305,7 +309,7 @@ fn other_numbers_carry_no_place() {
     assert_eq!(told(part_of(&WORKED, &held, Item::SectionName(1))), (8, 0));
     assert_eq!(told(repair(&WORKED, &mut [])), (16, 0));
     assert_eq!(told(repair(&unclosed(), &mut [])), (9, 0));
-    assert_eq!(told(save(&WORKED, &[0], &mut [])), (9, 0));
+    assert_eq!(told(commit(&WORKED, &[0], &mut [])), (9, 0));
     assert_eq!(begin_told(&[1, 1, b'A', 0, 0], &[0; 4]), (9, 0));
     assert_eq!(told(close(State::new(), &[], &mut [])), (12, 0));
     let running = Recording::begin(&[1, 1, b'A', 0, 0], &[0; 4]).state;
@@ -313,5 +317,5 @@ fn other_numbers_carry_no_place() {
     assert_eq!(told(added), (14, 0));
     // 11 counts changes: the second of two, far into the sheet.
     let sheet = [2, 3, b'A', b'B', b'C', 2, 0, 1, b'A', 1, 0, 0];
-    assert_eq!(told(save(&WORKED, &sheet, &mut [])), (11, 1));
+    assert_eq!(told(commit(&WORKED, &sheet, &mut [])), (11, 1));
 }

@@ -210,15 +210,15 @@ fn refused_9_leaves_everything() {
     let mut out = [0xBB; 64];
     assert_eq!(repair(&unclosed(), &mut out[..23]), Err(9));
     let sheet = [1, 1, b'A', 2, 1, 0];
-    let refused = save(&WORKED, &sheet, &mut out[..6]).unwrap_err();
+    let refused = commit(&WORKED, &sheet, &mut out[..6]).unwrap_err();
     assert_eq!((refused.number, refused.place), (9, 0));
     assert_eq!(out, [0xBB; 64]);
-    assert_eq!(save(&WORKED, &sheet, &mut out[..7]), Ok(7));
+    assert_eq!(commit(&WORKED, &sheet, &mut out[..7]), Ok(7));
 }
 
 #[test]
 fn refused_10() {
-    let refused = |sheet: &[u8]| save(&WORKED, sheet, &mut [0; 2000]).map_err(|e| e.number);
+    let refused = |sheet: &[u8]| commit(&WORKED, sheet, &mut [0; 2000]).map_err(|e| e.number);
     assert_eq!(refused(&[]), Err(10));
     assert_eq!(refused(&[0]), Ok(4));
     assert_eq!(refused(&[0, 0]), Err(10));
@@ -238,7 +238,7 @@ fn refused_10() {
     assert_eq!(refused(&many(64)), Ok(4 + 64 * 3));
     assert_eq!(refused(&many(65)), Err(10));
     // Everything about the file comes first.
-    assert_eq!(save(&WORKED[..97], &[], &mut []).unwrap_err().number, 7);
+    assert_eq!(commit(&WORKED[..97], &[], &mut []).unwrap_err().number, 7);
 
     let start = |list: &[u8], system: &[u8]| {
         begin(State::new(), list, system, &mut [0; 4], &mut [0; 4000]).map(|(state, _)| state)
@@ -267,7 +267,7 @@ fn refused_11_names_the_lowest_place() {
     let file = with_table(&WORKED, &table(&[(b"A", b"1"), (b"B", b"")]));
     let refused = |sheet: &[u8]| {
         let mut out = [0xAA; 64];
-        let answer = save(&file, sheet, &mut out);
+        let answer = commit(&file, sheet, &mut out);
         if answer.is_err() {
             assert_eq!(out, [0xAA; 64]);
         }
@@ -287,28 +287,28 @@ fn refused_11_names_the_lowest_place() {
 }
 
 #[test]
-fn refused_17_counts_after_the_save() {
+fn refused_17_counts_after_the_changes() {
     let names: Vec<Vec<u8>> = (0..1000).map(|n| format!("{}", n).into_bytes()).collect();
     let tags: Vec<(&[u8], &[u8])> = names.iter().map(|name| (&name[..], &b"v"[..])).collect();
     let file = with_table(&WORKED, &table(&tags));
     let length = file.len() as u64 - 94;
     let mut out = vec![0; 8000];
-    let refused = save(&file, &[1, 1, b'A', 0, 1, 0], &mut []).unwrap_err();
+    let refused = commit(&file, &[1, 1, b'A', 0, 1, 0], &mut []).unwrap_err();
     assert_eq!((refused.number, refused.place), (17, 0));
     let sheet = [2, 1, b'A', 0, 1, 0, 1, b'7', 2, 0];
-    assert_eq!(save(&file, &sheet, &mut out), Ok(length - 4 + 3));
+    assert_eq!(commit(&file, &sheet, &mut out), Ok(length - 4 + 3));
     assert_eq!(
-        save(&file, &[1, 1, b'7', 2, 1, 0], &mut out),
+        commit(&file, &[1, 1, b'7', 2, 1, 0], &mut out),
         Ok(length - 1)
     );
 }
 
 #[test]
-fn a_save_keeps_order() {
+fn a_commit_keeps_order() {
     let tags = table(&[(b"A", b"1"), (b"B", b"2"), (b"C", b"3"), (b"D", b"4")]);
     let file = with_table(&WORKED, &tags);
     let mut out = [0xAA; 64];
-    assert_eq!(save(&file, &[0], &mut out), Ok(tags.len() as u64));
+    assert_eq!(commit(&file, &[0], &mut out), Ok(tags.len() as u64));
     assert_eq!(out[..tags.len()], tags[..]);
     #[rustfmt::skip]
     let sheet = [
@@ -327,7 +327,7 @@ fn a_save_keeps_order() {
         (b"Z", b"z"),
         (b"Y", b""),
     ]);
-    let length = save(&file, &sheet, &mut out).unwrap() as usize;
+    let length = commit(&file, &sheet, &mut out).unwrap() as usize;
     assert_eq!(out[..length], expected[..]);
     assert_eq!(out[length..], vec![0xAA; 64 - length][..]);
 }

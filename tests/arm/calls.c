@@ -103,12 +103,15 @@ static void make_sections(Made *made) {
     }
 }
 
+/* Every second sheet is of one who did not look, so that some large ones do not conflict; the others conflict at many places. */
 static void make_sheet(Made *made) {
-    uint64_t changes = below(below(8) ? 4 : 65), from = below(4);
+    uint64_t changes = below(below(8) ? 4 : 65), from = below(4), looked = below(2);
     put(made, changes, 1);
     for (uint64_t c = 0; c < changes; c++) {
+        uint64_t seen = looked ? below(3) : 2;
         put_name(made, from + c);
-        put(made, below(8) ? 2 : 0, 1);
+        put(made, seen, 1);
+        if (seen == 1) put_text(made, below(12));
         if (below(4)) {
             put(made, 1, 1);
             put_text(made, below(30));

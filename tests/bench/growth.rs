@@ -9,13 +9,14 @@ use crate::opening::{opening, repairing};
 use crate::raw::FSTF_USER_VALUE;
 use crate::reading::{by_name, listing, parts_of};
 use crate::recording::{beginning, recording};
-use crate::saving::saving;
+use crate::saving::{committing, looking, spread};
 use crate::verdict::*;
 use rival::Item;
 use std::time::Duration;
 
 const FRAMES: [usize; 4] = [1_000, 10_000, 100_000, 1_000_000];
 const TAGS: [usize; 3] = [10, 100, 1_000];
+const CHANGES: [usize; 3] = [1, 8, 64];
 
 /// 1,000,000 for 1000000.
 fn grouped(number: usize) -> String {
@@ -84,13 +85,26 @@ fn of_tags(report: &mut Report) {
         let tags = named_tags(1000, |i| format!("{:T>1$}", i, length));
         (table(&tags).bytes.len(), opening(&QUICK, &file_with(tags)))
     });
-    line(report, "a save of 1 change by tags", "tag", &TAGS, |count| {
+    line(report, "a look of 1 change by tags", "tag", &TAGS, |count| {
         let tags = named(count);
-        (count, saving(&QUICK, &file_with(tags.clone()), &sheet_of(tags[count - 1..].iter())))
+        (count, looking(&QUICK, &file_with(tags.clone()), &sheet_of(&tags[count - 1..])))
     });
-    line(report, "a save to 64 tags by changes", "change", &[1, 8, 64], |changes| {
+    line(report, "a look at 64 tags by changes", "change", &CHANGES, |changes| {
         let tags = named(64);
-        (changes, saving(&QUICK, &file_with(tags.clone()), &sheet_of(tags[tags.len() - changes..].iter())))
+        (changes, looking(&QUICK, &file_with(tags.clone()), &half_wrong_sheet_of(&tags[tags.len() - changes..])))
+    });
+    // Here a unit is all of the look: a walk of the table for each change would make 64 of them cost ten times as much as one, and more.
+    line(report, "a whole look at 1,000 tags by changes", "look", &CHANGES, |changes| {
+        let tags = named(1000);
+        (1, looking(&QUICK, &file_with(tags.clone()), &half_wrong_sheet_of(spread(&tags, changes))))
+    });
+    line(report, "a commit of 1 change by tags", "tag", &TAGS, |count| {
+        let tags = named(count);
+        (count, committing(&QUICK, &file_with(tags.clone()), &sheet_of(&tags[count - 1..])))
+    });
+    line(report, "a commit to 64 tags by changes", "change", &CHANGES, |changes| {
+        let tags = named(64);
+        (changes, committing(&QUICK, &file_with(tags.clone()), &sheet_of(&tags[tags.len() - changes..])))
     });
     line(report, "a begin call by system tags", "tag", &TAGS, |count| (count, beginning(&QUICK, &named(count))));
     line(report, "listing a table by tags", "tag", &TAGS, |count| {

@@ -72,12 +72,24 @@ pub fn two_letters(i: usize) -> String {
 }
 
 /// A sheet that gives these tags a new value, by one who looked.
-pub fn sheet_of<'a>(tags: impl ExactSizeIterator<Item = &'a Tag>) -> Vec<u8> {
-    let mut sheet = vec![tags.len() as u8];
-    for tag in tags {
+pub fn sheet_of<'a>(tags: impl IntoIterator<Item = &'a Tag>) -> Vec<u8> {
+    sheet_by(tags, |_| b"\x01\x07a value")
+}
+
+/// The same by one whose every second entry is wrong, at its end only.
+pub fn half_wrong_sheet_of<'a>(tags: impl IntoIterator<Item = &'a Tag>) -> Vec<u8> {
+    sheet_by(tags, |place| if place % 2 == 0 { b"\x01\x07a value" } else { b"\x01\x07a valuf" })
+}
+
+/// What was seen of each tag goes by its place in the sheet.
+fn sheet_by<'a>(tags: impl IntoIterator<Item = &'a Tag>, seen: fn(usize) -> &'static [u8]) -> Vec<u8> {
+    let mut sheet = vec![0];
+    for (place, tag) in tags.into_iter().enumerate() {
+        sheet[0] += 1;
         sheet.push(tag.name.len() as u8);
         sheet.extend_from_slice(&tag.name);
-        sheet.extend_from_slice(b"\x01\x07a value\x01\x05other");
+        sheet.extend_from_slice(seen(place));
+        sheet.extend_from_slice(b"\x01\x05other");
     }
     sheet
 }

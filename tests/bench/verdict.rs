@@ -25,9 +25,9 @@ pub const FIRST_ROW: Limit = Limit { goal: 1.2, most: 2.0 };
 pub const BARE_LOOP: Limit = Limit { goal: 1.5, most: f64::INFINITY };
 /// How much longer the worst upload may take than a usual one.
 pub const WORST: Limit = Limit { goal: 20.0, most: 20.0 };
-/// A save, whose sheet is chosen against the marks as well, and a file that is refused, beside a usual one that opens.
-pub const WORST_SAVE: Limit = Limit { goal: 20.0, most: f64::INFINITY };
-pub const WORST_REFUSED: Limit = WORST_SAVE;
+/// A look or a commit, whose sheet is chosen against the marks as well, and a file that is refused, beside a usual one that opens.
+pub const WORST_SHEET: Limit = Limit { goal: 20.0, most: f64::INFINITY };
+pub const WORST_REFUSED: Limit = WORST_SHEET;
 /// How much more a unit of a larger input may cost than one of a smaller: twice, or where caches make more than that of it, a quarter more than for the
 /// rival.
 pub fn growth(rival: f64) -> Limit {

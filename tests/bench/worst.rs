@@ -7,6 +7,7 @@ use crate::inputs::*;
 use crate::marks::*;
 use crate::measure::*;
 use crate::random::Random;
+use crate::saving::agreed_look;
 use crate::verdict::*;
 use std::time::Duration;
 
@@ -144,30 +145,52 @@ fn refused(names: &Names) -> Call {
     Box::new(move || u64::from(calls::open(&file).refused == 7))
 }
 
-fn saving(names: &Names, sheet: Vec<u8>) -> Call {
+fn looking(names: &Names, sheet: Vec<u8>) -> Call {
+    let file = file_with(tags_of(names));
+    agreed_look(&file, &sheet);
+    Box::new(move || calls::look(&file, &sheet).changes)
+}
+
+fn committing(names: &Names, sheet: Vec<u8>) -> Call {
     let file = file_with(tags_of(names));
     let mut out = vec![0; file.len()];
     let mut other = out.clone();
-    let saved = calls::save(&file, &sheet, &mut out);
-    assert_eq!(rival::save(&file, &sheet, &mut other), Ok(saved.length));
+    let committed = calls::commit(&file, &sheet, &mut out);
+    assert_eq!(rival::commit(&file, &sheet, &mut other), Ok(committed.length));
     assert!(out == other, "the two tables differ");
-    Box::new(move || calls::save(&file, &sheet, &mut out).length)
+    Box::new(move || calls::commit(&file, &sheet, &mut out).length)
+}
+
+fn looking_at_tags(names: &Names) -> Call {
+    looking(names, sheet_of_tags(names))
+}
+
+fn looking_at_absent(names: &Names) -> Call {
+    looking(names, sheet_of_absent(names))
+}
+
+fn committing_tags(names: &Names) -> Call {
+    committing(names, sheet_of_tags(names))
+}
+
+fn committing_absent(names: &Names) -> Call {
+    committing(names, sheet_of_absent(names))
 }
 
 /// Each fifteenth tag is changed.
-fn saving_tags(names: &Names) -> Call {
-    saving(names, sheet_of(tags_of(names).iter().step_by(15).take(64)))
+fn sheet_of_tags(names: &Names) -> Vec<u8> {
+    sheet_of(tags_of(names).iter().step_by(15).take(64))
 }
 
 /// Names that no tag has, and that get none.
-fn saving_absent(names: &Names) -> Call {
+fn sheet_of_absent(names: &Names) -> Vec<u8> {
     let mut sheet = vec![64];
     for name in &names[TAGS..NAMES] {
         sheet.push(name.len() as u8);
         sheet.extend_from_slice(name);
         sheet.extend_from_slice(&[0, 0]);
     }
-    saving(names, sheet)
+    sheet
 }
 
 fn beginning(names: &Names) -> Call {
@@ -210,12 +233,20 @@ fn beside(report: &mut Report, what: &str, call: fn(&Names) -> Call, orders: &[N
     let ratio = slowest.as_secs_f64() / least.as_secs_f64();
     println!("| {} | {} | {} | {:.2} |", what, cells.join(" | "), shown(least), ratio);
     let limit = match what {
-        what if what.starts_with("a save") => WORST_SAVE,
+        what if what.starts_with("a look") || what.starts_with("a commit") => WORST_SHEET,
         what if what.starts_with("refused") => WORST_REFUSED,
         _ => WORST,
     };
     report.hold(what, limit, ratio);
 }
+
+/// What is done with sheets whose names are chosen as well.
+const SHEETS: [(&str, fn(&Names) -> Call); 4] = [
+    ("a look: 64 changes", looking_at_tags),
+    ("a look: 64 absent", looking_at_absent),
+    ("a commit: 64 changes", committing_tags),
+    ("a commit: 64 absent", committing_absent),
+];
 
 fn lines(report: &mut Report) {
     let random = &mut Random::new(1, 2, 3);
@@ -235,15 +266,17 @@ fn lines(report: &mut Report) {
             let what = format!("opening: {} usual names of 255 bytes, and {} whose marks are set", TAGS - last, last);
             line(&what, opening, &names);
         }
-        line("a save: 64 changes and 1,000 names of 255 bytes share one mark", saving_tags, &sharing);
-        line("a save: 64 absent and 1,000 names of 255 bytes share one mark", saving_absent, &sharing);
+        for (what, call) in SHEETS {
+            line(&format!("{} and 1,000 names of 255 bytes share one mark", what), call, &sharing);
+        }
         line("a begin call: 1,000 names of 255 bytes share one mark", beginning, &sharing);
         line("a tag by its name: 1,000 names of 255 bytes share one mark", by_name, &sharing);
     }
     let twelve = orders(&sharing_a_mark(&twins, 12, 0), TAGS, random);
     line(report, "opening: 1,000 names of 12 bytes share one mark", opening, &twelve, &usual(12, 0));
-    line(report, "a save: 64 changes and 1,000 names of 12 bytes share one mark", saving_tags, &twelve, &usual(12, 0));
-    line(report, "a save: 64 absent and 1,000 names of 12 bytes share one mark", saving_absent, &twelve, &usual(12, 0));
+    for (what, call) in SHEETS {
+        line(report, &format!("{} and 1,000 names of 12 bytes share one mark", what), call, &twelve, &usual(12, 0));
+    }
     let words = orders(&short_in_one_word(), TAGS, random);
     line(report, "opening: 1,000 names of 3 bytes have marks in one word", opening, &words, &three);
     for at in [0, 240] {

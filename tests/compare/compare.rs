@@ -42,7 +42,7 @@ const ONCE: [(&str, Case); 11] = [
 ];
 
 /// Each with how many cases it has at a turn: those of few inputs have many.
-const TURNS: [(&str, Case, u64); 29] = [
+const TURNS: [(&str, Case, u64); 30] = [
     ("legal", files::legal, 4),
     ("damaged", files::damaged, 4),
     ("numbers-nudged", files::numbers_nudged, 8),
@@ -64,6 +64,7 @@ const TURNS: [(&str, Case, u64); 29] = [
     ("shapes", recorder::shapes, 12),
     ("sheets", tags::sheets, 6),
     ("conflicts", tags::conflicts, 2),
+    ("full-sheets", tags::full_sheets, 1),
     ("table-full", tags::table_full, 1),
     ("crowded", tags::crowded, 1),
     ("browsed", tags::browsed, 10),

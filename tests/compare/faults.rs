@@ -23,7 +23,8 @@ fn as_file(sides: &mut Sides, random: &mut Random, file: &[u8]) {
     sides.part(file, opened, kind, i, j);
     sides.repair(file, &[0xAA; 120]);
     let sheet = random.pick(&SHEETS);
-    sides.save(file, sheet, &[0x55; 300]);
+    let looked = sides.look(file, sheet);
+    sides.commit(file, sheet, looked, &[0x55; 300]);
 }
 
 /// Alone, as the system table of a recording that is begun, and in a file at either place.
@@ -58,8 +59,9 @@ fn with_user(table: &[u8]) -> Vec<u8> {
 
 fn as_sheet(sides: &mut Sides, _: &mut Random, sheet: &[u8]) {
     let file = with_user(&[1, 0, 0, 0, 1, b'A', 0]);
-    let (saved, _) = sides.save(&file, sheet, &[0x77; 600]);
-    let inside = saved.place <= sheet.len() as u64;
+    let looked = sides.look(&file, sheet);
+    let (committed, _) = sides.commit(&file, sheet, looked, &[0x77; 600]);
+    let inside = looked.place.max(committed.place) <= sheet.len() as u64;
     sides.known(inside, "a place is in the sheet", sheet);
 }
 
@@ -506,9 +508,11 @@ fn twice_in_tables(sides: &mut Sides, random: &mut Random, names: &[Vec<u8>]) {
 
 fn twice_in_sheets(sides: &mut Sides, random: &mut Random, names: &[Vec<u8>]) {
     let sheet = sheet_of(random, &names[..names.len().min(64)]);
-    let (saved, _) = sides.save(&worked().file().bytes, &sheet.bytes, &[]);
+    let file = worked().file().bytes;
+    let looked = sides.look(&file, &sheet.bytes);
+    sides.commit(&file, &sheet.bytes, looked, &[]);
     let expected = second(&names[..names.len().min(64)], &sheet.starts);
-    sides.known(told(saved.refused, saved.place, 10, expected), TWICE, &sheet.bytes);
+    sides.known(told(looked.refused, looked.place, 10, expected), TWICE, &sheet.bytes);
 }
 
 /// In a set-up list, and in the definitions of a file.

@@ -1,4 +1,4 @@
-//! Files, legal and not: opened, read, repaired and saved to.
+//! Files, legal and not: opened, read, repaired, looked at with sheets and committed to.
 
 use crate::build::*;
 use crate::random::Random;
@@ -49,19 +49,19 @@ fn glance(sides: &mut Sides, random: &mut Random, file: &[u8], user: &[Tag]) {
             sides.frame(file, opened, i);
         }
         1 => some_part(sides, random, file, opened),
-        _ => tags::save_some(sides, random, file, user),
+        _ => tags::some_commit(sides, random, file, user),
     }
 }
 
 /// Every call that takes a file, some of them many times.
-fn look(sides: &mut Sides, random: &mut Random, recording: &Recording, file: &[u8]) {
+fn every_call(sides: &mut Sides, random: &mut Random, recording: &Recording, file: &[u8]) {
     let opened = sides.open(file);
     repair(sides, random, file);
     for _ in 0..3 {
         let i = random.near(opened.frames);
         sides.frame(file, opened, i);
         some_part(sides, random, file, opened);
-        tags::save_some(sides, random, file, &recording.user);
+        tags::some_commit(sides, random, file, &recording.user);
     }
 }
 
@@ -69,7 +69,7 @@ fn look(sides: &mut Sides, random: &mut Random, recording: &Recording, file: &[u
 pub fn legal(sides: &mut Sides, random: &mut Random) {
     let recording = recording(random);
     let file = recording.file().bytes;
-    look(sides, random, &recording, &file);
+    every_call(sides, random, &recording, &file);
     let opened = sides.open(&file);
     let counts = [recording.frames.len(), recording.sections.len(), recording.system.len(), recording.user.len()];
     let reported = [opened.frames, opened.sections, opened.system_tags, opened.user_tags];

@@ -20,7 +20,8 @@ pub enum Call {
     Add,
     Close,
     Repair,
-    Save,
+    Look,
+    Commit,
     TagAt,
     TagNamed,
     FirstTag,
@@ -31,7 +32,7 @@ pub enum Call {
 const NUMBERS: usize = 18;
 
 /// Each call with the numbers that must be met; 0 is acceptance. Repair's 15 needs a file of 2^40 bytes.
-const CALLS: [(&str, &[u64]); 15] = [
+const CALLS: [(&str, &[u64]); 16] = [
     ("fstf_new", &[0]),
     ("fstf_open", &[0, 1, 2, 3, 4, 5, 6, 7]),
     ("fstf_frame", &[0, 1, 2, 3, 4, 5, 6, 7, 8]),
@@ -42,7 +43,8 @@ const CALLS: [(&str, &[u64]); 15] = [
     ("fstf_add", &[0, 12, 14, 15, 13, 9]),
     ("fstf_close", &[0, 12, 9]),
     ("fstf_repair", &[0, 1, 2, 3, 4, 16, 13, 9]),
-    ("fstf_save", &[0, 1, 2, 3, 4, 5, 6, 7, 10, 11, 17, 9]),
+    ("fstf_look", &[0, 1, 2, 3, 4, 5, 6, 7, 10]),
+    ("fstf_commit", &[0, 1, 2, 3, 4, 5, 6, 7, 10, 11, 17, 9]),
     ("fstf_tag_at", &[0, 7]),
     ("fstf_tag_named", &[0, 7]),
     ("fstf_first_tag", &[0, 7]),
@@ -67,6 +69,10 @@ pub struct Sides {
     without_tag: [u64; CALLS.len()],
     /// Call, number and place of faults that were answered, but for place 0: all of them would stand there if no place were told.
     places: HashSet<(usize, u64, u64)>,
+    /// The changes that any look showed to conflict: the bits of all its sets, which must be met each.
+    conflicting: u64,
+    /// Looks that showed more than one conflict.
+    several_conflicts: u64,
 }
 
 /// Lent bytes: as given, and as each side left them.
@@ -207,6 +213,19 @@ fn within(file: &[u8], start: u64, length: u64) -> bool {
     matches!(start.checked_add(length), Some(end) if end <= file.len() as u64)
 }
 
+/// The law of look and commit: what refuses the one refuses the other at the same place, and commit is refused 11 exactly where look shows a conflict, at
+/// the lowest.
+fn as_looked(looked: FstfLooked, committed: FstfCommitted) -> bool {
+    let answered = (committed.refused, committed.place);
+    if looked.refused != 0 {
+        return answered == (looked.refused, looked.place);
+    }
+    if looked.conflicts != 0 {
+        return answered == (11, u64::from(looked.conflicts.trailing_zeros()));
+    }
+    [(0, 0), (17, 0), (9, 0)].contains(&answered)
+}
+
 /// The refusal of an item that is not there, by the numbers of an opening.
 fn refused_by(numbers: FstfOpened) -> (u64, u64) {
     match numbers.refused {
@@ -226,6 +245,8 @@ impl Sides {
             met: [[0; NUMBERS + 1]; CALLS.len()],
             without_tag: [0; CALLS.len()],
             places: HashSet::new(),
+            conflicting: 0,
+            several_conflicts: 0,
         }
     }
 
@@ -470,18 +491,32 @@ impl Sides {
         (ours, out.ours)
     }
 
-    /// What the call answered, and the output.
-    pub fn save(&mut self, file: &[u8], sheet: &[u8], out: &[u8]) -> (FstfSaved, Vec<u8>) {
-        let mut out = Lent::new(out);
-        let ours = ours::save(file, sheet, &mut out.ours);
-        let theirs = match rival::save(file, sheet, &mut out.theirs) {
-            Ok(length) => FstfSaved { refused: 0, place: 0, length },
-            Err(Refusal { number, place }) => FstfSaved { refused: number, place, length: 0 },
+    pub fn look(&mut self, file: &[u8], sheet: &[u8]) -> FstfLooked {
+        let ours = ours::look(file, sheet);
+        let theirs = match rival::look(file, sheet) {
+            Ok(rival::Looked { changes, conflicts }) => FstfLooked { refused: 0, place: 0, changes, conflicts },
+            Err(Refusal { number, place }) => FstfLooked { refused: number, place, changes: 0, conflicts: 0 },
         };
-        let agree = ours == theirs && out.kept_from(ours.length as usize);
         let input = || format!("file {}\n  sheet {}", shown(file), shown(sheet));
-        self.settle_lent(Call::Save, ours.refused, agree, &[&out], &input, [&ours, &theirs]);
-        self.count_place(Call::Save, ours.refused, ours.place);
+        self.settle(Call::Look, ours.refused, ours == theirs, &input, [&ours, &theirs]);
+        self.count_place(Call::Look, ours.refused, ours.place);
+        self.conflicting |= ours.conflicts;
+        self.several_conflicts += u64::from(ours.conflicts.count_ones() > 1);
+        ours
+    }
+
+    /// What the call answered, and the output. `looked` is what look answered to the same file and sheet, which commit has to bear out.
+    pub fn commit(&mut self, file: &[u8], sheet: &[u8], looked: FstfLooked, out: &[u8]) -> (FstfCommitted, Vec<u8>) {
+        let mut out = Lent::new(out);
+        let ours = ours::commit(file, sheet, &mut out.ours);
+        let theirs = match rival::commit(file, sheet, &mut out.theirs) {
+            Ok(length) => FstfCommitted { refused: 0, place: 0, length },
+            Err(Refusal { number, place }) => FstfCommitted { refused: number, place, length: 0 },
+        };
+        let agree = ours == theirs && as_looked(looked, ours) && out.kept_from(ours.length as usize);
+        let input = || format!("file {}\n  sheet {}\n  {:?}", shown(file), shown(sheet), looked);
+        self.settle_lent(Call::Commit, ours.refused, agree, &[&out], &input, [&ours, &theirs]);
+        self.count_place(Call::Commit, ours.refused, ours.place);
         (ours, out.ours)
     }
 
@@ -551,6 +586,17 @@ impl Sides {
         self.places.iter().filter(|met| (met.0, met.1) == (call, refused)).count()
     }
 
+    /// What was met of the sets that look answers, and how much of it is lacking: each change has to conflict in some sheet, and several in one.
+    fn report_of_sets(&self) -> (String, usize) {
+        let places = self.conflicting.count_ones();
+        let mut line = format!(", conflicts at {} of 64 places, several at once {}", places, self.several_conflicts);
+        if places == 64 && self.several_conflicts > 0 {
+            return (line, 0);
+        }
+        line += " NEVER MET";
+        (line, 1)
+    }
+
     /// Prints how often each number of each call was met, and at how many places; answers how many of its order were never met, or met outside it, or
     /// were met at no place.
     pub fn report(&self) -> usize {
@@ -590,6 +636,11 @@ impl Sides {
                     lacking += 1;
                     line += " NEVER MET, OR ALWAYS";
                 }
+            }
+            if call == Call::Look as usize {
+                let (sets, never) = self.report_of_sets();
+                line += &sets;
+                lacking += never;
             }
             println!("{}", line);
         }

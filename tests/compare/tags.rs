@@ -1,17 +1,19 @@
-//! Tables and sheets: saves, the tag browser, tags by their name, tags one after another.
+//! Tables and sheets: look and commit, the tag browser, tags by their name, tags one after another.
 
 use crate::build::*;
 use crate::marks;
 use crate::random::Random;
-use crate::raw::FstfCursor;
+use crate::raw::{FstfCursor, FstfLooked};
 use crate::sides::Sides;
 
+#[derive(Clone)]
 enum Seen {
     Absent,
     Value(Vec<u8>),
     NobodyLooked,
 }
 
+#[derive(Clone)]
 struct Change {
     name: Vec<u8>,
     seen: Seen,
@@ -165,28 +167,29 @@ fn some_sheet(random: &mut Random, user: &[Tag]) -> Vec<u8> {
     sheet_bytes(&changes)
 }
 
-/// A save with ample room, and again around the answer's length.
-fn save(sides: &mut Sides, random: &mut Random, file: &[u8], sheet: &[u8]) -> Option<Vec<u8>> {
+/// Look, and a commit with ample room and again around the answer's length: what look answered, and the new table.
+fn commit(sides: &mut Sides, random: &mut Random, file: &[u8], sheet: &[u8]) -> (FstfLooked, Option<Vec<u8>>) {
+    let looked = sides.look(file, sheet);
     // A new table holds nothing that is not in the file or in the sheet.
     let out = random.bytes(file.len() + sheet.len());
-    let (ample, left) = sides.save(file, sheet, &out);
+    let (ample, left) = sides.commit(file, sheet, looked, &out);
     let length = ample.length as usize;
     let room = random.room(length);
     let out = random.bytes(room);
-    sides.save(file, sheet, &out);
+    sides.commit(file, sheet, looked, &out);
     if ample.refused != 0 {
-        return None;
+        return (looked, None);
     }
-    Some(left[..length].to_vec())
+    (looked, Some(left[..length].to_vec()))
 }
 
 /// One sheet for a file whose user tags are, or were, these.
-pub fn save_some(sides: &mut Sides, random: &mut Random, file: &[u8], user: &[Tag]) {
+pub fn some_commit(sides: &mut Sides, random: &mut Random, file: &[u8], user: &[Tag]) {
     let sheet = some_sheet(random, user);
-    save(sides, random, file, &sheet);
+    commit(sides, random, file, &sheet);
 }
 
-/// Sheets for a legal file; what an accepted one gives is stored, opened, and saved to again with the same sheet.
+/// Sheets for a legal file; what an accepted one gives is stored, opened, and committed to again with the same sheet.
 pub fn sheets(sides: &mut Sides, random: &mut Random) {
     let mut recording = recording(random);
     let count = if random.one_in(100) { 900 + random.size(100) } else { random.size(80) };
@@ -195,43 +198,91 @@ pub fn sheets(sides: &mut Sides, random: &mut Random) {
     let before_user = number(&file, 25, 8) as usize;
     for _ in 0..6 {
         let sheet = some_sheet(random, &recording.user);
-        if let Some(table) = save(sides, random, &file, &sheet) {
-            let mut saved = file[..before_user].to_vec();
-            saved.extend_from_slice(&table);
-            sides.open(&saved);
-            save(sides, random, &saved, &sheet);
+        if let (_, Some(table)) = commit(sides, random, &file, &sheet) {
+            let mut stored = file[..before_user].to_vec();
+            stored.extend_from_slice(&table);
+            sides.open(&stored);
+            commit(sides, random, &stored, &sheet);
         }
     }
 }
 
-/// One wrong seen entry at each place of a sheet, and two of them.
+/// Another entry than the one that is right for this name.
+fn mistaken(random: &mut Random, user: &[Tag], name: &[u8]) -> Seen {
+    let mut wrong = match user.iter().find(|tag| tag.name == name) {
+        None => return Seen::Value(if random.one_in(2) { Vec::new() } else { b"not so".to_vec() }),
+        Some(tag) => tag.value.clone(),
+    };
+    // Absent, or a value that is longer, shorter, or another at its end.
+    match (random.below(4), wrong.pop()) {
+        (0, _) => return Seen::Absent,
+        (_, None) => wrong.push(b'x'),
+        (1, Some(last)) if wrong.len() < 254 => wrong.extend([last, b'x']),
+        (2, Some(_)) => (),
+        (_, Some(last)) => wrong.push(if last == b'x' { b'y' } else { b'x' }),
+    }
+    Seen::Value(wrong)
+}
+
+/// The same changes, wrong about what was seen at each place of a set.
+fn wrong_at(random: &mut Random, user: &[Tag], right: &[Change], set: u64) -> Vec<Change> {
+    let mut wrong = right.to_vec();
+    for (place, change) in wrong.iter_mut().enumerate() {
+        if set >> place & 1 == 1 {
+            change.seen = mistaken(random, user, &change.name);
+        }
+    }
+    wrong
+}
+
+/// Changes that are right but at the places of a set, which look has to show, and the lowest of which commit is refused at.
+fn conflicting(sides: &mut Sides, random: &mut Random, recording: &Recording, right: &[Change], set: u64) {
+    let file = recording.file().bytes;
+    let sheet = sheet_bytes(&wrong_at(random, &recording.user, right, set));
+    let (looked, _) = commit(sides, random, &file, &sheet);
+    let shown = (looked.refused, looked.changes, looked.conflicts) == (0, right.len() as u64, set);
+    sides.known(shown, "look shows each change that was made to conflict, and no other", &sheet);
+}
+
+/// One wrong seen entry at each place of a sheet, and several of them.
 pub fn conflicts(sides: &mut Sides, random: &mut Random) {
     let mut recording = small(random);
     recording.user = tags(random, 12);
-    let file = recording.file().bytes;
     let count = if random.one_in(8) { 64 } else { 8 };
     let right = changes(random, &recording.user, count, u64::MAX);
+    let places = u64::MAX >> (64 - right.len());
     for place in 0..right.len() {
-        let mut wrong = sheet_with(&right, place);
-        save(sides, random, &file, &sheet_bytes(&wrong));
+        conflicting(sides, random, &recording, &right, 1 << place);
         let second = random.size(right.len() - 1);
-        wrong[second].seen = Seen::Value(b"not so".to_vec());
-        save(sides, random, &file, &sheet_bytes(&wrong));
+        conflicting(sides, random, &recording, &right, 1 << place | 1 << second);
+        let several = random.next() & places;
+        conflicting(sides, random, &recording, &right, several);
     }
 }
 
-fn sheet_with(right: &[Change], place: usize) -> Vec<Change> {
-    let copy = |(i, change): (usize, &Change)| Change {
-        name: change.name.clone(),
-        seen: match &change.seen {
-            _ if i == place => Seen::Value(b"not so".to_vec()),
-            Seen::Absent => Seen::Absent,
-            Seen::Value(value) => Seen::Value(value.clone()),
-            Seen::NobodyLooked => Seen::NobodyLooked,
-        },
-        new: change.new.clone(),
-    };
-    right.iter().enumerate().map(copy).collect()
+/// 64 changes of tags and of names that are none, all of them right.
+fn full_sheet(random: &mut Random, user: &[Tag]) -> Vec<Change> {
+    let mut right = changes(random, user, 64, u64::MAX);
+    for i in right.len()..64 {
+        let name = format!("none of the tags, number {}", i).into_bytes();
+        let at = random.size(right.len());
+        right.insert(at, Change { name, seen: Seen::Absent, new: new_value(random) });
+    }
+    right
+}
+
+/// As many changes as a sheet may have, with conflicts at the last of them, at either end, at all, at none, and at any.
+pub fn full_sheets(sides: &mut Sides, random: &mut Random) {
+    let mut recording = smallest();
+    let count = if random.one_in(16) { 1000 } else { random.size(120) };
+    recording.user = tags(random, count);
+    let right = full_sheet(random, &recording.user);
+    let place = random.size(63);
+    let ends = [0, u64::MAX, 1 << 62, 1 << 63, 3 << 62, 1 << 63 | 1, 1 << 32, 1 << 31];
+    let drawn = [1 << place, u64::MAX << place, u64::MAX >> place, random.next(), random.next() & random.next()];
+    for set in ends.into_iter().chain(drawn) {
+        conflicting(sides, random, &recording, &right, set);
+    }
 }
 
 /// A name whose mark stands in the first word of the library's marks, where a few names set all bits: each further one may be any of them.
@@ -277,14 +328,14 @@ pub fn crowded(sides: &mut Sides, random: &mut Random) {
     }
     for _ in 0..3 {
         let sheet = some_sheet(random, &recording.user);
-        save(sides, random, &file, &sheet);
+        commit(sides, random, &file, &sheet);
     }
     let changes: Vec<Change> = names
         .iter()
         .take(64)
         .map(|name| Change { name: name.clone(), seen: Seen::NobodyLooked, new: new_value(random) })
         .collect();
-    save(sides, random, &file, &sheet_bytes(&changes));
+    commit(sides, random, &file, &sheet_bytes(&changes));
 }
 
 /// Sheets that bring a table to 1,000 tags and over.
@@ -310,7 +361,7 @@ pub fn table_full(sides: &mut Sides, random: &mut Random) {
         if random.one_in(6) {
             changes.push(Change { name: b"last".to_vec(), seen: Seen::Value(b"not so".to_vec()), new: None });
         }
-        save(sides, random, &file, &sheet_bytes(&changes));
+        commit(sides, random, &file, &sheet_bytes(&changes));
     }
 }
 

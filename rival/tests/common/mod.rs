@@ -5,9 +5,12 @@
 use rival::*;
 
 /// The calls, for tests that ask for the number of a refusal and not for
-/// its place; a save answers with both.
+/// its place; look and commit answer with both.
 pub mod by_number {
-    pub use rival::{save, Frame, Item, Opened, Piece, Refusal, Repaired, Stage, State, Tag};
+    pub use super::commit_after_look as commit;
+    pub use rival::{
+        look, Frame, Item, Looked, Opened, Piece, Refusal, Repaired, Stage, State, Tag,
+    };
 
     type Numbered<T> = Result<T, u64>;
 
@@ -63,6 +66,43 @@ pub mod by_number {
     pub fn tag_named(table: &[u8], name: &[u8]) -> Numbered<Option<Tag>> {
         numbered(rival::tag_named(table, name))
     }
+}
+
+/// Commits, and holds the answer against look's: what refuses the one refuses
+/// the other, and commit is refused 11 exactly when look shows a conflict, at
+/// the lowest.
+pub fn commit_after_look(file: &[u8], sheet: &[u8], out: &mut [u8]) -> Result<u64, Refusal> {
+    let looked = look(file, sheet);
+    let committed = commit(file, sheet, out);
+    match looked {
+        Err(refusal) => assert_eq!(committed, Err(refusal)),
+        Ok(Looked { conflicts: 0, .. }) => {
+            let number = committed.map_or_else(|refusal| refusal.number, |_| 0);
+            assert!([0, 17, 9].contains(&number), "{}", number);
+        }
+        Ok(Looked { conflicts, .. }) => assert_eq!(committed, Err(conflict_at(lowest(conflicts)))),
+    }
+    committed
+}
+
+pub fn conflict_at(place: u64) -> Refusal {
+    Refusal { number: 11, place }
+}
+
+/// The lowest number of a set that is not empty.
+pub fn lowest(set: u64) -> u64 {
+    (0..64).find(|bit| set >> bit & 1 == 1).unwrap()
+}
+
+/// A sheet of changes, each with its name and both of its entries.
+pub fn sheet(changes: &[(&[u8], &[u8], &[u8])]) -> Vec<u8> {
+    let mut bytes = vec![u8::try_from(changes.len()).unwrap()];
+    for (name, seen, new) in changes {
+        bytes.extend(short(name));
+        bytes.extend_from_slice(seen);
+        bytes.extend_from_slice(new);
+    }
+    bytes
 }
 
 /// Document 01's whole file.
