@@ -14,11 +14,11 @@
  *   - `refused` is the number of the refusal, or 0; refused, all members behind `place` are 0, but for a recorder's state;
  *   - `place` is what the number carries beside it, and 0 for all others:
  *       3, 4, 7, 10: the position of the first fault under that number, reading front to back. It counts bytes from 0
- *           in the file: 3, 4 and 7 of fstf_open, fstf_frame, fstf_part and fstf_save, 3 and 4 of fstf_repair;
- *           in the sheet: 10 of fstf_save;
+ *           in the file: 3, 4 and 7 of fstf_open, fstf_frame, fstf_part, fstf_look and fstf_commit, 3 and 4 of fstf_repair;
+ *           in the sheet: 10 of fstf_look and fstf_commit;
  *           in the set-up list: 10 and 3 of fstf_begin;
  *           in the table that is lent: 4 of fstf_begin, 7 of fstf_tag_at, fstf_tag_named and fstf_first_tag;
- *       11: the lowest change of the sheet, from 0, whose seen entry is not the table's.
+ *       11: the lowest change of the sheet, from 0, that conflicts: its seen entry is not the table's.
  *     fstf_frame_of, fstf_part_of and fstf_next_tag pass on number and place as they are given.
  * In a name or a value a position is that of the first byte that breaks the rule: the length byte where a name is empty, else the first byte that may not
  * stand there, or the length of the lent bytes where they run out. Of a number or a block that is cut off or not allowed it is the start, of a name that was
@@ -27,10 +27,12 @@
  * The time of a call grows with the frames, the tags and the bytes of tables that it is given, and not with the bytes of sections that it only passes over.
  * Whoever chooses the names in a file can make opening it take longer than usual names of the same number and lengths would: at most 20 times, 17 in the
  * slowest file that was found. Where the file is refused it is read once more, for the place: that took up to 37 times as long as a usual file that opens.
- * Who chooses a sheet as well can make a save take 42 times as long, 0.7 ms. These are measured (docs/PERFORMANCE.md), not proved. As compiled, a call needs
+ * Who chooses a sheet as well can make a commit take 42 times as long, 0.7 ms. These are measured (docs/PERFORMANCE.md), not proved. As compiled, a call needs
  * at most 70,000 bytes of stack.
  * Where a frame or a piece stands in the file is `start`. Headers without FSTF_VERSION called that `place`: a program written for one of them still compiles,
  * and would store every piece at 0. Write `start` there. Before 0.3.0, `place` was 0 for 3, 4, 7 and 10.
+ * Before 0.4.0, fstf_commit was called fstf_save, its answer FstfSaved and its room FSTF_SAVE_ROOM; these names are gone. What the call takes and answers
+ * has not changed: a program written for 0.3.0 writes the new names, and may call fstf_look ahead of it.
  */
 #ifndef FSTF_H
 #define FSTF_H
@@ -55,13 +57,13 @@ enum {
     FSTF_NO_SUCH_ITEM = 8, /* no such item: Ask for an item number below its count. */
     FSTF_NO_ROOM = 9, /* no room: Lend a longer output (or longer notes). */
     FSTF_SHEET = 10, /* sheet: The change sheet, or the set-up list, is malformed: the first fault is at this place. */
-    FSTF_CONFLICT = 11, /* conflict: Somebody changed the tag at this place of the sheet since it was looked at: look again. */
+    FSTF_CONFLICT = 11, /* conflict: Somebody changed the tag at this place of the sheet since it was seen: look again, which shows every conflict. */
     FSTF_STAGE = 12, /* stage: The recorder's state does not take this call. */
     FSTF_CLOCK = 13, /* clock: The frame's time is before the last one's or too far behind the first. */
     FSTF_FRAME_SHAPE = 14, /* frame shape: The sections given are not what the recording was begun with, or one is too large. */
     FSTF_FULL = 15, /* full: The recording can hold no more. */
     FSTF_WHOLE = 16, /* whole: Nothing to repair: the file opens. */
-    FSTF_TABLE_FULL = 17 /* table full: More than 1,000 tags after the save. */
+    FSTF_TABLE_FULL = 17 /* table full: More than 1,000 tags after the commit. */
 };
 
 /* The name of a refusal, as it stands above. */
@@ -90,9 +92,9 @@ static inline const char *fstf_refusal_name(uint64_t refused) {
 }
 
 /* ── Version ── of this header and of the library that belongs to it. */
-#define FSTF_VERSION "0.3.0"
+#define FSTF_VERSION "0.4.0"
 #define FSTF_VERSION_MAJOR 0
-#define FSTF_VERSION_MINOR 3
+#define FSTF_VERSION_MINOR 4
 #define FSTF_VERSION_PATCH 0
 
 /* ── Places and limits of the format ── Numbers in a file have their low byte first. */
@@ -127,8 +129,8 @@ enum {
  * any file. */
 #define FSTF_REPAIR_ROOM(file_length) \
     (UINT64_C(8) + UINT64_C(16) * ((file_length) / 20 < FSTF_MOST_FRAMES ? (file_length) / 20 : FSTF_MOST_FRAMES))
-/* A save's table: no longer than the old table, from `user` to the file's end, and the sheet together. FSTF_LARGEST_TABLE bytes are always enough. */
-#define FSTF_SAVE_ROOM(table_length, sheet_length) (UINT64_C(0) + (table_length) + (sheet_length))
+/* A commit's table: no longer than the old table, from `user` to the file's end, and the sheet together. FSTF_LARGEST_TABLE bytes are always enough. */
+#define FSTF_COMMIT_ROOM(table_length, sheet_length) (UINT64_C(0) + (table_length) + (sheet_length))
 
 /* ── When to flush ── What is said of cuts below holds for storage that keeps the order of writes. A disk or a card behind a cache may store a later
  * write first. There, flush (fsync and the like) three times:
@@ -253,17 +255,36 @@ typedef struct {
 
 FstfRepaired fstf_repair(const uint8_t *file, size_t file_length, uint8_t *out, size_t out_length);
 
-/* ── Saving tags ── the new user table, to be stored from the user table's place on, where the file then ends. The change sheet: the number of
- * changes in a byte, at most 64; for each a name; what was seen (0 absent, 1 and a value, 2 nobody looked); what is new (0 absent, 1 and a value).
- * Refused 1 to 7, 10, 11, 17, 9. The place of 3, 4 and 7 counts from the start of the file, that of 10 from the start of the sheet; that of 11 is the number
- * of a change. */
+/* ── Saving tags ── in two calls: a look, for a form to show what conflicts, and a commit. Both take a file and a change sheet: the number of changes in a
+ * byte, at most 64; for each a name; what was seen (0 absent, 1 and a value, 2 nobody looked); what is new (0 absent, 1 and a value). A change conflicts
+ * where the user table has something else under its name than was seen, and agrees where it has the same, or where nobody looked.
+ *
+ * A look says of each change whether it agrees or conflicts. Refused 1 to 7, 10. The place of 3, 4 and 7 counts from the start of the file, that of 10 from
+ * the start of the sheet. */
+typedef struct {
+    uint64_t refused;
+    uint64_t place;
+    uint64_t changes;   /* how many changes the sheet has */
+    uint64_t conflicts; /* those that conflict: bit i, worth 2^i, is change i. 0 where all agree */
+} FstfLooked;
+
+FstfLooked fstf_look(const uint8_t *file, size_t file_length, const uint8_t *sheet, size_t sheet_length);
+
+/* Whether a change of the sheet, from 0, conflicts. */
+static inline int fstf_conflicts_at(FstfLooked looked, uint64_t change) {
+    return change < FSTF_MOST_CHANGES && (looked.conflicts >> change & 1) != 0;
+}
+
+/* A commit hands out the new user table, to be stored from the user table's place on, where the file then ends. Refused 1 to 7, 10, 11, 17, 9. It is refused
+ * 11 exactly where a look shows a conflict, and the place is the lowest change that does; the places of 3, 4, 7 and 10 are those of a look. Between a look
+ * and a commit somebody else may store a new table: read the file anew for the commit, and where it is refused 11, look again. */
 typedef struct {
     uint64_t refused;
     uint64_t place;
     uint64_t length; /* how many bytes of `out` are the new table */
-} FstfSaved;
+} FstfCommitted;
 
-FstfSaved fstf_save(const uint8_t *file, size_t file_length, const uint8_t *sheet, size_t sheet_length, uint8_t *out, size_t out_length);
+FstfCommitted fstf_commit(const uint8_t *file, size_t file_length, const uint8_t *sheet, size_t sheet_length, uint8_t *out, size_t out_length);
 
 /* ── Tags of a table ── `table` is exactly a table, as it stands in a file: else refused 7. The place counts from the start of `table`. */
 typedef struct {

@@ -1,4 +1,4 @@
-/* An evening at the box: record a file, lose its end, repair it, tag it, and find one bad character.
+/* An evening at the box: record a file, lose its end, repair it, tag it as two members with the same form, and find one bad character.
  *
  * evening DIRECTORY: the files stay in the directory. Every step is checked; the program ends with 1 where one is not as it should be. */
 #define _POSIX_C_SOURCE 200809L
@@ -184,32 +184,120 @@ static uint64_t repair(const char *path, const char *old, uint64_t expected) {
     return tags;
 }
 
-/* ── Tags ── SITE becomes a value; `seen` is what the member saw, or NULL where there was no such tag. */
+/* ── Tags ── */
 
-static FstfSaved tag(const char *path, const char *seen, const char *value) {
-    uint8_t sheet[64] = {1, 4, 'S', 'I', 'T', 'E'};
-    size_t end = 6;
-    sheet[end++] = seen != NULL;
-    if (seen != NULL) {
-        sheet[end++] = (uint8_t)strlen(seen);
-        memcpy(sheet + end, seen, strlen(seen)), end += strlen(seen);
+/* A line of the member's form: `seen` is what it showed, and `value` what the tag is to be; NULL where there was no such tag. */
+typedef struct {
+    const char *name, *seen, *value;
+} Change;
+
+enum { LINES = 2, SHEET_ROOM = 1 + LINES * 3 * 32 };
+
+static size_t put_string(uint8_t *at, const char *string) {
+    at[0] = (uint8_t)strlen(string);
+    memcpy(at + 1, string, at[0]);
+    return 1 + (size_t)at[0];
+}
+
+/* 0 for an absent value; 1 and the value. */
+static size_t put_entry(uint8_t *at, const char *value) {
+    at[0] = value != NULL;
+    return 1 + (value != NULL ? put_string(at + 1, value) : 0);
+}
+
+static size_t make_sheet(uint8_t *sheet, const Change *changes, int count) {
+    size_t end = 0;
+    sheet[end++] = (uint8_t)count;
+    for (int k = 0; k < count; k++) {
+        end += put_string(sheet + end, changes[k].name);
+        end += put_entry(sheet + end, changes[k].seen);
+        end += put_entry(sheet + end, changes[k].value);
     }
-    sheet[end++] = 1;
-    sheet[end++] = (uint8_t)strlen(value);
-    memcpy(sheet + end, value, strlen(value)), end += strlen(value);
+    return end;
+}
 
-    size_t length;
+/* One line of what a form shows: the tag's name, what was seen and what the file says now. For many changes, one walk over the table by fstf_first_tag and
+ * fstf_next_tag costs less than fstf_tag_named for each. */
+static void show(const uint8_t *table, size_t table_length, Change change, int conflicts) {
+    FstfTag now = fstf_tag_named(table, table_length, (const uint8_t *)change.name, strlen(change.name));
+    taken(now.refused, now.place, change.name);
+    printf("  %s: seen %s, ", change.name, change.seen != NULL ? change.seen : "no such tag");
+    if (now.found) printf("the file says %.*s: ", (int)now.value_length, table + now.value);
+    else printf("the file has no such tag: ");
+    printf("%s\n", conflicts ? "conflicts" : "agrees");
+}
+
+/* Ahead of a commit: the file is only read. */
+static FstfLooked look(const char *path, const Change *changes, int count, const char *who) {
+    uint8_t sheet[SHEET_ROOM];
+    size_t length, sheet_length = make_sheet(sheet, changes, count);
+    uint8_t *file = read_whole(path, &length);
+    FstfLooked looked = fstf_look(file, length, sheet, sheet_length);
+    taken(looked.refused, looked.place, who);
+    FstfOpened opened = fstf_open(file, length);
+    taken(opened.refused, opened.place, path);
+    printf("%s looks\n", who);
+    for (uint64_t k = 0; k < looked.changes; k++)
+        show(file + opened.user, length - opened.user, changes[k], fstf_conflicts_at(looked, k));
+    free(file);
+    return looked;
+}
+
+/* The file is read anew, since somebody may have committed behind the look. */
+static FstfCommitted commit(const char *path, const Change *changes, int count) {
+    uint8_t sheet[SHEET_ROOM];
+    size_t length, sheet_length = make_sheet(sheet, changes, count);
     uint8_t *file = read_whole(path, &length);
     FstfOpened opened = fstf_open(file, length);
     taken(opened.refused, opened.place, path);
-    uint64_t room = FSTF_SAVE_ROOM(length - opened.user, end);
+    uint64_t room = FSTF_COMMIT_ROOM(length - opened.user, sheet_length);
     uint8_t *table = malloc(room);
     check(table != NULL, "memory");
-    FstfSaved saved = fstf_save(file, length, sheet, end, table, room);
-    if (saved.refused == FSTF_TAKEN) end_new(begin_new("new.fstf", file, opened.user, table, saved.length), "new.fstf", path);
+    FstfCommitted committed = fstf_commit(file, length, sheet, sheet_length, table, room);
+    if (committed.refused == FSTF_TAKEN)
+        end_new(begin_new("new.fstf", file, opened.user, table, committed.length), "new.fstf", path);
     free(table);
     free(file);
-    return saved;
+    return committed;
+}
+
+/* Two members have the same form open, and Aino is the first to send it. */
+static void tag_as_two_members(const char *path) {
+    Change aino[] = {{"SITE", NULL, "Kuusamo"}};
+    FstfLooked looked = look(path, aino, 1, "Aino");
+    check(looked.changes == 1 && looked.conflicts == 0, "nobody was ahead of Aino");
+    FstfCommitted committed = commit(path, aino, 1);
+    taken(committed.refused, committed.place, "Aino commits");
+    printf("Aino commits\n");
+
+    Change veli[] = {{"NOTE", NULL, "wind"}, {"SITE", NULL, "Inari"}};
+    looked = look(path, veli, 2, "Veli");
+    check(looked.changes == 2 && looked.conflicts == 1 << 1, "the second of Veli's changes conflicts");
+    committed = commit(path, veli, 2);
+    tell(committed.refused, committed.place, "were he to commit all the same");
+    check(committed.refused == FSTF_CONFLICT && committed.place == 1, "refused at the first change that a look shows to conflict");
+
+    /* he has seen now what Aino wrote */
+    veli[1].seen = "Kuusamo";
+    looked = look(path, veli, 2, "Veli");
+    check(looked.changes == 2 && looked.conflicts == 0, "what he has seen is what the file says");
+    committed = commit(path, veli, 2);
+    taken(committed.refused, committed.place, "Veli commits");
+    printf("Veli commits\n");
+}
+
+/* A value that no tag may have: a look is refused, as a commit would be, at the tab's place in the sheet. */
+static void find_one_character_of_a_sheet(const char *path) {
+    Change tab = {"SITE", "Inari", "Ina\tri"};
+    uint8_t sheet[SHEET_ROOM];
+    size_t length, sheet_length = make_sheet(sheet, &tab, 1);
+    uint8_t *file = read_whole(path, &length);
+    FstfLooked looked = fstf_look(file, length, sheet, sheet_length);
+    tell(looked.refused, looked.place, "a tab in a value");
+    /* 6 bytes of count and name; kind, length and 5 letters of what was seen; kind, length and 3 letters of what is new */
+    check(looked.refused == FSTF_SHEET && looked.place == 6 + 7 + 5, "the place is the tab's in the sheet");
+    check(commit(path, &tab, 1).place == looked.place, "a commit is refused at the same place");
+    free(file);
 }
 
 /* One byte of the last tag's value is damaged: the place of the refusal is that byte, counted from the file's start. */
@@ -251,27 +339,18 @@ int main(int count, char **arguments) {
     check(repair("cut.fstf", "cut.fstf.old", FSTF_NOT_CLOSED) == 0, "no tag was there");
     list("cut.fstf", FRAMES - 1);
 
-    FstfSaved saved = tag("cut.fstf", NULL, "Kuusamo");
-    taken(saved.refused, saved.place, "a tag that nobody had");
-    saved = tag("cut.fstf", NULL, "Inari");
-    tell(saved.refused, saved.place, "one who did not see it");
-    check(saved.refused == FSTF_CONFLICT && saved.place == 0, "one who did not see it is told");
-    saved = tag("cut.fstf", "Kuusamo", "Ina\tri");
-    tell(saved.refused, saved.place, "a tab in a value");
-    /* 6 bytes of count and name; kind, length and 7 letters of what was seen; kind, length and 3 letters of what is new */
-    check(saved.refused == FSTF_SHEET && saved.place == 6 + 9 + 5, "the place is the tab's in the sheet");
-    saved = tag("cut.fstf", "Kuusamo", "Inari");
-    taken(saved.refused, saved.place, "one who saw it changes it");
+    tag_as_two_members("cut.fstf");
+    find_one_character_of_a_sheet("cut.fstf");
     list("cut.fstf", FRAMES - 1);
     find_one_character("cut.fstf");
 
-    /* one flipped bit of the frame count: a repair brings the frames back, and the tag is in the old file only */
+    /* one flipped bit of the frame count: a repair brings the frames back, and the tags are in the old file only */
     uint8_t bit = (FRAMES - 1) ^ 4;
     int damaged = open("cut.fstf", O_WRONLY);
     check(damaged >= 0, "the file is there");
     write_at(damaged, FSTF_COUNT_PLACE, &bit, 1);
     check(close(damaged) == 0, "the damage is done");
-    check(repair("cut.fstf", "cut.fstf.old2", FSTF_INDEX) == 1, "one tag was there");
+    check(repair("cut.fstf", "cut.fstf.old2", FSTF_INDEX) == 2, "two tags were there");
     list("cut.fstf", FRAMES - 1);
     printf("All is as it should be.\n");
     return 0;

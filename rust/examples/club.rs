@@ -1,4 +1,5 @@
-//! An evening at the club: record, list, lose the end of a recording and repair it, save tags as two members at once, and find one bad character.
+//! An evening at the club: record, list, lose the end of a recording and repair it, tag it as two members with the same form open, and find one bad
+//! character.
 //!
 //! club [DIRECTORY]: the files stay in the directory; without one they are made under the system's temporary directory, and removed at the end.
 //! Every step is checked, and the program ends with 1 where one is not as it should be.
@@ -9,7 +10,7 @@ use std::io::Cursor;
 use std::path::{Path, PathBuf};
 use std::process::ExitCode;
 
-use suljanko::{files, repair, FileRecorder, Reason, Recording, Sheet};
+use suljanko::{files, repair, FileRecorder, Look, Reason, Recording, Seen, Sheet};
 
 type Step = Result<(), Box<dyn Error>>;
 
@@ -42,7 +43,7 @@ fn run(directory: &Path) -> Step {
     record(&night)?;
     list(&night)?;
     lose_and_repair(&night, &directory.join("cut.fstf"))?;
-    save_as_two_members(&night)?;
+    tag_as_two_members(&night)?;
     list(&night)?;
     find_one_character(&night, &directory.join("damaged.fstf"))
 }
@@ -146,28 +147,39 @@ fn form(night: &Path, observer: &str, site: &str) -> Result<Sheet, Box<dyn Error
     }
 }
 
-fn save_as_two_members(night: &Path) -> Step {
+fn tag_as_two_members(night: &Path) -> Step {
     println!("3. Aino and Veli have the same form open: there is no tag OBSERVER yet, and no tag SITE.");
     let aino = form(night, "Aino", "Kuusamo")?;
     let veli = form(night, "Veli", "Inari")?;
-    files::save(night, &aino)?;
-    println!("   Aino saves first.");
-    let before = fs::read(night)?;
-    let error = files::save(night, &veli).err().ok_or("a save over another member's change is refused")?;
-    let place = match error.refusal().and_then(|refusal| refusal.place()) {
-        Some(place) => place as usize,
-        None => return Err(error.into()),
-    };
-    check(veli.name(place) == Some("OBSERVER"), "the refusal names the first tag that is not as it was seen")?;
-    check(fs::read(night)? == before, "a refused save leaves the file as it was")?;
-    println!("   Veli's save: {error}");
-    println!("   The tag is {}; nothing was changed.", veli.name(place).unwrap_or_default());
+    check(files::look(night, &aino)?.all_agree(), "nobody was ahead of Aino")?;
+    files::commit(night, &aino)?;
+    println!("   Aino looks, no change of hers conflicts, and she commits.");
+    let look = files::look(night, &veli)?;
+    println!("   Veli looks, and his form shows him:");
+    println!("   │ {}", look.to_string().replace('\n', "\n   │ "));
+    let shown: Vec<_> = look.conflicts().map(|change| (change.name, change.seen, change.now.as_deref())).collect();
+    let expected = [("OBSERVER", Seen::Absent, Some("Aino")), ("SITE", Seen::Absent, Some("Kuusamo"))];
+    check(shown == expected, "each conflict by its name, with what Veli saw and what the file says now")?;
+    commit_over_a_conflict(night, &veli, &look)?;
     let again = form(night, "Aino and Veli", "Kuusamo")?;
-    files::save(night, &again)?;
-    println!("   Veli looks again, sees what Aino wrote, adds himself and saves.");
+    check(files::look(night, &again)?.all_agree(), "what Veli has seen now is what the file says")?;
+    files::commit(night, &again)?;
+    println!("   With Aino's tags before him he adds himself, looks anew, and commits.");
     let file = fs::read(night)?;
     let tags: Vec<_> = Recording::open(&file)?.user_tags().map(|tag| (tag.name, tag.value)).collect();
     check(tags == [("OBSERVER", "Aino and Veli"), ("SITE", "Kuusamo")], "both members' tags are there")
+}
+
+/// One who does not heed what a look shows, or whom another member overtakes behind it, is told by the commit.
+fn commit_over_a_conflict(night: &Path, sheet: &Sheet, look: &Look) -> Step {
+    let before = fs::read(night)?;
+    let error = files::commit(night, sheet).err().ok_or("a commit over another member's change is refused")?;
+    let refusal = error.refusal().ok_or("the library refuses it")?;
+    let first = look.conflicts().next().map(|change| change.place as u64);
+    check(refusal.reason() == Reason::Conflict && refusal.place() == first, "11, at the first change that conflicts")?;
+    check(fs::read(night)? == before, "a refused commit leaves the file as it was")?;
+    println!("   Were he to commit all the same: {error}");
+    Ok(())
 }
 
 fn find_one_character(night: &Path, damaged: &Path) -> Step {
@@ -184,10 +196,10 @@ fn find_one_character(night: &Path, damaged: &Path) -> Step {
     let spot = refusal.spot(&file).ok_or("something stands there")?.to_string();
     println!("   There: {spot}");
     check(spot == r#"user tag 1, "SITE": character 4 of its value, byte 0x07"#, "the refusal leads to the character")?;
-    println!("   Aino types the same character: her form tells her before she saves, and so does a save.");
+    println!("   Aino types the same character: her form tells her before she commits, and so does a look.");
     let mut sheet = Sheet::new();
     sheet.change("SITE").seen(Some("Kuusamo")).set("Kuus\u{7}mo");
-    let refusal = files::save(night, &sheet).err().and_then(|error| error.refusal()).ok_or("no sheet")?;
+    let refusal = files::look(night, &sheet).err().and_then(|error| error.refusal()).ok_or("no sheet")?;
     let fault = sheet.fault_at(refusal).ok_or("the refusal leads to a change")?;
     println!("   {refusal}");
     println!("   {fault}");

@@ -8,7 +8,8 @@
 #![allow(unsafe_code)]
 
 use crate::raw::{
-    self, FstfCursor, FstfFrame, FstfOpened, FstfPart, FstfRecorder, FstfRepaired, FstfSaved, FstfTag, FstfTaken,
+    self, FstfCommitted, FstfCursor, FstfFrame, FstfLooked, FstfOpened, FstfPart, FstfRecorder, FstfRepaired, FstfTag,
+    FstfTaken,
 };
 
 /// Opens a file: what it holds, in numbers. Refused 1 to 7; the place of 3, 4 and 7 counts in the file.
@@ -111,11 +112,18 @@ pub fn repair(file: &[u8], out: &mut [u8]) -> FstfRepaired {
     unsafe { raw::fstf_repair(file.as_ptr(), file.len(), out.as_mut_ptr(), out.len()) }
 }
 
-/// Makes the new user table of a change sheet in `out`. Refused 1 to 7 as [`open`], 10, 11, 17, 9; the place of 10 counts in the sheet, that of 11
-/// is the number of a change.
-pub fn save(file: &[u8], sheet: &[u8], out: &mut [u8]) -> FstfSaved {
+/// Looks which changes of a sheet conflict with what the file says. Refused 1 to 7 as [`open`], 10; the place of 10 counts in the sheet.
+#[must_use]
+pub fn look(file: &[u8], sheet: &[u8]) -> FstfLooked {
+    // SAFETY: as in `open`, for both slices.
+    unsafe { raw::fstf_look(file.as_ptr(), file.len(), sheet.as_ptr(), sheet.len()) }
+}
+
+/// Makes the new user table of a sheet in `out`. Refused as [`look`]; then 11, exactly where it shows a conflict, with the number of the first
+/// change that does; then 17, 9.
+pub fn commit(file: &[u8], sheet: &[u8], out: &mut [u8]) -> FstfCommitted {
     // SAFETY: as in `repair`.
-    unsafe { raw::fstf_save(file.as_ptr(), file.len(), sheet.as_ptr(), sheet.len(), out.as_mut_ptr(), out.len()) }
+    unsafe { raw::fstf_commit(file.as_ptr(), file.len(), sheet.as_ptr(), sheet.len(), out.as_mut_ptr(), out.len()) }
 }
 
 /// A tag by its number, of bytes that are exactly a tag table. Refused 7; its place counts in the table.

@@ -1,12 +1,14 @@
-//! Files on disk: open them, save tags and repair so that a crash leaves the old file or the new one, whole.
+//! Files on disk: open them, look at sheets, commit tags and repair so that a crash leaves the old file or the new one, whole.
 //!
 //! The new file is written beside the old one under the name `.NAME.new`, made durable, and renamed over it. As long as that file is there nobody
-//! else saves or repairs ([`Error::Busy`]): it is made before the old file is read, so that of two members who save at the same moment one is told,
-//! and a change that was saved a moment ago is seen. A crash can leave it behind: [`clear_stale`] removes it when nobody has written to it for as
+//! else commits or repairs ([`Error::Busy`]): it is made before the old file is read, so that of two members who commit at the same moment one is told,
+//! and a change that was committed a moment ago is seen. A crash can leave it behind: [`clear_stale`] removes it when nobody has written to it for as
 //! long as you say. It holds nothing that the old file does not.
 //!
+//! To open and to look only reads: it makes no file, waits for nobody, and meets the old file or the new one.
+//!
 //! A file is read into memory once, for the library to open it. What a new file keeps of the old one is copied by the kernel, which on file systems
-//! that can share blocks copies nothing. The new file has the old one's permissions, and belongs to the member who saved.
+//! that can share blocks copies nothing. The new file has the old one's permissions, and belongs to the member who committed.
 
 use std::ffi::OsString;
 use std::fs::{self, File, OpenOptions};
@@ -14,6 +16,7 @@ use std::io::{self, ErrorKind, Read, Seek, SeekFrom, Write};
 use std::path::{Path, PathBuf};
 use std::time::Duration;
 
+use crate::look::Look;
 use crate::recorder::FileRecorder;
 use crate::recording::OwnedRecording;
 use crate::refusal::{Error, Reason};
@@ -48,13 +51,36 @@ pub fn record<P: AsRef<Path>>(
     begun
 }
 
-/// Saves the changes of a sheet to a file. Refused as [`crate::save`]; then the file is as it was. What is refused 10, [`Sheet::faults`] tells
-/// before, and [`Sheet::fault_at`] after.
-pub fn save<P: AsRef<Path>>(path: P, sheet: &Sheet) -> Result<(), Error> {
+/// Looks which changes of a sheet conflict with a file, and what the file says now of their tags. Refused as [`crate::look()`].
+///
+/// It only reads the file, which may be one that its member may not write. It keeps nobody from it: between a look and a [`commit`] another member may
+/// commit, and then the commit is refused 11. Look again.
+pub fn look<P: AsRef<Path>>(path: P, sheet: &Sheet) -> Result<Look<'_>, Error> {
+    let bytes = read(&File::open(path)?)?;
+    Ok(crate::look(&bytes, sheet)?)
+}
+
+/// Commits the changes of a sheet to a file. Refused as [`crate::commit()`]; then the file is as it was. What is refused 10, [`Sheet::faults`] tells
+/// before, and [`Sheet::fault_at`] after. What is refused 11, [`look`] shows before; and after, where another member committed in between:
+///
+/// ```no_run
+/// # fn send(sheet: &suljanko::Sheet) -> Result<(), suljanko::Error> {
+/// use suljanko::{files, Reason};
+///
+/// match files::commit("night.fstf", sheet) {
+///     Err(error) if error.refusal().map(|refusal| refusal.reason()) == Some(Reason::Conflict) => {
+///         println!("{}", files::look("night.fstf", sheet)?); // each change with what was seen and what the file says now
+///     }
+///     committed => committed?,
+/// }
+/// # Ok(())
+/// # }
+/// ```
+pub fn commit<P: AsRef<Path>>(path: P, sheet: &Sheet) -> Result<(), Error> {
     replace(path.as_ref(), Old::Goes, |old| {
-        let saved = crate::save(old, sheet)?;
-        let kept = saved.place() as u64;
-        Ok(Made { kept, fields: Vec::new(), tail: saved.into_table(), answer: () })
+        let committed = crate::commit(old, sheet)?;
+        let kept = committed.place() as u64;
+        Ok(Made { kept, fields: Vec::new(), tail: committed.into_table(), answer: () })
     })
     .map(|_| ())
 }
@@ -94,7 +120,7 @@ pub fn repair_if_needed<P: AsRef<Path>>(path: P) -> Result<Option<Repaired>, Err
 }
 
 /// Removes the `.NAME.new` that a crash left behind, if nobody has written to it for so long. Answers whether there was one; where it is younger,
-/// somebody may be saving still ([`Error::Busy`]).
+/// somebody may be committing or repairing still ([`Error::Busy`]).
 ///
 /// Writing a recording of many GiB takes minutes, and making it durable takes some in which nothing is written: an hour is a good age. One whose
 /// new file was removed too early is told so, and has changed nothing.
@@ -148,7 +174,7 @@ fn replace<T>(
             Ok(answer)
         }
         Err(error) => {
-            // The old file is untouched. That this one stays behind would be told by the next save.
+            // The old file is untouched. That this one stays behind would be told by the next commit.
             if is_at(&new, &beside) {
                 let _ = fs::remove_file(&beside);
             }

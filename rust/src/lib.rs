@@ -1,4 +1,4 @@
-//! Star recordings in FSTF revision 1 files: open and read them, record them, repair those that were cut off, and save tags.
+//! Star recordings in FSTF revision 1 files: open and read them, record them, repair those that were cut off, and tag them.
 //!
 //! The work is done by a static library that is proved correct against document 01; this crate gives it Rust's types. It takes any bytes and any
 //! order of calls and does not panic. Bad input gets a [`Refusal`], with the number of document 01 and, where it has one, the place of the first
@@ -7,7 +7,7 @@
 //! - [`Recording`]: a file that opened, with its frames, sections and tags as parts of it; [`OwnedRecording`] keeps the bytes too.
 //! - [`Recorder`] and [`FileRecorder`]: frames as they come, in pieces that a crash cannot spoil.
 //! - [`repair()`]: what was stored whole of a recording that was cut off.
-//! - [`Sheet`] and [`save`]: tags, each with what its member saw.
+//! - [`Sheet`]: changes of tags, each with what its member saw; [`look()`] shows which of them conflict with the file, and [`commit()`] makes them.
 //! - [`files`]: the same on disk, where a crash leaves the old file or the new one.
 //! - [`calls`]: the library's calls over plain slices, for programs that lend their own buffers.
 //!
@@ -19,9 +19,11 @@
 #![deny(unsafe_code)]
 
 pub mod calls;
+mod commit;
 mod date;
 pub mod files;
 mod form;
+mod look;
 mod position;
 pub mod raw;
 mod recorder;
@@ -30,11 +32,13 @@ mod refusal;
 mod repair;
 mod sheet;
 
+pub use commit::{commit, Committed};
 pub use date::Date;
 pub use form::{set_up_list, tag_table};
+pub use look::{look, Look, LookedChange};
 pub use position::{Lent, Position, Spot, SpotPart};
 pub use recorder::{FileRecorder, Piece, Recorder, Stage, CLOSING_PIECES};
 pub use recording::{Frame, FrameSections, Frames, OwnedRecording, Recording, Section, Sections, Tag, Tags};
 pub use refusal::{Error, Reason, Refusal};
 pub use repair::{repair, Repair};
-pub use sheet::{save, Change, Fault, Looked, Saved, Seen, Sheet, SheetChange, SheetFault, TagPart};
+pub use sheet::{Change, Fault, Seen, SeenChange, Sheet, SheetChange, SheetFault, TagPart};

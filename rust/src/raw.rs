@@ -138,10 +138,24 @@ pub struct FstfRepaired {
     pub tail: u64,
 }
 
-/// What a save answers.
+/// What a look answers; refused, all members behind `place` are 0.
 #[repr(C)]
 #[derive(Debug, Clone, Copy, PartialEq, Eq)]
-pub struct FstfSaved {
+pub struct FstfLooked {
+    /// The refusal, or 0.
+    pub refused: u64,
+    /// What the refusal's number carries, or 0.
+    pub place: u64,
+    /// How many changes the sheet has, 0 to 64.
+    pub changes: u64,
+    /// The changes that conflict: bit i, worth 2^i, is change i.
+    pub conflicts: u64,
+}
+
+/// What a commit answers; refused, all members behind `place` are 0.
+#[repr(C)]
+#[derive(Debug, Clone, Copy, PartialEq, Eq)]
+pub struct FstfCommitted {
     /// The refusal, or 0.
     pub refused: u64,
     /// What the refusal's number carries, or 0.
@@ -250,15 +264,18 @@ extern "C" {
     /// Repairs a file that was cut. Refused 1 to 4, 16, 13, 15, 9.
     pub fn fstf_repair(file: *const u8, file_length: usize, out: *mut u8, out_length: usize) -> FstfRepaired;
 
-    /// Makes the new user table of a change sheet. Refused 1 to 7, 10, 11, 17, 9.
-    pub fn fstf_save(
+    /// Which changes of a sheet conflict. Refused 1 to 7, 10.
+    pub fn fstf_look(file: *const u8, file_length: usize, sheet: *const u8, sheet_length: usize) -> FstfLooked;
+
+    /// Makes the new user table of a sheet. Refused 1 to 7, 10, 11, 17, 9.
+    pub fn fstf_commit(
         file: *const u8,
         file_length: usize,
         sheet: *const u8,
         sheet_length: usize,
         out: *mut u8,
         out_length: usize,
-    ) -> FstfSaved;
+    ) -> FstfCommitted;
 
     /// A tag of a table by its number. Refused 7.
     pub fn fstf_tag_at(table: *const u8, table_length: usize, number: u64) -> FstfTag;

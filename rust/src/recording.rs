@@ -165,7 +165,7 @@ impl<'a> Recording<'a> {
         between(self.file, self.opened.user, self.file.len() as u64)
     }
 
-    /// Where the user table starts: a save leaves everything ahead of it.
+    /// Where the user table starts: a commit leaves everything ahead of it.
     #[must_use]
     pub fn user_place(&self) -> usize {
         self.opened.user as usize

@@ -6,7 +6,9 @@ use std::io;
 use std::path::PathBuf;
 
 use crate::position::{Grouped, Lent, Position};
-use crate::raw::{FstfCursor, FstfFrame, FstfOpened, FstfPart, FstfRepaired, FstfSaved, FstfTag, FstfTaken};
+use crate::raw::{
+    FstfCommitted, FstfCursor, FstfFrame, FstfLooked, FstfOpened, FstfPart, FstfRepaired, FstfTag, FstfTaken,
+};
 
 /// Why a call was refused, a case for each number of document 01.
 #[derive(Debug, Clone, Copy, PartialEq, Eq, Hash)]
@@ -32,7 +34,8 @@ pub enum Reason {
     NoRoom,
     /// 10: a change sheet or a set-up list is malformed. Its place is the first fault's, in the sheet or in the list.
     Sheet,
-    /// 11: the file says otherwise than a member saw. Its place is the lowest change of the sheet, from 0, that the file disagrees with.
+    /// 11: the file says otherwise than a member saw. Its place is the lowest change of the sheet, from 0, that conflicts; [`crate::look()`] shows them
+    /// all.
     Conflict,
     /// 12: the recorder does not take this call now.
     Stage,
@@ -94,7 +97,7 @@ impl Reason {
             Reason::Conflict => (
                 11,
                 "conflict",
-                "Somebody changed the tag at this place of the sheet since it was looked at: look again.",
+                "Somebody changed the tag at this place of the sheet since it was seen: look again, which shows every conflict.",
             ),
             Reason::Stage => (12, "stage", "The recorder's state does not take this call."),
             Reason::Clock => (13, "clock", "The frame's time is before the last one's or too far behind the first."),
@@ -105,7 +108,7 @@ impl Reason {
             ),
             Reason::Full => (15, "full", "The recording can hold no more."),
             Reason::Whole => (16, "whole", "Nothing to repair: the file opens."),
-            Reason::TableFull => (17, "table full", "More than 1,000 tags after the save."),
+            Reason::TableFull => (17, "table full", "More than 1,000 tags after the commit."),
             Reason::Unknown { number } => {
                 (number, "unknown", "Link the static library that this crate was written for.")
             }
@@ -207,7 +210,7 @@ impl fmt::Display for Refusal {
 
 impl StdError for Refusal {}
 
-/// The calls that take a file; a sheet is lent by a save only.
+/// The calls that take a file; a sheet is lent to look and to commit only.
 fn file_or_sheet(reason: Reason) -> Lent {
     match reason {
         Reason::Sheet => Lent::Sheet,
@@ -246,7 +249,8 @@ refusals! {
     FstfFrame: file_or_sheet,
     FstfPart: file_or_sheet,
     FstfRepaired: file_or_sheet,
-    FstfSaved: file_or_sheet,
+    FstfLooked: file_or_sheet,
+    FstfCommitted: file_or_sheet,
     FstfTaken: set_up_or_table,
     FstfTag: table,
     FstfCursor: table,
@@ -265,7 +269,7 @@ pub enum Error {
     Refused(Refusal),
     /// The storage failed.
     Storage(io::Error),
-    /// Somebody is saving or repairing this file at this moment, or was interrupted in it; see [`crate::files`].
+    /// Somebody is committing to this file or repairing it at this moment, or was interrupted in it; see [`crate::files`].
     Busy {
         /// The file that stands for it.
         lock: PathBuf,
@@ -289,7 +293,8 @@ impl fmt::Display for Error {
             Error::Refused(refusal) => refusal.fmt(f),
             Error::Storage(error) => write!(f, "storage: {error}"),
             Error::Busy { lock } => {
-                write!(f, "busy: {} is there. If nobody is saving, delete it and save again.", lock.display())
+                let lock = lock.display();
+                write!(f, "busy: {lock} is there. If nobody is committing or repairing, delete it and try again.")
             }
         }
     }

@@ -1,22 +1,20 @@
-//! Saving tags: what a member saw, and what is to be.
+//! Change sheets: what a member saw, and what is to be.
 
 use std::collections::HashMap;
 use std::fmt;
-use std::io::{self, Write};
 
 use crate::calls;
-use crate::form::{self, between, short_string};
+use crate::form::short_string;
 use crate::position::{self, Lent, Spot, SpotPart};
-use crate::recording::Recording;
 use crate::refusal::{accepted, Reason, Refusal};
 
 /// The most changes of a sheet.
-const MOST_CHANGES: usize = 64;
+pub(crate) const MOST_CHANGES: usize = 64;
 
 /// The most bytes of a name or a value.
 const LONGEST_STRING: usize = 255;
 
-/// The smallest recording: one section `A`, no frame, no tag. The library looks at a sheet alone by saving it there.
+/// The smallest recording: one section `A`, no frame, no tag. Beside it the library looks at a sheet alone.
 const SMALLEST: [u8; 56] = *b"FSTF\x01\0\0\0\0\
     \x30\0\0\0\0\0\0\0\x2C\0\0\0\0\0\0\0\x34\0\0\0\0\0\0\0\
     \x01\x01A\x2C\0\0\0\0\0\0\0\
@@ -61,16 +59,20 @@ pub struct SheetChange<'s> {
 
 /// A change sheet: changes of user tags, each with what its member saw, or openly that nobody looked.
 ///
-/// A save compares all that was seen with the file, and is refused 11 where the file says otherwise: nobody's change is lost without a word.
+/// [`look()`](crate::look()) compares all that was seen with the file, and shows which changes conflict. [`commit()`](crate::commit()) does the same
+/// first, and is refused 11 where one conflicts: nobody's change is lost without a word.
 ///
 /// ```no_run
-/// # fn save(file: &[u8]) -> Result<(), suljanko::Refusal> {
+/// # fn tag(file: &[u8]) -> Result<(), suljanko::Refusal> {
 /// let recording = suljanko::Recording::open(file)?;
 /// let mut sheet = suljanko::Sheet::new();
 /// sheet.change("SITE").seen(recording.user_tag("SITE")).set("Kuusamo");
 /// sheet.change("NOTE").nobody_looked().remove();
-/// let saved = suljanko::save(file, &sheet)?;
-/// # let _ = saved;
+/// let look = suljanko::look(file, &sheet)?;
+/// if look.all_agree() {
+///     let committed = suljanko::commit(file, &sheet)?;
+/// #   let _ = committed;
+/// }
 /// # Ok(())
 /// # }
 /// ```
@@ -80,7 +82,7 @@ pub struct Sheet {
 }
 
 impl Sheet {
-    /// A sheet without changes. Saved, it leaves the table as it is.
+    /// A sheet without changes. Committed, it leaves the table as it is.
     #[must_use]
     pub fn new() -> Sheet {
         Sheet::default()
@@ -125,9 +127,8 @@ impl Sheet {
     /// A sheet of bytes in the form of document 01, as [`Sheet::to_vec`] gives them. Refused 10; the library says whether they are a sheet, and where
     /// not. [`Refusal::spot`] of the bytes tells the change and the character.
     pub fn from_bytes(bytes: &[u8]) -> Result<Sheet, Refusal> {
-        let judged = calls::save(&SMALLEST, bytes, &mut []).refusal();
-        // any other refusal is one of the smallest recording, behind 10
-        accepted(judged.filter(|refusal| refusal.reason() == Reason::Sheet))?;
+        // the smallest recording opens, so that there is no other refusal than 10
+        accepted(calls::look(&SMALLEST, bytes).refusal())?;
         rows_of(bytes).map(|rows| Sheet { rows }).ok_or(Refusal::NO_SHEET)
     }
 
@@ -227,8 +228,8 @@ impl Sheet {
         self.rows.is_empty()
     }
 
-    /// The name of the tag that the change at this place, from 0, is about: what [`Refusal::place`] of an 11 points at. For 10 see
-    /// [`Sheet::fault_at`].
+    /// The name of the tag that the change at this place, from 0, is about: what [`Refusal::place`] of an 11 points at. A look shows all that
+    /// conflict, [`crate::Look::conflicts`]. For 10 see [`Sheet::fault_at`].
     #[must_use]
     pub fn name(&self, place: usize) -> Option<&str> {
         self.rows.get(place).map(|row| row.name.as_str())
@@ -412,27 +413,28 @@ pub struct Change<'s> {
 }
 
 impl<'s> Change<'s> {
-    /// The member looked, and saw this value, or that there was no such tag: as [`Recording::user_tag`] answered then.
-    pub fn seen(self, value: Option<&str>) -> Looked<'s> {
-        Looked { seen: Known::Entry(value.map(str::to_string)), sheet: self.sheet, name: self.name }
+    /// The member looked, and saw this value, or that there was no such tag: as [`crate::Recording::user_tag`] answered then, or as
+    /// [`crate::LookedChange::now`] showed it.
+    pub fn seen(self, value: Option<&str>) -> SeenChange<'s> {
+        SeenChange { seen: Known::Entry(value.map(str::to_string)), sheet: self.sheet, name: self.name }
     }
 
     /// Nobody looked: the change is to be made whatever the file says.
-    pub fn nobody_looked(self) -> Looked<'s> {
-        Looked { seen: Known::NobodyLooked, sheet: self.sheet, name: self.name }
+    pub fn nobody_looked(self) -> SeenChange<'s> {
+        SeenChange { seen: Known::NobodyLooked, sheet: self.sheet, name: self.name }
     }
 }
 
 /// A change of which is not yet said what is new.
 #[derive(Debug)]
 #[must_use = "the change is on the sheet when it was said what is new"]
-pub struct Looked<'s> {
+pub struct SeenChange<'s> {
     sheet: &'s mut Sheet,
     name: String,
     seen: Known,
 }
 
-impl Looked<'_> {
+impl SeenChange<'_> {
     /// The tag is to have this value, which may be empty.
     pub fn set(self, value: &str) {
         self.becomes(Some(value.to_string()));
@@ -445,58 +447,5 @@ impl Looked<'_> {
 
     fn becomes(self, new: Option<String>) {
         self.sheet.rows.push(Row { name: self.name, seen: self.seen, new });
-    }
-}
-
-/// An accepted save: the new user table, and the file that it belongs to.
-#[derive(Debug, Clone)]
-pub struct Saved<'a> {
-    file: &'a [u8],
-    place: usize,
-    table: Vec<u8>,
-}
-
-/// Makes the new user table of a change sheet. Refused 1 to 7, 10, 11, 17; with 10, [`Sheet::fault_at`] tells which tag and which character, with 11,
-/// [`Sheet::name`] at [`Refusal::place`] tells which tag.
-///
-/// It is an answer, not a write: [`crate::files::save`] saves to a file on disk.
-pub fn save<'a>(file: &'a [u8], sheet: &Sheet) -> Result<Saved<'a>, Refusal> {
-    let recording = Recording::open(file)?;
-    let sheet = sheet.to_vec();
-    // no new table is longer than the old one and the sheet together
-    let mut table = form::room(recording.user_table().len().saturating_add(sheet.len()))?;
-    let saved = calls::save(file, &sheet, &mut table);
-    accepted(saved.refusal())?;
-    table.truncate(saved.length as usize);
-    Ok(Saved { file, place: recording.user_place(), table })
-}
-
-impl Saved<'_> {
-    /// Where the table goes in the file, which ends behind it.
-    #[must_use]
-    pub fn place(&self) -> usize {
-        self.place
-    }
-
-    /// The new user table.
-    #[must_use]
-    pub fn table(&self) -> &[u8] {
-        &self.table
-    }
-
-    pub(crate) fn into_table(self) -> Vec<u8> {
-        self.table
-    }
-
-    /// Writes the new file, front to back. Do not write it over the file itself.
-    pub fn write<W: Write>(&self, mut storage: W) -> io::Result<()> {
-        storage.write_all(between(self.file, 0, self.place as u64))?;
-        storage.write_all(&self.table)
-    }
-
-    /// The bytes of the new file.
-    #[must_use]
-    pub fn to_vec(&self) -> Vec<u8> {
-        [between(self.file, 0, self.place as u64), &self.table].concat()
     }
 }

@@ -3,7 +3,7 @@
 mod common;
 
 use common::{recorded, tagged};
-use suljanko::{repair, save, Reason, Recording, Sheet};
+use suljanko::{commit, look, repair, Reason, Recording, Sheet};
 
 /// A small generator (xorshift), so that the run is the same each time.
 struct Random(u64);
@@ -66,12 +66,14 @@ fn any_bytes_are_answered() {
                 opened += 1;
                 read_all(recording);
                 assert_eq!(repair(&file).unwrap_err().reason(), Reason::Whole);
-                let saved = save(&file, &sheet).unwrap().to_vec();
-                assert_eq!(Recording::open(&saved).unwrap().user_tag("T1"), Some("new"));
+                assert!(look(&file, &sheet).unwrap().all_agree());
+                let tagged = commit(&file, &sheet).unwrap().to_vec();
+                assert_eq!(Recording::open(&tagged).unwrap().user_tag("T1"), Some("new"));
             }
             Err(refusal) => {
                 assert!((1..=7).contains(&refusal.number()));
-                assert_eq!(save(&file, &sheet).unwrap_err(), refusal);
+                assert_eq!(look(&file, &sheet).unwrap_err(), refusal);
+                assert_eq!(commit(&file, &sheet).unwrap_err(), refusal);
                 if let Ok(repair) = repair(&file) {
                     repaired += 1;
                     let file = repair.to_vec();

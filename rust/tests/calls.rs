@@ -3,8 +3,8 @@
 mod common;
 
 use common::{before_closing, WHOLE};
-use suljanko::raw::{self, FstfCursor, FstfOpened, FstfRecorder};
-use suljanko::{calls, save, Recording, Sheet};
+use suljanko::raw::{self, FstfCursor, FstfLooked, FstfOpened, FstfRecorder};
+use suljanko::{calls, commit, Recording, Sheet};
 
 const NONE: &[u8] = &[];
 
@@ -17,8 +17,10 @@ fn empty_slices() {
     assert_eq!(calls::frame(NONE, 0).refused, 1);
     assert_eq!(calls::part(NONE, raw::FSTF_SECTION, 0, 0).refused, 1);
     assert_eq!(calls::repair(NONE, &mut []).refused, 1);
-    assert_eq!(calls::save(NONE, NONE, &mut []).refused, 1);
-    assert_eq!(calls::save(&WHOLE, NONE, &mut []).refused, 10);
+    assert_eq!(calls::look(NONE, NONE).refused, 1);
+    assert_eq!(calls::look(&WHOLE, NONE).refused, 10);
+    assert_eq!(calls::commit(NONE, NONE, &mut []).refused, 1);
+    assert_eq!(calls::commit(&WHOLE, NONE, &mut []).refused, 10);
     assert_eq!(calls::begin(calls::new(), NONE, NONE, &mut [], &mut []).refused, 10);
     assert_eq!(calls::tag_at(NONE, 0).refused, 7);
     assert_eq!(calls::tag_named(NONE, NONE).refused, 7);
@@ -89,6 +91,13 @@ fn refused_answers_hold_nothing_else() {
     assert_eq!(calls::open(&WHOLE[..97]), nothing);
     let part = calls::part(&WHOLE, raw::FSTF_SECTION, 1, 0);
     assert_eq!((part.refused, part.place, part.start, part.length), (8, 0, 0, 0));
+    // a sheet whose first change conflicts: neither it nor the number of changes is told where the file or the sheet is refused
+    let sheet = [1, 1, b'A', 1, 0, 0];
+    let looked = FstfLooked { refused: 0, place: 0, changes: 1, conflicts: 1 };
+    assert_eq!(calls::look(&WHOLE, &sheet), looked);
+    let nothing = FstfLooked { refused: 7, place: 94, changes: 0, conflicts: 0 };
+    assert_eq!(calls::look(&WHOLE[..97], &sheet), nothing);
+    assert_eq!(calls::look(&WHOLE, &sheet[..5]), FstfLooked { refused: 10, place: 5, ..nothing });
 }
 
 #[test]
@@ -230,18 +239,18 @@ fn outputs_of_every_length() {
 }
 
 #[test]
-fn a_save_fills_its_output_and_no_more() {
+fn a_commit_fills_its_output_and_no_more() {
     let mut sheet = Sheet::new();
     sheet.change("SITE").nobody_looked().set("A");
-    let table = save(&WHOLE, &sheet).unwrap().table().to_vec();
+    let table = commit(&WHOLE, &sheet).unwrap().table().to_vec();
     for length in 0..table.len() + 3 {
         let mut out = vec![0x5A; length];
-        let saved = calls::save(&WHOLE, &sheet.to_vec(), &mut out);
+        let committed = calls::commit(&WHOLE, &sheet.to_vec(), &mut out);
         if length < table.len() {
-            assert_eq!((saved.refused, saved.place, saved.length), (9, 0, 0));
+            assert_eq!((committed.refused, committed.place, committed.length), (9, 0, 0));
             assert!(out.iter().all(|byte| *byte == 0x5A));
         } else {
-            assert_eq!((saved.refused, saved.length), (0, 11));
+            assert_eq!((committed.refused, committed.length), (0, 11));
             assert_eq!(out[..11], table);
             assert!(out[11..].iter().all(|byte| *byte == 0x5A));
         }

@@ -5,7 +5,7 @@ mod common;
 use std::io::Cursor;
 
 use common::{before_closing, running, with, WHOLE};
-use suljanko::{repair, save, FileRecorder, Reason, Recorder, Recording, Refusal, Sheet, Stage, CLOSING_PIECES};
+use suljanko::{commit, repair, FileRecorder, Reason, Recorder, Recording, Refusal, Sheet, Stage, CLOSING_PIECES};
 
 fn refused(file: &[u8]) -> Reason {
     Recording::open(file).unwrap_err().reason()
@@ -66,17 +66,17 @@ fn p10_a_cut_system_table() {
 }
 
 #[test]
-fn p11_and_p12_a_save_and_the_same_again() {
+fn p11_and_p12_a_commit_and_the_same_again() {
     let mut sheet = Sheet::new();
     sheet.change("SITE").seen(None).set("A");
     assert_eq!(sheet.to_vec(), [0x01, 0x04, 0x53, 0x49, 0x54, 0x45, 0x00, 0x01, 0x01, 0x41]);
-    let saved = save(&WHOLE, &sheet).unwrap();
-    assert_eq!(saved.place(), 94);
-    assert_eq!(saved.table(), [0x01, 0x00, 0x00, 0x00, 0x04, 0x53, 0x49, 0x54, 0x45, 0x01, 0x41]);
-    let file = saved.to_vec();
+    let committed = commit(&WHOLE, &sheet).unwrap();
+    assert_eq!(committed.place(), 94);
+    assert_eq!(committed.table(), [0x01, 0x00, 0x00, 0x00, 0x04, 0x53, 0x49, 0x54, 0x45, 0x01, 0x41]);
+    let file = committed.to_vec();
     assert_eq!(file[..94], WHOLE[..94]);
     assert_eq!(Recording::open(&file).unwrap().user_tag("SITE"), Some("A"));
-    assert_eq!(save(&file, &sheet).err(), Refusal::of(11, 0));
+    assert_eq!(commit(&file, &sheet).err(), Refusal::of(11, 0));
 }
 
 #[test]

@@ -1,4 +1,4 @@
-//! Saving and repairing files on disk.
+//! Looking, committing and repairing on disk.
 
 mod common;
 
@@ -53,16 +53,16 @@ fn user_tag(path: &Path, name: &str) -> Option<String> {
 }
 
 #[test]
-fn two_members_save() {
+fn two_members_commit() {
     let place = Place::new("members");
     let path = place.file("night.fstf", &WHOLE);
-    files::save(&path, &site(None, "Kuusamo")).unwrap();
+    files::commit(&path, &site(None, "Kuusamo")).unwrap();
     assert_eq!(user_tag(&path, "SITE").as_deref(), Some("Kuusamo"));
     let before = fs::read(&path).unwrap();
-    let error = files::save(&path, &site(None, "Inari")).unwrap_err();
+    let error = files::commit(&path, &site(None, "Inari")).unwrap_err();
     assert_eq!(error.refusal(), Refusal::of(11, 0));
     assert_eq!(fs::read(&path).unwrap(), before);
-    files::save(&path, &site(Some("Kuusamo"), "Inari")).unwrap();
+    files::commit(&path, &site(Some("Kuusamo"), "Inari")).unwrap();
     assert_eq!(user_tag(&path, "SITE").as_deref(), Some("Inari"));
     assert_eq!(fs::read(&path).unwrap()[..94], WHOLE[..94]);
     assert_eq!(place.names(), ["night.fstf"]);
@@ -72,24 +72,113 @@ fn two_members_save() {
 fn a_shorter_table_ends_the_file() {
     let place = Place::new("shorter");
     let path = place.file("night.fstf", &WHOLE);
-    files::save(&path, &site(None, "a long name of a place")).unwrap();
+    files::commit(&path, &site(None, "a long name of a place")).unwrap();
     let mut sheet = Sheet::new();
     sheet.change("SITE").nobody_looked().remove();
-    files::save(&path, &sheet).unwrap();
+    files::commit(&path, &sheet).unwrap();
     assert_eq!(fs::read(&path).unwrap(), WHOLE);
 }
 
 #[test]
-fn somebody_is_saving() {
+fn somebody_is_committing() {
     let place = Place::new("busy");
     let path = place.file("night.fstf", &WHOLE);
     let lock = place.file(".night.fstf.new", b"half a fi");
-    let error = files::save(&path, &site(None, "A")).unwrap_err();
+    let error = files::commit(&path, &site(None, "A")).unwrap_err();
     assert!(matches!(&error, Error::Busy { lock } if lock.ends_with(".night.fstf.new")), "{error}");
     assert!(matches!(files::repair(&path).unwrap_err(), Error::Busy { .. }));
     assert_eq!((fs::read(&path).unwrap(), fs::read(&lock).unwrap()), (WHOLE.to_vec(), b"half a fi".to_vec()));
     fs::remove_file(lock).unwrap();
-    files::save(&path, &site(None, "A")).unwrap();
+    files::commit(&path, &site(None, "A")).unwrap();
+}
+
+#[test]
+fn a_look_ahead_of_a_commit() {
+    let place = Place::new("look");
+    let path = place.file("night.fstf", &WHOLE);
+    let (aino, veli) = (site(None, "Kuusamo"), site(None, "Inari"));
+    // both look and see no conflict, and both commit
+    for sheet in [&aino, &veli] {
+        assert!(files::look(&path, sheet).unwrap().all_agree());
+    }
+    files::commit(&path, &aino).unwrap();
+    assert_eq!(files::commit(&path, &veli).unwrap_err().refusal(), Refusal::of(11, 0));
+    // the one who is told looks again
+    let look = files::look(&path, &veli).unwrap();
+    let line = r#"change 0, tag "SITE": seen no such tag, the file says "Kuusamo", to be "Inari": conflicts"#;
+    assert_eq!(look.to_string(), format!("1 of 1 changes conflicts\n{line}"));
+    let now = look.changes()[0].now.clone();
+    files::commit(&path, &site(now.as_deref(), "Inari")).unwrap();
+    assert_eq!(user_tag(&path, "SITE").as_deref(), Some("Inari"));
+    assert_eq!(place.names(), ["night.fstf"]);
+}
+
+#[test]
+fn a_look_leaves_the_disk_as_it_is() {
+    use std::os::unix::fs::MetadataExt;
+    let place = Place::new("untouched");
+    let path = place.file("night.fstf", &WHOLE);
+    let met = || {
+        let met = fs::metadata(&path).unwrap();
+        (met.ino(), met.mtime(), met.mtime_nsec(), met.ctime(), met.ctime_nsec(), met.mode())
+    };
+    let mut read_only = fs::metadata(&path).unwrap().permissions();
+    read_only.set_readonly(true);
+    fs::set_permissions(&path, read_only).unwrap();
+    let before = met();
+    for sheet in [Sheet::new(), site(None, "A"), site(Some("B"), "A")] {
+        let look = files::look(&path, &sheet).unwrap();
+        assert_eq!(look.changes().len(), sheet.len());
+    }
+    assert_eq!(files::look(&path, &site(None, "\t")).unwrap_err().refusal().map(|refusal| refusal.number()), Some(10));
+    assert_eq!((met(), fs::read(&path).unwrap()), (before, WHOLE.to_vec()));
+    assert_eq!(place.names(), ["night.fstf"]);
+}
+
+#[test]
+fn a_look_does_not_wait_for_one_who_commits() {
+    let place = Place::new("reading");
+    let path = place.file("night.fstf", &WHOLE);
+    let lock = place.file(".night.fstf.new", b"half a fi");
+    assert!(files::look(&path, &site(None, "A")).unwrap().all_agree());
+    assert_eq!(fs::read(lock).unwrap(), b"half a fi");
+    assert_eq!(place.names(), [".night.fstf.new", "night.fstf"]);
+}
+
+// Members who look, add one to what the file says and commit, all at the same moment: no step is lost.
+#[test]
+fn many_members_look_and_commit() {
+    const MEMBERS: usize = 4;
+    const STEPS: usize = 25;
+    let place = Place::new("steps");
+    let path = place.file("night.fstf", &WHOLE);
+    files::commit(&path, &site(None, "0")).unwrap();
+    let members: Vec<_> = (0..MEMBERS)
+        .map(|_| {
+            let path = path.clone();
+            std::thread::spawn(move || {
+                let (mut done, mut overtaken) = (0, 0);
+                while done < STEPS {
+                    let asked = site(None, "");
+                    let now = files::look(&path, &asked).unwrap().changes()[0].now.clone().unwrap();
+                    let next = now.parse::<usize>().unwrap() + 1;
+                    match files::commit(&path, &site(Some(&now), &next.to_string())) {
+                        Ok(()) => done += 1,
+                        Err(Error::Busy { .. }) => std::thread::yield_now(),
+                        Err(error) => {
+                            assert_eq!(error.refusal(), Refusal::of(11, 0));
+                            overtaken += 1;
+                        }
+                    }
+                }
+                overtaken
+            })
+        })
+        .collect();
+    let overtaken: usize = members.into_iter().map(|member| member.join().unwrap()).sum();
+    let steps = (MEMBERS * STEPS).to_string();
+    assert_eq!(user_tag(&path, "SITE"), Some(steps), "overtaken {overtaken} times");
+    assert_eq!(place.names(), ["night.fstf"]);
 }
 
 #[test]
@@ -102,8 +191,8 @@ fn many_members_at_the_same_moment() {
             std::thread::spawn(move || {
                 let mut sheet = Sheet::new();
                 sheet.change(&format!("MEMBER{member}")).seen(None).set("was here");
-                // until nobody else is saving
-                while let Err(error) = files::save(&path, &sheet) {
+                // until nobody else is committing
+                while let Err(error) = files::commit(&path, &sheet) {
                     assert!(matches!(error, Error::Busy { .. }), "{error}");
                     std::thread::yield_now();
                 }
@@ -127,7 +216,7 @@ fn one_of_many_who_saw_the_same_wins() {
         .map(|member| {
             let path = path.clone();
             std::thread::spawn(move || loop {
-                match files::save(&path, &site(None, &format!("member {member}"))) {
+                match files::commit(&path, &site(None, &format!("member {member}"))) {
                     Ok(()) => return Some(member),
                     Err(Error::Busy { .. }) => std::thread::yield_now(),
                     Err(error) => {
@@ -149,18 +238,22 @@ fn at_every_moment_the_old_file_or_the_new_one_is_there() {
     let place = Place::new("moments");
     let path = place.file("night.fstf", &WHOLE);
     let values = ["short", "a value of quite another length"];
-    files::save(&path, &site(None, values[0])).unwrap();
-    let saved = path.clone();
-    let saving = std::thread::spawn(move || {
+    files::commit(&path, &site(None, values[0])).unwrap();
+    let tagged = path.clone();
+    let committing = std::thread::spawn(move || {
         for number in 0..100 {
-            files::save(&saved, &site(Some(values[number % 2]), values[(number + 1) % 2])).unwrap();
+            files::commit(&tagged, &site(Some(values[number % 2]), values[(number + 1) % 2])).unwrap();
         }
     });
-    while !saving.is_finished() {
+    while !committing.is_finished() {
         let met = user_tag(&path, "SITE").unwrap();
         assert!(values.contains(&met.as_str()), "{met}");
+        let sheet = site(Some(values[0]), "");
+        let look = files::look(&path, &sheet).unwrap();
+        let now = look.changes()[0].now.as_deref();
+        assert!(values.map(Some).contains(&now) && look.all_agree() == (now == Some(values[0])), "{look}");
     }
-    saving.join().unwrap();
+    committing.join().unwrap();
 }
 
 #[test]
@@ -212,7 +305,8 @@ fn an_error_shows_where_the_fault_is() {
     let path = place.file("damaged.fstf", &file);
     let errors = [
         files::open(&path).unwrap_err(),
-        files::save(&path, &Sheet::new()).unwrap_err(),
+        files::look(&path, &Sheet::new()).unwrap_err(),
+        files::commit(&path, &Sheet::new()).unwrap_err(),
         files::repair(&path).unwrap_err(),
         files::repair_if_needed(&path).unwrap_err(),
     ];
@@ -222,8 +316,10 @@ fn an_error_shows_where_the_fault_is() {
         assert_eq!(spot.to_string(), r#"section 0, "IM-GE": character 2 of its name, byte 0x2D"#);
     }
     let path = place.file("night.fstf", &WHOLE);
-    let error = files::save(&path, &site(None, "A\n")).unwrap_err();
-    assert!(error.to_string().starts_with("refused 10, sheet at byte 10 of the sheet: "), "{error}");
+    let sheet = site(None, "A\n");
+    for error in [files::look(&path, &sheet).unwrap_err(), files::commit(&path, &sheet).unwrap_err()] {
+        assert!(error.to_string().starts_with("refused 10, sheet at byte 10 of the sheet: "), "{error}");
+    }
     let error = files::record(place.0.join("none.fstf"), &[("A B", b"")], &[]).unwrap_err();
     assert!(error.to_string().starts_with("refused 3, sections at byte 3 of the set-up list: "), "{error}");
 }
@@ -231,7 +327,8 @@ fn an_error_shows_where_the_fault_is() {
 #[test]
 fn files_that_are_not_there() {
     let place = Place::new("nothing");
-    assert!(matches!(files::save(place.0.join("no.fstf"), &Sheet::new()).unwrap_err(), Error::Storage(_)));
+    assert!(matches!(files::look(place.0.join("no.fstf"), &Sheet::new()).unwrap_err(), Error::Storage(_)));
+    assert!(matches!(files::commit(place.0.join("no.fstf"), &Sheet::new()).unwrap_err(), Error::Storage(_)));
     assert!(matches!(files::repair(place.0.join("no.fstf")).unwrap_err(), Error::Storage(_)));
     assert!(matches!(files::repair(&place.0).unwrap_err(), Error::Storage(_)));
     assert!(place.names().is_empty());
@@ -246,7 +343,7 @@ fn links_stay_and_so_do_permissions() {
     fs::set_permissions(&path, fs::Permissions::from_mode(0o640)).unwrap();
     let link = place.0.join("link.fstf");
     std::os::unix::fs::symlink(&path, &link).unwrap();
-    files::save(&link, &site(None, "A")).unwrap();
+    files::commit(&link, &site(None, "A")).unwrap();
     assert!(fs::symlink_metadata(&link).unwrap().file_type().is_symlink());
     assert_eq!(user_tag(&path, "SITE").as_deref(), Some("A"));
     assert_eq!(fs::metadata(&path).unwrap().permissions().mode() & 0o777, 0o640);
@@ -254,7 +351,7 @@ fn links_stay_and_so_do_permissions() {
 
 /// The worked file with these user tags, and one bit of its header's frame count flipped: refused 6.
 fn flipped(tags: &[(&str, &str)]) -> Vec<u8> {
-    let mut file = suljanko::save(&WHOLE, &Sheet::from_form(&[], tags)).unwrap().to_vec();
+    let mut file = suljanko::commit(&WHOLE, &Sheet::from_form(&[], tags)).unwrap().to_vec();
     assert_eq!(Recording::open(&file).unwrap().user_tags().len(), tags.len());
     file[5] ^= 2;
     assert_eq!(Recording::open(&file).unwrap_err().number(), 6);
@@ -271,11 +368,11 @@ fn a_repair_tells_the_tags_that_it_does_not_keep_and_leaves_the_old_file() {
     assert_eq!(done.old, place.0.canonicalize().unwrap().join("night.fstf.old"));
     assert_eq!(fs::read(&done.old).unwrap(), file);
     assert_eq!(fs::read(&path).unwrap(), WHOLE);
-    // the tags can be had from there, and saved again
+    // the tags can be had from there, and committed again
     let old = fs::read(&done.old).unwrap();
     let tags: Vec<_> = suljanko::repair(&old).unwrap().tags_not_kept().map(|tag| (tag.name, tag.value)).collect();
     assert_eq!(tags, [("SITE", "Kuusamo"), ("OBSERVER", "Aino")]);
-    files::save(&path, &Sheet::from_form(&[], &tags)).unwrap();
+    files::commit(&path, &Sheet::from_form(&[], &tags)).unwrap();
     assert_eq!(user_tag(&path, "OBSERVER").as_deref(), Some("Aino"));
 }
 
@@ -291,9 +388,9 @@ fn no_old_file_is_overwritten() {
     assert_eq!(fs::read(&done.old).unwrap(), cut);
     assert_eq!(fs::read(place.0.join("night.fstf.old")).unwrap(), b"a first one");
     assert_eq!(fs::read(place.0.join("night.fstf.old2")).unwrap(), b"a second one");
-    // neither a refused repair nor a save leaves one
+    // neither a refused repair nor a commit leaves one
     assert_eq!(files::repair(&path).unwrap_err().refusal().map(|refusal| refusal.number()), Some(16));
-    files::save(&path, &site(None, "A")).unwrap();
+    files::commit(&path, &site(None, "A")).unwrap();
     let names = ["night.fstf", "night.fstf.old", "night.fstf.old2", "night.fstf.old3"];
     assert_eq!(place.names(), names);
 }
@@ -320,27 +417,27 @@ fn what_a_crash_left_is_cleared_when_it_is_old() {
     let hour = Duration::from_secs(3600);
     assert!(!files::clear_stale(&path, hour).unwrap());
     place.file(".night.fstf.new", b"half a fi");
-    assert!(matches!(files::save(&path, &site(None, "A")).unwrap_err(), Error::Busy { .. }));
+    assert!(matches!(files::commit(&path, &site(None, "A")).unwrap_err(), Error::Busy { .. }));
     let error = files::clear_stale(&path, hour).unwrap_err();
     assert!(matches!(&error, Error::Busy { lock } if lock.ends_with(".night.fstf.new")), "{error}");
     assert_eq!(place.names(), [".night.fstf.new", "night.fstf"]);
     assert!(files::clear_stale(&path, Duration::ZERO).unwrap());
-    files::save(&path, &site(None, "A")).unwrap();
+    files::commit(&path, &site(None, "A")).unwrap();
     assert_eq!(place.names(), ["night.fstf"]);
 }
 
-// Members save while another clears their new files without waiting: each save is told, or is there.
+// Members commit while another clears their new files without waiting: each commit is told, or is there.
 #[test]
 fn one_whose_new_file_was_cleared_is_told() {
     let place = Place::new("cleared");
     let path = place.file("night.fstf", &WHOLE);
-    let saving = {
+    let committing = {
         let path = path.clone();
         std::thread::spawn(move || {
             let (mut seen, mut told) = (None, 0);
             for number in 0..400 {
                 let new = format!("{number}");
-                match files::save(&path, &site(seen.as_deref(), &new)) {
+                match files::commit(&path, &site(seen.as_deref(), &new)) {
                     Ok(()) => seen = Some(new),
                     Err(Error::Busy { .. }) => told += 1,
                     // between the look whose file it is and the rename
@@ -351,10 +448,10 @@ fn one_whose_new_file_was_cleared_is_told() {
             (seen, told)
         })
     };
-    while !saving.is_finished() {
+    while !committing.is_finished() {
         let _ = files::clear_stale(&path, Duration::ZERO);
     }
-    let (seen, told) = saving.join().unwrap();
+    let (seen, told) = committing.join().unwrap();
     assert_eq!(user_tag(&path, "SITE"), seen, "told {told} times");
     assert_eq!(place.names(), ["night.fstf"]);
 }
@@ -372,11 +469,11 @@ fn one_who_is_too_slow_leaves_the_next_members_file() {
     let before = fs::read(&path).unwrap();
     let slow = {
         let path = path.clone();
-        std::thread::spawn(move || files::save(&path, &site(None, "too late")))
+        std::thread::spawn(move || files::commit(&path, &site(None, "too late")))
     };
     // as soon as it is there
     while !files::clear_stale(&path, Duration::ZERO).unwrap() {
-        assert!(!slow.is_finished(), "20 MB were saved before anybody could look");
+        assert!(!slow.is_finished(), "20 MB were committed before anybody could look");
     }
     place.file(".night.fstf.new", b"the next member's");
     assert!(matches!(slow.join().unwrap(), Err(Error::Busy { .. })));
@@ -396,9 +493,9 @@ fn a_file_of_many_blocks_is_kept_byte_for_byte() {
     let cut = fs::read(&path).unwrap();
     recorder.close_on_disk().unwrap();
     let whole = fs::read(&path).unwrap();
-    files::save(&path, &site(None, "Kuusamo")).unwrap();
-    let saved = fs::read(&path).unwrap();
-    assert!(saved == suljanko::save(&whole, &site(None, "Kuusamo")).unwrap().to_vec());
+    files::commit(&path, &site(None, "Kuusamo")).unwrap();
+    let tagged = fs::read(&path).unwrap();
+    assert!(tagged == suljanko::commit(&whole, &site(None, "Kuusamo")).unwrap().to_vec());
     let path = place.file("cut.fstf", &cut);
     assert_eq!(files::repair(&path).unwrap().frames, 40);
     assert!(fs::read(&path).unwrap() == whole);

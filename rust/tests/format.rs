@@ -3,7 +3,7 @@
 mod common;
 
 use common::WHOLE;
-use suljanko::{calls, repair, save, Recorder, Recording, Refusal, Sheet};
+use suljanko::{calls, commit, repair, Recorder, Recording, Refusal, Sheet};
 
 const FORMAT: &str = include_str!("../../docs/FORMAT.md");
 const WORKED: &[u8] = include_bytes!("../../examples/worked.fstf");
@@ -94,9 +94,9 @@ fn the_twelve_examples() {
     assert_eq!((answer(9), repair(&open).unwrap().to_vec()), ("the worked file", WORKED.to_vec()));
     assert_eq!(answer(10), repair(&open[..51]).unwrap_err().number().to_string());
     let sheet = Sheet::from_bytes(&hex(rows[11][1].split('`').nth(1).unwrap())).unwrap();
-    let saved = save(WORKED, &sheet).unwrap();
-    assert_eq!(saved.table(), hex(answer(11).split('`').nth(1).unwrap()));
-    let again = save(&saved.to_vec(), &sheet).unwrap_err();
+    let committed = commit(WORKED, &sheet).unwrap();
+    assert_eq!(committed.table(), hex(answer(11).split('`').nth(1).unwrap()));
+    let again = commit(&committed.to_vec(), &sheet).unwrap_err();
     assert_eq!((answer(12), again.number()), ("11, place 0", 11));
 }
 

@@ -69,7 +69,7 @@ fn structs() {
             (name.to_string(), each(members, ',', from_rust))
         })
         .collect();
-    assert_eq!(in_header.len(), 9);
+    assert_eq!(in_header.len(), 10);
     assert_eq!(in_raw, in_header);
     // every answer has one head; the recorder's state is no answer
     for (name, members) in &in_header {
@@ -85,6 +85,10 @@ fn calls() {
         .split(';')
         .filter_map(|part| {
             let (front, arguments) = part.split_once('(')?;
+            // what the header itself defines is no call of the library
+            if front.contains("static inline") {
+                return None;
+            }
             let (answer, name) = front.rsplit_once(' ')?;
             let answer = answer.rsplit(' ').next()?.to_string();
             let mut shape = each(arguments.trim_end_matches(')'), ',', from_c);
@@ -103,7 +107,7 @@ fn calls() {
             (name.to_string(), shape)
         })
         .collect();
-    assert_eq!(in_header.len(), 15);
+    assert_eq!(in_header.len(), 16);
     assert_eq!(in_raw, in_header);
 }
 

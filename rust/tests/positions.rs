@@ -4,8 +4,8 @@ mod common;
 
 use common::{before_closing, recorded, tagged, with, WHOLE};
 use suljanko::{
-    calls, raw, repair, save, set_up_list, tag_table, Lent, Position, Reason, Recorder, Recording, Refusal, Sheet,
-    Spot, SpotPart,
+    calls, commit, look, raw, repair, set_up_list, tag_table, Lent, Position, Reason, Recorder, Recording, Refusal,
+    Sheet, Spot, SpotPart,
 };
 
 fn opening(file: &[u8]) -> Refusal {
@@ -109,17 +109,21 @@ fn every_call_over_a_file_says_it() {
         calls::frame_of(cut, opened, 0).refusal(),
         calls::part(cut, raw::FSTF_SECTION_NAME, 0, 0).refusal(),
         calls::part_of(cut, opened, raw::FSTF_SECTION_NAME, 0, 0).refusal(),
-        calls::save(cut, &[0], &mut out).refusal(),
-        save(cut, &Sheet::new()).err(),
+        calls::look(cut, &[0]).refusal(),
+        calls::commit(cut, &[0], &mut out).refusal(),
+        look(cut, &Sheet::new()).err(),
+        commit(cut, &Sheet::new()).err(),
         // 7 is ahead of 10
-        calls::save(cut, &[], &mut out).refusal(),
+        calls::look(cut, &[]).refusal(),
+        calls::commit(cut, &[], &mut out).refusal(),
     ];
     for refusal in refusals {
         stands(refusal.unwrap(), 7, Lent::File, 94);
     }
     for file in [&WHOLE[..51], &before_closing()[..51]] {
         stands(calls::repair(file, &mut out).refusal().unwrap(), 4, Lent::File, 48);
-        stands(calls::save(file, &[0], &mut out).refusal().unwrap(), 4, Lent::File, 48);
+        stands(calls::look(file, &[0]).refusal().unwrap(), 4, Lent::File, 48);
+        stands(calls::commit(file, &[0], &mut out).refusal().unwrap(), 4, Lent::File, 48);
     }
 }
 
@@ -135,7 +139,7 @@ fn the_other_numbers_have_no_place() {
     assert_eq!(calls::open(&WHOLE).refusal(), None);
     assert_eq!(calls::repair(&WHOLE, &mut out).refusal().unwrap().place(), None);
     // 11 carries a change, which is no position
-    let conflict = calls::save(&WHOLE, &[1, 1, b'A', 1, 0, 0], &mut out).refusal().unwrap();
+    let conflict = calls::commit(&WHOLE, &[1, 1, b'A', 1, 0, 0], &mut out).refusal().unwrap();
     assert_eq!((conflict.number(), conflict.place(), conflict.position()), (11, Some(0), None));
     assert_eq!(conflict.spot(&[0]), None);
 }
@@ -161,8 +165,10 @@ fn sheets() {
     ];
     for (bytes, at) in rows {
         stands(of_sheet(bytes), 10, Lent::Sheet, at);
-        let saved = calls::save(&WHOLE, bytes, &mut []);
-        assert_eq!((saved.refused, saved.place), (10, at), "{bytes:?}");
+        let looked = calls::look(&WHOLE, bytes);
+        let committed = calls::commit(&WHOLE, bytes, &mut []);
+        assert_eq!((looked.refused, looked.place), (10, at), "{bytes:?}");
+        assert_eq!((committed.refused, committed.place), (10, at), "{bytes:?}");
     }
 }
 
@@ -381,7 +387,7 @@ fn every_position_is_in_its_bytes_and_leads_somewhere() {
     let mut sheet = Sheet::new();
     sheet.change("SITE").seen(None).set("Inari");
     sheet.change("NOTE").seen(None).set("");
-    let file = save(&file, &sheet).unwrap().to_vec();
+    let file = commit(&file, &sheet).unwrap().to_vec();
     let cuts = (0..file.len()).map(|length| file[..length].to_vec());
     let changes = (0..file.len()).flat_map(|place| {
         [0, 1, 2, 7, 9, b'-', b'A', 0x7F, 0xFF].map(|byte| {
@@ -409,8 +415,8 @@ fn every_position_is_in_its_bytes_and_leads_somewhere() {
         assert!(position.at <= changed.len() as u64 || behind, "{refusal}");
         assert_eq!(spot.byte, changed.get(position.at as usize).copied());
         assert_eq!(repair(&changed).err() == Some(refusal), refusal.number() != 7, "{refusal}");
-        let saved = calls::save(&changed, &[0], &mut []).refusal();
-        assert_eq!(saved, Some(refusal));
+        assert_eq!(calls::look(&changed, &[0]).refusal(), Some(refusal));
+        assert_eq!(calls::commit(&changed, &[0], &mut []).refusal(), Some(refusal));
     }
     assert!(met[3] > 100 && met[4] > 100 && met[7] > 100, "{met:?}");
 }

@@ -3,7 +3,7 @@
 mod common;
 
 use common::{recorded, tagged, WHOLE};
-use suljanko::{calls, raw, save, Reason, Recording, Section, Sheet, Tag};
+use suljanko::{calls, commit, raw, Reason, Recording, Section, Sheet, Tag};
 
 /// Two sections, one of them with a configuration, two system tags, three frames.
 fn evening() -> Vec<u8> {
@@ -86,7 +86,7 @@ fn tags_of_both_tables() {
     let file = evening();
     let mut sheet = Sheet::new();
     sheet.change("NOTE").seen(None).set("a clear night");
-    let file = save(&file, &sheet).unwrap().to_vec();
+    let file = commit(&file, &sheet).unwrap().to_vec();
     let recording = Recording::open(&file).unwrap();
     let system: Vec<_> = recording.system_tags().collect();
     assert_eq!(system, [Tag { name: "CAMERA", value: "QHY 174" }, Tag { name: "NOTE", value: "" }]);
@@ -138,7 +138,7 @@ fn tables_keep_their_order() {
     sheet.change("T1").seen(Some("V1")).set("");
     sheet.change("T0").seen(Some("V0")).remove();
     sheet.change("GONE").nobody_looked().remove();
-    let file = save(&file, &sheet).unwrap().to_vec();
+    let file = commit(&file, &sheet).unwrap().to_vec();
     let recording = Recording::open(&file).unwrap();
     let tags: Vec<_> = recording.user_tags().map(|tag| (tag.name, tag.value)).collect();
     // "Kept tags keep their order and a changed tag its place; removed tags vanish; new ones come last in sheet order."
@@ -149,6 +149,6 @@ fn tables_keep_their_order() {
 fn an_empty_sheet_leaves_the_file() {
     for file in [WHOLE.to_vec(), tagged(70), evening()] {
         assert!(Sheet::new().is_empty());
-        assert_eq!(save(&file, &Sheet::new()).unwrap().to_vec(), file);
+        assert_eq!(commit(&file, &Sheet::new()).unwrap().to_vec(), file);
     }
 }

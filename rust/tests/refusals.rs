@@ -3,7 +3,7 @@
 mod common;
 
 use common::{before_closing, recorded, running, tagged, with, WHOLE};
-use suljanko::{calls, repair, save, Reason, Recorder, Recording, Refusal, Sheet};
+use suljanko::{calls, commit, look, repair, Reason, Recorder, Recording, Refusal, Sheet};
 
 /// The table of document 01, and a refusal of each number from the safe face.
 fn table() -> Vec<(u64, &'static str, Refusal)> {
@@ -25,13 +25,13 @@ fn table() -> Vec<(u64, &'static str, Refusal)> {
         (8, "no such item", Recording::open(&WHOLE).unwrap().frame(1).unwrap_err()),
         (9, "no room", no_room()),
         (10, "sheet", sheet_refused()),
-        (11, "conflict", save(&WHOLE, &site(Some("A"))).unwrap_err()),
+        (11, "conflict", commit(&WHOLE, &site(Some("A"))).unwrap_err()),
         (12, "stage", Recorder::new().close().unwrap_err()),
         (13, "clock", late.add(4, 0, &[b""]).unwrap_err()),
         (14, "frame shape", running().add(0, 0, &[]).unwrap_err()),
         (15, "full", full()),
         (16, "whole", repair(&WHOLE).unwrap_err()),
-        (17, "table full", save(&tagged(1000), &site(None)).unwrap_err()),
+        (17, "table full", commit(&tagged(1000), &site(None)).unwrap_err()),
     ]
 }
 
@@ -44,7 +44,7 @@ fn no_room() -> Refusal {
 fn sheet_refused() -> Refusal {
     let mut sheet = Sheet::new();
     sheet.change("").nobody_looked().remove();
-    save(&WHOLE, &sheet).unwrap_err()
+    commit(&WHOLE, &sheet).unwrap_err()
 }
 
 // "adding: 1,000,000 frames already"
@@ -81,7 +81,7 @@ fn a_conflict_says_where() {
     sheet.change("A").seen(None).set("1");
     sheet.change("B").nobody_looked().set("2");
     sheet.change("C").seen(Some("3")).remove();
-    let refusal = save(&WHOLE, &sheet).unwrap_err();
+    let refusal = commit(&WHOLE, &sheet).unwrap_err();
     assert_eq!((refusal.reason(), refusal.place()), (Reason::Conflict, Some(2)));
     assert!(refusal.to_string().starts_with("refused 11, conflict at change 2: "));
     assert_eq!(sheet.name(2), Some("C"));
@@ -198,9 +198,11 @@ fn sheets_that_are_none() {
         sheets.push(sheet);
     }
     for sheet in sheets {
-        assert_eq!(save(&WHOLE, &sheet).unwrap_err().reason(), Reason::Sheet, "{sheet:?}");
+        assert_eq!(look(&WHOLE, &sheet).unwrap_err().reason(), Reason::Sheet, "{sheet:?}");
+        assert_eq!(commit(&WHOLE, &sheet).unwrap_err().reason(), Reason::Sheet, "{sheet:?}");
         // 1 to 7 are ahead of 10
-        assert_eq!(save(&WHOLE[..97], &sheet).unwrap_err().reason(), Reason::UserTable);
+        assert_eq!(look(&WHOLE[..97], &sheet).unwrap_err().reason(), Reason::UserTable);
+        assert_eq!(commit(&WHOLE[..97], &sheet).unwrap_err().reason(), Reason::UserTable);
     }
 }
 

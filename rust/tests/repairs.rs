@@ -3,7 +3,7 @@
 mod common;
 
 use common::{before_closing, recorded, tagged, WHOLE};
-use suljanko::{repair, save, Recording, Sheet};
+use suljanko::{commit, repair, Recording, Sheet};
 
 /// A recording of three frames with two user tags.
 fn evening() -> Vec<u8> {
@@ -12,7 +12,7 @@ fn evening() -> Vec<u8> {
     let mut sheet = Sheet::new();
     sheet.change("SITE").seen(None).set("Inari");
     sheet.change("NOTE").seen(None).set("");
-    save(&file, &sheet).unwrap().to_vec()
+    commit(&file, &sheet).unwrap().to_vec()
 }
 
 /// How many tags a repair does not keep.

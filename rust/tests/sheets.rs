@@ -3,7 +3,9 @@
 mod common;
 
 use common::{tagged, WHOLE};
-use suljanko::{calls, save, Fault, Lent, Recorder, Recording, Refusal, Seen, Sheet, SheetChange, SheetFault, TagPart};
+use suljanko::{
+    calls, commit, look, Fault, Lent, Recorder, Recording, Refusal, Seen, Sheet, SheetChange, SheetFault, TagPart,
+};
 
 fn one(name: &str, seen: Option<&str>, new: &str) -> Sheet {
     let mut sheet = Sheet::new();
@@ -11,14 +13,16 @@ fn one(name: &str, seen: Option<&str>, new: &str) -> Sheet {
     sheet
 }
 
-/// What a save's refusal points at, if it is refused 10.
+/// What a commit's refusal points at, if it is refused 10; a look's is the same.
 fn pointed(sheet: &Sheet) -> Option<SheetFault<'_>> {
-    sheet.fault_at(save(&WHOLE, sheet).err()?)
+    let refusal = commit(&WHOLE, sheet).err()?;
+    assert_eq!(look(&WHOLE, sheet).err(), Some(refusal).filter(|refusal| refusal.number() == 10));
+    sheet.fault_at(refusal)
 }
 
-/// The library's word on a sheet: 9, that there is no room for the table, comes behind 10.
+/// The library's word on a sheet.
 fn refused(sheet: &Sheet) -> bool {
-    calls::save(&WHOLE, &sheet.to_vec(), &mut []).refused == 10
+    calls::look(&WHOLE, &sheet.to_vec()).refused == 10
 }
 
 #[test]
@@ -88,7 +92,7 @@ fn a_refusal_points_at_the_first_fault() {
     let mut sheet = Sheet::new();
     sheet.change("SITE").seen(Some("Inari")).set("Enontekiö");
     sheet.change("").nobody_looked().remove();
-    let refusal = save(&WHOLE, &sheet).unwrap_err();
+    let refusal = commit(&WHOLE, &sheet).unwrap_err();
     // 1 and 4 letters, kind and 1 and 5 letters, kind and length, 8 letters: the first of the two bytes of the ö
     assert_eq!((refusal.number(), refusal.place()), (10, Some(1 + 5 + 7 + 2 + 8)));
     let fault = sheet.fault_at(refusal).unwrap();
@@ -103,7 +107,7 @@ fn a_refusal_points_at_the_first_fault() {
     for number in 0..70 {
         sheet.change(&format!("T{number}")).nobody_looked().remove();
     }
-    assert_eq!(save(&WHOLE, &sheet).unwrap_err().place(), Some(0));
+    assert_eq!(commit(&WHOLE, &sheet).unwrap_err().place(), Some(0));
     assert_eq!(pointed(&sheet).map(|fault| fault.fault), Some(Fault::TooMany { changes: 72 }));
     assert_eq!(sheet.faults().len(), 3);
 }
@@ -111,8 +115,8 @@ fn a_refusal_points_at_the_first_fault() {
 #[test]
 fn other_refusals_point_at_no_fault() {
     let sheet = one("A", Some("x"), "y");
-    let conflict = save(&WHOLE, &sheet).unwrap_err();
-    let not_opened = save(&WHOLE[..97], &sheet).unwrap_err();
+    let conflict = commit(&WHOLE, &sheet).unwrap_err();
+    let not_opened = commit(&WHOLE[..97], &sheet).unwrap_err();
     let list = Recorder::new().begin_in_file_form(&[], &[]).unwrap_err();
     assert_eq!((conflict.number(), not_opened.number(), list.number()), (11, 7, 10));
     assert_eq!(list.position().map(|position| position.lent), Some(Lent::SetUp));
@@ -129,7 +133,7 @@ fn other_refusals_point_at_no_fault() {
 fn a_sheet_without_a_form_is_led_to_its_first_fault() {
     let long = "x".repeat(256);
     let mut sheet = one("A", None, &long);
-    let refusal = save(&WHOLE, &sheet).unwrap_err();
+    let refusal = commit(&WHOLE, &sheet).unwrap_err();
     assert_eq!((refusal.number(), refusal.place(), sheet.to_vec().len()), (10, Some(0), 0));
     assert_eq!(pointed(&sheet).map(|fault| fault.fault), Some(Fault::TooLong { bytes: 256 }));
     sheet.change("A").nobody_looked().set("\t");
@@ -172,7 +176,7 @@ fn faults_are_what_the_library_refuses() {
             }
         }
         assert_eq!(sheet.faults().is_empty(), !refused(&sheet), "{sheet:?}");
-        // the library's position, by the save and by the bytes, is that of the first fault
+        // the library's position, by the commit and by the bytes, is that of the first fault
         assert_eq!(pointed(&sheet), sheet.faults().first().copied(), "{sheet:?}");
         match Sheet::from_bytes(&sheet.to_vec()) {
             Ok(again) => {
@@ -239,15 +243,15 @@ fn a_form_before_and_after() {
 }
 
 #[test]
-fn a_form_saves_to_what_it_holds() {
+fn a_form_is_committed_to_what_it_holds() {
     let file = tagged(5);
     let before: Vec<_> = Recording::open(&file).unwrap().user_tags().map(|tag| (tag.name, tag.value)).collect();
     let mut after = before.clone();
     after.remove(1);
     after[2].1 = "changed";
     after.push(("T9", "new"));
-    let saved = save(&file, &Sheet::from_form(&before, &after)).unwrap().to_vec();
-    let tags: Vec<_> = Recording::open(&saved).unwrap().user_tags().map(|tag| (tag.name, tag.value)).collect();
+    let file = commit(&file, &Sheet::from_form(&before, &after)).unwrap().to_vec();
+    let tags: Vec<_> = Recording::open(&file).unwrap().user_tags().map(|tag| (tag.name, tag.value)).collect();
     assert_eq!(tags, after);
 }
 
@@ -257,13 +261,13 @@ fn another_members_tag_stays() {
     let before = [("T0", "V0"), ("T1", "V1")];
     let aino = Sheet::from_form(&before, &[("T0", "Aino"), ("T1", "V1")]);
     let veli = Sheet::from_form(&before, &[("T0", "V0"), ("T1", "Veli")]);
-    let file = save(&file, &aino).unwrap().to_vec();
-    let file = save(&file, &veli).unwrap().to_vec();
+    let file = commit(&file, &aino).unwrap().to_vec();
+    let file = commit(&file, &veli).unwrap().to_vec();
     let recording = Recording::open(&file).unwrap();
     assert_eq!((recording.user_tag("T0"), recording.user_tag("T1")), (Some("Aino"), Some("Veli")));
     // the same tag is told
     let late = Sheet::from_form(&before, &[("T0", "late"), ("T1", "V1")]);
-    assert_eq!(save(&file, &late).unwrap_err().number(), 11);
+    assert_eq!(commit(&file, &late).unwrap_err().number(), 11);
 }
 
 #[test]

@@ -52,7 +52,7 @@ pub fn recorded(sections: &[(&str, &[u8])], system: &[(&str, &str)], frames: &[(
     recorder.into_storage().into_inner()
 }
 
-/// The whole file with so many user tags, T0 = V0 and so on, saved 64 at a time.
+/// The whole file with so many user tags, T0 = V0 and so on, committed 64 at a time.
 pub fn tagged(tags: usize) -> Vec<u8> {
     let mut file = WHOLE.to_vec();
     for start in (0..tags).step_by(64) {
@@ -60,7 +60,7 @@ pub fn tagged(tags: usize) -> Vec<u8> {
         for number in start..tags.min(start + 64) {
             sheet.change(&format!("T{number}")).seen(None).set(&format!("V{number}"));
         }
-        file = suljanko::save(&file, &sheet).unwrap().to_vec();
+        file = suljanko::commit(&file, &sheet).unwrap().to_vec();
     }
     file
 }
