@@ -3,10 +3,10 @@
 use Prim.Native.Nat.{ℕ, zero, suc, _+_, _*_, _/_, _%_, _^_, _<_}
 use native.Mathlib.Nat.{pow-suc}
 use native.Mathlib.Omega.{arith}
-use mathlib.Core.Path.{_≡_, refl, ap, sym, _∙_}
+use mathlib.Core.Path.{_≡_, refl, sym, _∙_}
 use mathlib.Core.Bool.{Bool, true, false, cond, _||_}
 use mathlib.Core.Logic.{_↔_}
-use mathlib.Core.List.{List, [], _∷_, _++_, map, append-nil}
+use mathlib.Core.List.{List, [], _∷_, _++_, map}
 use lib.ListN.{length, getD, length-map}
 use lib.Dec.{ltb, eqb}
 use borrow.Author.Tests.{lt-ltb, ltb-true, ltb-false, ne-eqb}
@@ -16,7 +16,7 @@ use Rattle.layout.specs.Recorder.{noRoom}
 use Rattle.layout.specs.Saving.{Change, changesOf, conflicts, someConflict, tableLines, userTags, badSheet, lookLines, lookRefusal, lookAnswer, look, bits, newTable, commitLines, commitRefusal, commitPlace, commit}
 use Rattle.layout.proofs.Lists.{or-false, cond-false}
 use Rattle.layout.proofs.Lines.{line-pass, line-holds, lines-first, opening-pass, opens-passes}
-use Rattle.layout.proofs.Orders.{without, no-lines, line-other, line-own, lines-other}
+use Rattle.layout.proofs.Orders.{without, no-lines, line-other, line-own, lines-other, lines-not}
 use Rattle.layout.proofs.Applied.{noChange}
 use Rattle.layout.proofs.Refusals.{look-number, look-refused, commit-number, commit-place}
 use Rattle.layout.proofs.Saved.{sheetLines, commit-opened, commit-lines, commit-conflict}
@@ -118,10 +118,7 @@ look-says f bytes i a h = rw (look-shows f bytes a) (shown-at (userTags f) (chan
 -- look has no 11
 not-eleven : (f bytes : List ℕ) → look f bytes .refused ≡ 11 → ⊥
 unfolding lookRefusal lookLines openingLines frontLines without
-not-eleven f bytes e =
-    let a = lines-other (lookLines f bytes) [] 11 refl (ap firstOf (append-nil (lookLines f bytes)) ∙ sym (look-number f bytes) ∙ e) .0 in
-    let b : _≡_ {A = ℕ} 0 11 = sym a ∙ sym (look-number f bytes) ∙ e in
-    omega arith
+not-eleven f bytes e = lines-not (lookLines f bytes) 11 refl (λ z. omega arith) (sym (look-number f bytes) ∙ e)
 
 -- Where look is refused, commit is refused with the same number,
 pub commit-as-look : (f bytes : List ℕ) (room n : ℕ) → look f bytes .refused ≡ suc n → commit f bytes room .refused ≡ suc n

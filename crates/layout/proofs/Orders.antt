@@ -1,7 +1,7 @@
 -- An order of refusals that gives a number of its own: what that number says of its lines.
 -- Assumes nothing.
 use Prim.Native.Nat.{ℕ}
-use mathlib.Core.Path.{_≡_, refl, sym}
+use mathlib.Core.Path.{_≡_, refl, sym, _∙_}
 use mathlib.Core.Bool.{Bool, true, false, not, _&&_}
 use mathlib.Core.List.{List, [], _∷_, _++_, append-nil}
 use lib.Dec.{eqb}
@@ -40,3 +40,7 @@ pub line-own : (n : ℕ) (b : Bool) (ls : List Line) → (n ≡ 0 → ⊥) → w
 unfolding firstOf
 line-own n true ls d w e = refl
 line-own n false ls d w e = absurd (d (sym (lines-other ls [] n w (rw append-nil e) .1)))
+
+-- lines that do not have a number never give it
+pub lines-not : (ls : List Line) (n : ℕ) → without n ls ≡ true → (n ≡ 0 → ⊥) → firstOf ls ≡ n → ⊥
+lines-not ls n w d e = d (sym e ∙ lines-other ls [] n w (rw append-nil e) .0)

@@ -20,7 +20,7 @@ use Rattle.layout.specs.Repair.{repairLines, repairRefusal}
 use Rattle.layout.specs.Saving.{Entry, absent, holds, saw, nobodyLooked, mostChanges, malformed, entryOf, seenOf, kind, seenPart, newPart, change, changeNames, numberOfChanges, sheetFault, sheet, lookLines, lookRefusal, lookPlace, commitRefusal, commitPlace}
 use Rattle.layout.proofs.Lists.{or-false}
 use Rattle.layout.proofs.Readers.{onward-good, cond-good, then-good, then-takes, number-is, number-good, block-is, block-good, placed-good, placed-takes}
-use Rattle.layout.proofs.Orders.{without, no-lines, line-other, lines-other}
+use Rattle.layout.proofs.Orders.{without, line-other, lines-not}
 use Rattle.layout.proofs.Saved.{commit-is}
 
 -- ── Where a reader stops ──
@@ -437,9 +437,7 @@ pub repair-within : (f : List ℕ) (room : ℕ) → InFile (repairRefusal f room
 unfolding repairRefusal repairLines frontLines without
 repair-within f room =
     in-file (repairRefusal f room) f (λ h. ahead f _ 3 (λ z. omega arith) h) (λ h. ahead f _ 4 (λ z. omega arith) h)
-    (λ h.
-    let e : 0 ≡ 7 = sym no-lines ∙ lines-other (repairLines f room) [] 7 refl (ap firstOf (append-nil (repairLines f room)) ∙ h) .1 in
-    absurd (omega arith))
+    (λ h. absurd (lines-not (repairLines f room) 7 refl (λ z. omega arith) h))
 
 -- in look, where it is not the sheet that is refused,
 pub look-within : (f bytes : List ℕ) (n : ℕ) → lookRefusal f bytes ≡ n → (n ≡ 10 → ⊥) → (lookPlace n f bytes ≡ openingPlace n f) × InFile n f

@@ -4,7 +4,7 @@ use Prim.Native.Nat.{ℕ, zero, suc, _+_, _^_, _<_, _≤_}
 use native.Mathlib.Omega.{arith}
 use mathlib.Core.Path.{_≡_, refl, ap, sym, _∙_}
 use mathlib.Core.Bool.{true, false}
-use mathlib.Core.List.{List, [], _∷_, append-nil}
+use mathlib.Core.List.{List, [], _∷_}
 use lib.ListN.{length, drop, length-drop}
 use lib.Dec.{leb}
 use borrow.Author.Tests.{leb-true, ne-eqb}
@@ -13,11 +13,11 @@ use mir.Val.{Fits}
 use Rattle.number.proofs.Bytes.{both-true}
 use Rattle.layout.specs.Recording.{Tag, mostTags, within, distinct, tagNames}
 use Rattle.layout.specs.Reading.{Parsed, bad, good, _then_, only, times, exactly, number, numberOfTags, tag, tableFault, table, isBad, valueOr, faultOf}
-use Rattle.layout.specs.Opening.{line, firstOf, frontLines, openingLines, refusal, openingPlace, shown, userOffset, readUser, badUser}
+use Rattle.layout.specs.Opening.{line, frontLines, openingLines, refusal, openingPlace, shown, userOffset, readUser, badUser}
 use Rattle.layout.specs.Saving.{Change, change, changeNames, mostChanges, numberOfChanges, sheetFault, sheet, changesOf, userTags, lookLines, lookRefusal, lookPlace}
 use Rattle.layout.proofs.Readers.{exactly-good, placed-good, number-good}
 use Rattle.layout.proofs.Lines.{line-pass, line-holds, opening-pass, opens-passes, lines-first}
-use Rattle.layout.proofs.Orders.{without, no-lines, lines-other}
+use Rattle.layout.proofs.Orders.{without, no-lines, lines-not}
 use Rattle.layout.proofs.Refusals.{look-number}
 use Rattle.layout.proofs.Looked.{look-accepted}
 use Rattle.names.specs.Names.{distinctNames}
@@ -122,16 +122,10 @@ sheet-stands bytes h = go (exactly sheet bytes) refl h
 
 -- ── What both begin with ──
 
--- opening has no line of the sheet's
-not-opened : (f : List ℕ) (n : ℕ) → without n (openingLines f) ≡ true → (0 ≡ n → ⊥) → refusal f ≡ n → ⊥
-unfolding refusal
-not-opened f n w h e =
-    let z = lines-other (openingLines f) [] n w (ap firstOf (append-nil (openingLines f)) ∙ e) .0 in
-    h (sym z ∙ e)
-
+-- opening has no 10
 opening-place : (f bytes : List ℕ) (n : ℕ) → refusal f ≡ n → lookPlace n f bytes ≡ openingPlace n f
-unfolding openingLines frontLines without lookPlace
-opening-place f bytes n e = rw (ne-eqb n 10 (λ z. not-opened f 10 refl (λ o. omega arith) (e ∙ z)))
+unfolding refusal openingLines frontLines without lookPlace
+opening-place f bytes n e = rw (ne-eqb n 10 (λ z. lines-not (openingLines f) 10 refl (λ o. omega arith) (e ∙ z)))
 
 -- refused with a number and its place
 asked-at : (f bytes : List ℕ) (n p : ℕ) (q : Refusal) → lookRefusal f bytes ≡ suc n → lookPlace (suc n) f bytes ≡ p → q ≡ placed (suc n) p
