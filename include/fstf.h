@@ -27,7 +27,7 @@
  * The time of a call grows with the frames, the tags and the bytes of tables that it is given, and not with the bytes of sections that it only passes over.
  * Whoever chooses the names in a file can make opening it take longer than usual names of the same number and lengths would: at most 20 times, 17 in the
  * slowest file that was found. Where the file is refused it is read once more, for the place: that took up to 37 times as long as a usual file that opens.
- * Who chooses a sheet as well can make a look or a commit take 42 times as long, 0.7 ms. These are measured (docs/PERFORMANCE.md), not proved. As compiled, a
+ * Who chooses a sheet as well can make a look or a commit take some 40 times as long, 0.7 ms. These are measured (docs/PERFORMANCE.md), not proved. As compiled, a
  * call needs at most 70,000 bytes of stack.
  * Where a frame or a piece stands in the file is `start`. Headers without FSTF_VERSION called that `place`: a program written for one of them still compiles,
  * and would store every piece at 0. Write `start` there. Before 0.3.0, `place` was 0 for 3, 4, 7 and 10.
