@@ -3,7 +3,7 @@
 Run it with no arguments. It first checks the model by the document's twelve examples and further sure facts, then writes, below
 crates/PROGRAM for each program that runs vectors, data/NAME, args and stdout. A second run writes the same bytes.
 VECTORS.md says what a vector holds and how its line reads. Where a vector is put with an expectation, that was thought out by hand from
-the document, and the model's line has to start with it.
+the document, and the model's line has to start with it. The checks of the converter, over 200,000 cases, take most of its two minutes.
 """
 
 import re
@@ -21,7 +21,7 @@ PROGRAMS = {
     "opening_vectors": b"ofpF",
     "recorder_vectors": b"abcLT",
     "repair_vectors": b"rR",
-    "saving_vectors": b"lmSU",
+    "saving_vectors": b"lmvSU",
     "browser_vectors": b"ntB",
     "whole_vectors": b"w",
 }
@@ -125,7 +125,7 @@ def set_up(*sections):
     return bytes([len(sections)]) + b"".join(short(n) + u16(len(c)) + c for n, c in sections)
 
 
-ABSENT, UNSEEN = None, 2
+ABSENT, UNSEEN = None, 2  # UNSEEN is "nobody looked", which old sheets say and new ones may not
 
 
 def change(name, seen, new):
@@ -184,6 +184,10 @@ def of_look(changes, file):
 
 def of_commit(room, changes, file):
     return of_saving(b"m", room, changes, file)
+
+
+def of_convert(room, changes, file):
+    return of_saving(b"v", room, changes, file)
 
 
 def of_browse(number, data):
@@ -321,14 +325,23 @@ def line_of_look(fields):
     return f"looked {looked.changes} set {looked.set}"
 
 
-def line_of_commit(fields):
+def line_of_writing(word, call, fields):
+    """The line of a commit or a conversion: both put what they answer into the room."""
     out = lent(fields.number(2))
     changes = fields.bytes(fields.number(2))
     try:
-        given = f"committed {model.commit(fields.rest(), changes, out)}"
+        given = f"{word} {call(fields.rest(), changes, out)}"
     except Refusal as refusal:
         given = refused(refusal)
     return f"{given} out {hex_check(out)}"
+
+
+def line_of_commit(fields):
+    return line_of_writing("committed", model.commit, fields)
+
+
+def line_of_convert(fields):
+    return line_of_writing("converted", model.convert, fields)
 
 
 def line_of_tag(tag):
@@ -404,8 +417,12 @@ def line_of_repair_sweep(fields):
 
 
 def line_of_saving_sweep(base, values, given):
-    """The line of a sweep by look and commit; `given` makes the file and the sheet of an input."""
-    return line_of_sweep(base, values, lambda data: model.look(*given(data)), lambda data: model.commit(*given(data), lent(512)))
+    """The line of a sweep by look, commit and convert; `given` makes the file and the sheet of an input."""
+
+    def writing(call):
+        return lambda data: call(*given(data), lent(512))
+
+    return line_of_sweep(base, values, lambda data: model.look(*given(data)), writing(model.commit), writing(model.convert))
 
 
 def line_of_sheet_sweep(fields):
@@ -495,6 +512,7 @@ LINES = {
     "r": line_of_repair,
     "l": line_of_look,
     "m": line_of_commit,
+    "v": line_of_convert,
     "t": line_of_browse,
     "n": line_of_named,
     "w": line_of_whole,
@@ -1620,7 +1638,7 @@ def random_repairs(v):
 TAGS = ((b"SITE", b"Krk"), (b"OBS", b"Ana"), (b"NOTE", b""), (b"FILTER", b"R"))
 
 # Changes that agree with those tags, and one that conflicts, by its kind.
-AGREE = ((b"OBS", b"Ana", b"Eva"), (b"FREE", ABSENT, b"f"), (b"NOTE", UNSEEN, ABSENT), (b"FILTER", b"R", ABSENT))
+AGREE = ((b"OBS", b"Ana", b"Eva"), (b"FREE", ABSENT, b"f"), (b"NOTE", b"", ABSENT), (b"FILTER", b"R", ABSENT))
 WRONG = {
     "present_seen_absent": (b"SITE", ABSENT, b"x"),
     "absent_seen_value": (b"X", b"Krk", b"x"),
@@ -1632,6 +1650,34 @@ WRONG = {
     "case_of_the_value": (b"SITE", b"krk", ABSENT),
     "case_of_the_name": (b"site", b"Krk", ABSENT),
 }
+
+
+def malformed_sheets():
+    """Sheets that no release took: name, place of the first fault, bytes."""
+    yield "no_bytes", 0, b""
+    yield "empty_and_a_byte_behind", 1, b"\x00\x00"
+    yield "one_claimed_none_there", 1, b"\x01"
+    yield "changes_65_claimed", 0, b"\x41" + P11_SHEET[1:]
+    yield "changes_65", 0, sheet(*((b"T%d" % i, ABSENT, b"") for i in range(65)))
+    yield "changes_255", 0, sheet(*((b"T%d" % i, ABSENT, ABSENT) for i in range(255)))
+    yield "one_byte_left_over", 10, P11_SHEET + b"\0"
+    yield "second_change_not_claimed", 10, P11_SHEET + change(b"B", ABSENT, b"x")
+    yield "second_change_missing", 10, b"\x02" + P11_SHEET[1:]
+    yield "seen_kind_3", 3, b"\x01\x01A\x03\x00"
+    yield "seen_kind_3_with_value", 3, b"\x01\x01A\x03\x01x\x00"
+    yield "seen_kind_255", 3, b"\x01\x01A\xff\x00"
+    yield "new_kind_2", 4, b"\x01\x01A\x00\x02"
+    yield "new_kind_3", 4, b"\x01\x01A\x00\x03"
+    yield "new_kind_3_with_value", 4, b"\x01\x01A\x00\x03\x01x"
+    yield "new_kind_255", 4, b"\x01\x01A\x00\xff"
+    yield "name_empty", 1, sheet((b"", ABSENT, b"x"))
+    yield "name_empty_second", 7, sheet((b"A", ABSENT, b"x"), (b"", ABSENT, ABSENT))
+    yield "name_twice", 7, sheet((b"A", ABSENT, b"x"), (b"A", ABSENT, b"x"))
+    yield "name_twice_first_and_third", 20, sheet((b"SITE", b"Krk", b"x"), (b"A", ABSENT, b"x"), (b"SITE", b"Krk", ABSENT))
+    yield "name_twice_of_64", 432, sheet(*((b"T%d" % (i % 63), ABSENT, b"") for i in range(64)))
+    yield "values_in_the_other_order", 8, b"\x01\x04SITE\x01\x01\x03Krk\x01A"
+    yield "name_length_past_the_end", 3, b"\x01\xffA\x00\x00"
+    yield "value_length_past_the_end", 7, b"\x01\x01A\x00\x01\xffx"
 
 
 def commit_vectors(v):
@@ -1654,36 +1700,11 @@ def commit_vectors(v):
     put("empty_sheet_1000_tags", sheet(), "committed 4004", user=many_tags(1000), room=4004)
     put("empty_sheet_haunted_file", sheet(), "committed 4", file=build(frames=HAUNTED))
     # Malformed sheets.
-    for name, where, data in (
-        ("no_bytes", 0, b""),
-        ("empty_and_a_byte_behind", 1, b"\x00\x00"),
-        ("one_claimed_none_there", 1, b"\x01"),
-        ("changes_65_claimed", 0, b"\x41" + P11_SHEET[1:]),
-        ("changes_65", 0, sheet(*((b"T%d" % i, ABSENT, b"") for i in range(65)))),
-        ("changes_255", 0, sheet(*((b"T%d" % i, UNSEEN, ABSENT) for i in range(255)))),
-        ("one_byte_left_over", 10, P11_SHEET + b"\0"),
-        ("second_change_not_claimed", 10, P11_SHEET + change(b"B", ABSENT, b"x")),
-        ("second_change_missing", 10, b"\x02" + P11_SHEET[1:]),
-        ("seen_kind_3", 3, b"\x01\x01A\x03\x00"),
-        ("seen_kind_3_with_value", 3, b"\x01\x01A\x03\x01x\x00"),
-        ("seen_kind_255", 3, b"\x01\x01A\xff\x00"),
-        ("new_kind_2", 4, b"\x01\x01A\x00\x02"),
-        ("new_kind_3", 4, b"\x01\x01A\x00\x03"),
-        ("new_kind_3_with_value", 4, b"\x01\x01A\x00\x03\x01x"),
-        ("new_kind_255", 4, b"\x01\x01A\x02\xff"),
-        ("name_empty", 1, sheet((b"", ABSENT, b"x"))),
-        ("name_empty_second", 7, sheet((b"A", ABSENT, b"x"), (b"", UNSEEN, ABSENT))),
-        ("name_twice", 7, sheet((b"A", ABSENT, b"x"), (b"A", ABSENT, b"x"))),
-        ("name_twice_first_and_third", 16, sheet((b"SITE", UNSEEN, b"x"), (b"A", ABSENT, b"x"), (b"SITE", UNSEEN, ABSENT))),
-        ("name_twice_of_64", 432, sheet(*((b"T%d" % (i % 63), ABSENT, b"") for i in range(64)))),
-        ("values_in_the_other_order", 8, b"\x01\x04SITE\x01\x01\x03Krk\x01A"),
-        ("name_length_past_the_end", 3, b"\x01\xffA\x00\x00"),
-        ("value_length_past_the_end", 7, b"\x01\x01A\x00\x01\xffx"),
-    ):
+    for name, where, data in malformed_sheets():
         put(f"sheet_{name}", data, f"refused 10 place {where}")
     for byte in (0, 31, 127, 128, 255):
-        put(f"sheet_name_byte_{byte:03}", sheet((b"A" + bytes([byte]), UNSEEN, b"x")), "refused 10 place 3")
-        put(f"sheet_new_byte_{byte:03}", sheet((b"A", UNSEEN, b"x" + bytes([byte]))), "refused 10 place 7")
+        put(f"sheet_name_byte_{byte:03}", sheet((b"A" + bytes([byte]), ABSENT, b"x")), "refused 10 place 3")
+        put(f"sheet_new_byte_{byte:03}", sheet((b"A", ABSENT, b"x" + bytes([byte]))), "refused 10 place 7")
         put(f"sheet_seen_byte_{byte:03}", sheet((b"A", b"x" + bytes([byte]), ABSENT)), "refused 10 place 6")
     full = sheet((b"SITE", b"Krk", b"Hvar"), (b"NEW", ABSENT, b"n"))
     for n in range(1, len(full)):
@@ -1701,27 +1722,28 @@ def commit_vectors(v):
     put("remove_last", sheet((b"FILTER", b"R", ABSENT)), f"committed {size - 9}")
     put("remove_all", sheet(*((name, value, ABSENT) for name, value in TAGS)), "committed 4")
     put("remove_all_in_other_order", sheet(*((name, value, ABSENT) for name, value in TAGS[::-1])), "committed 4", room=4)
-    put("remove_unseen", sheet((b"OBS", UNSEEN, ABSENT)), f"committed {size - 8}")
+    put("remove_unseen", sheet((b"OBS", UNSEEN, ABSENT)), "refused 10 place 5")
     put("remove_the_only_tag", sheet((b"A", b"b", ABSENT)), "committed 4", user=((b"A", b"b"),))
     put("absent_stays_absent", sheet((b"X", ABSENT, ABSENT)), f"committed {size}")
-    put("absent_stays_absent_unseen", sheet((b"X", UNSEEN, ABSENT)), f"committed {size}")
+    put("absent_stays_absent_unseen", sheet((b"X", UNSEEN, ABSENT)), "refused 10 place 3")
     put("absent_stays_absent_empty_table", sheet((b"X", ABSENT, ABSENT)), "committed 4", user=())
     put("change_first", sheet((b"SITE", b"Krk", b"Hvar")), f"committed {size + 1}")
-    put("change_middle_unseen", sheet((b"OBS", UNSEEN, b"Eva!")), f"committed {size + 1}")
+    put("change_middle", sheet((b"OBS", b"Ana", b"Eva!")), f"committed {size + 1}")
+    put("change_middle_unseen", sheet((b"OBS", UNSEEN, b"Eva!")), "refused 10 place 5")
     put("change_last", sheet((b"FILTER", b"R", b"G")), f"committed {size}")
     put("change_to_the_same", sheet((b"SITE", b"Krk", b"Krk")), f"committed {size}")
     put("change_all_in_other_order", sheet(*((n, val, val + b"+") for n, val in TAGS[::-1])), f"committed {size + 4}")
     put("add_one", sheet((b"X", ABSENT, b"y")), f"committed {size + 4}")
-    put("add_one_unseen", sheet((b"X", UNSEEN, b"y")), f"committed {size + 4}")
-    put("add_three_in_sheet_order", sheet((b"Z", ABSENT, b"1"), (b"A", ABSENT, b"2"), (b"M", UNSEEN, b"3")), f"committed {size + 12}")
+    put("add_one_unseen", sheet((b"X", UNSEEN, b"y")), "refused 10 place 3")
+    put("add_three_in_sheet_order", sheet((b"Z", ABSENT, b"1"), (b"A", ABSENT, b"2"), (b"M", ABSENT, b"3")), f"committed {size + 12}")
     put("add_differs_by_case", sheet((b"site", ABSENT, b"y")), f"committed {size + 7}")
     put("add_prefix_of_a_name", sheet((b"SIT", ABSENT, b"y")), f"committed {size + 6}")
     put("add_longer_than_a_name", sheet((b"SITES", ABSENT, b"y")), f"committed {size + 8}")
     put("add_name_of_the_system_table", sheet((b"CAM", ABSENT, b"y")), "committed 10", file=build(system=((b"CAM", b"x"),)))
     put("seen_value_of_the_system_table", sheet((b"CAM", b"x", b"y")), place(0), file=build(system=((b"CAM", b"x"),)))
     put("add_before_change_in_the_sheet", sheet((b"X", ABSENT, b"y"), (b"SITE", b"Krk", b"S")), "committed")
-    mixed = ((b"NEW2", ABSENT, b"2"), (b"OBS", b"Ana", ABSENT), (b"FILTER", UNSEEN, b"Ha"))
-    mixed += ((b"NEW1", UNSEEN, b"1"), (b"GONE", ABSENT, ABSENT))
+    mixed = ((b"NEW2", ABSENT, b"2"), (b"OBS", b"Ana", ABSENT), (b"FILTER", b"R", b"Ha"))
+    mixed += ((b"NEW1", ABSENT, b"1"), (b"GONE", ABSENT, ABSENT))
     put("mixed", sheet(*mixed), f"committed {size - 8 + 1 + 14}")
     put("mixed_room_exact", sheet(*mixed), f"committed {size + 7}", room=size + 7)
     put("mixed_room_one_short", sheet(*mixed), "refused 9", room=size + 6)
@@ -1754,7 +1776,7 @@ def commit_vectors(v):
     # A full table.
     full = many_tags(1000)
     put("full_and_one_more", sheet((b"new", ABSENT, b"")), "refused 17", user=full, room=6000)
-    put("full_and_one_more_unseen", sheet((b"new", UNSEEN, b"")), "refused 17", user=full, room=6000)
+    put("full_and_one_more_unseen", sheet((b"new", UNSEEN, b"")), "refused 10 place 5", user=full, room=6000)
     put("full_one_changed", sheet((full[0][0], b"", b"x")), "committed 4005", user=full, room=6000)
     put("full_one_out_one_in", sheet((full[5][0], b"", ABSENT), (b"new", ABSENT, b"")), "committed 4005", user=full, room=4005)
     put("full_one_in_one_out", sheet((b"new", ABSENT, b""), (full[5][0], b"", ABSENT)), "committed 4005", user=full, room=6000)
@@ -1799,8 +1821,6 @@ def look_vectors(v):
     shows("agree_values_in_other_order", [(name, value, b"new") for name, value in TAGS[::-1]])
     shows("agree_absent", ((b"X", ABSENT, b"x"), (b"Y", ABSENT, ABSENT), (b"SIT", ABSENT, b""), (b"SITES", ABSENT, b"")))
     shows("agree_absent_empty_table", ((b"SITE", ABSENT, b"x"),), user=())
-    shows("unseen_never_conflicts", ((b"SITE", UNSEEN, b"x"), (b"NOTE", UNSEEN, ABSENT), (b"X", UNSEEN, b"x"), (b"Y", UNSEEN, ABSENT)))
-    shows("unseen_among_conflicts", ((b"SITE", ABSENT, b"x"), (b"OBS", UNSEEN, b"x"), (b"X", b"", b"x"), (b"Y", UNSEEN, b"x")), 0, 2)
     # Conflicts of each kind, among changes that agree.
     for at, (kind, one) in enumerate(WRONG.items()):
         at %= 5
@@ -1841,6 +1861,8 @@ def look_vectors(v):
         ("second_change_missing", 10, b"\x02" + P11_SHEET[1:]),
         ("seen_kind_3", 3, b"\x01\x01A\x03\x00"),
         ("name_twice", 7, sheet((b"A", ABSENT, b"x"), (b"A", ABSENT, b"x"))),
+        ("unseen_all", 6, sheet((b"SITE", UNSEEN, b"x"), (b"NOTE", UNSEEN, ABSENT), (b"X", UNSEEN, b"x"), (b"Y", UNSEEN, ABSENT))),
+        ("unseen_among_conflicts", 14, sheet(one, (b"OBS", UNSEEN, b"x"), (b"X", b"", b"x"), (b"Y", UNSEEN, b"x"))),
         ("name_bad_behind_a_conflict", 12, sheet(one, (b"A\x7f", ABSENT, b"x"))),
         ("left_over_behind_a_conflict", 10, sheet(one) + b"\0"),
     ):
@@ -1866,7 +1888,7 @@ def random_commits(v):
         for _ in range(random.randrange(5)):
             name = draw(names)
             right = user.get(name, ABSENT)
-            changes[name] = (name, draw((right, right, right, UNSEEN, draw(values))), draw((ABSENT, draw(values), draw(values))))
+            changes[name] = (name, draw((right, right, right, right, draw(values))), draw((ABSENT, draw(values), draw(values))))
         data = sheet(*changes.values())
         if random.randrange(8) == 0:
             data = data[: random.randrange(len(data) + 1)]
@@ -1874,6 +1896,202 @@ def random_commits(v):
         v.put(f"commit_random_{i:02}", of_commit(random.randrange(12, 40), data, file))
         if i % 4 == 0:
             v.put(f"look_random_{i:02}", of_look(data, file))
+
+
+# ---- (3) old sheets ----
+
+# Three changes that say what was seen.
+SEEN = ((b"SITE", b"Krk", b"x"), (b"NEW", ABSENT, b"n"), (b"OBS", b"Ana", ABSENT))  # the seen kinds at 6, 18 and 26
+
+
+def nobody_looked(changes, *places):
+    """The changes with "nobody looked" at these places, or at all."""
+    return [(name, UNSEEN, new) if at in places or not places else (name, seen, new) for at, (name, seen, new) in enumerate(changes)]
+
+
+def unseen_sheets():
+    """Sheets with seen kind 2: name, bytes, the place of refusal 10, and the converter's place of it, None where it takes the sheet."""
+    for at, place in enumerate((6, 18, 26)):
+        yield f"{('first', 'middle', 'last')[at]}_of_three", sheet(*nobody_looked(SEEN, at)), place, None
+    yield "last_of_64", sheet(*((b"T%02d" % i, UNSEEN if i == 63 else ABSENT, ABSENT) for i in range(64))), 383, None
+    yield "behind_a_conflict", sheet((b"SITE", ABSENT, b"x"), (b"OBS", UNSEEN, b"x")), 14, None
+    # A fault behind the kind is told by the converter alone.
+    yield "ahead_of_the_end", bytes.fromhex("01 01 41 02"), 3, 4
+    yield "with_a_value_behind_it", bytes.fromhex("01 01 41 02 01 78 00"), 3, 6
+    yield "ahead_of_new_kind_2", bytes.fromhex("01 01 41 02 02"), 3, 4
+    yield "ahead_of_seen_kind_3", bytes.fromhex("02 01 41 02 00 01 42 03 00"), 3, 7
+    yield "ahead_of_a_bad_name", sheet((b"A", UNSEEN, ABSENT), (b"B\x7f", ABSENT, b"x")), 3, 7
+    yield "ahead_of_its_name_again", sheet((b"A", UNSEEN, ABSENT), (b"A", UNSEEN, ABSENT)), 3, 5
+    yield "ahead_of_one_left_over", sheet((b"A", UNSEEN, ABSENT)) + b"\0", 3, 5
+    # A fault ahead of it is told by all three.
+    yield "behind_a_bad_name", sheet((b"A\x7f", UNSEEN, b"x")), 3, 3
+    yield "behind_a_name_used_twice", sheet((b"A", ABSENT, ABSENT), (b"A", UNSEEN, ABSENT)), 5, 5
+    yield "behind_seen_kind_3", bytes.fromhex("02 01 41 03 00 01 42 02 00"), 3, 3
+    yield "behind_65_changes_claimed", bytes.fromhex("41 01 41 02 00"), 0, 0
+
+
+def unseen_vectors(v):
+    file = build(user=TAGS)
+    for name, data, place, converters in unseen_sheets():
+        v.put("commit_unseen_" + name, of_commit(300, data, file), f"refused 10 place {place}")
+        v.put("look_unseen_" + name, of_look(data, file), f"refused 10 place {place}")
+        if converters is not None:
+            v.put("convert_unseen_" + name, of_convert(300, data, file), f"refused 10 place {converters}")
+    v.put("commit_unseen_no_room", of_commit(0, sheet(*nobody_looked(SEEN)), file), "refused 10 place 6")
+    v.put("commit_unseen_file_refused_7", of_commit(300, sheet(*nobody_looked(SEEN)), file[:-1]), f"refused 7 place {len(file) - 1}")
+    v.put("look_unseen_file_refused_7", of_look(sheet(*nobody_looked(SEEN)), file[:-1]), f"refused 7 place {len(file) - 1}")
+
+
+def convert_vectors(v):
+    def put(name, data, expected, room=300, user=TAGS, file=None, new=b""):
+        """`new` is what is written; behind it the room stays as it was."""
+        out = new + lent(room)[len(new) :]
+        file = build(user=user) if file is None else file
+        v.put("convert_" + name, of_convert(room, data, file), f"{expected} out {hex_check(out)}")
+
+    def gives(name, old, new, **other):
+        """The changes of an old sheet, and those that they become."""
+        new = sheet(*new)
+        put(name, sheet(*old), f"converted {len(new)}", new=new, **other)
+
+    def keeps(name, changes, **other):
+        gives(name, changes, changes, **other)
+
+    def fills(name, changes, *places, **other):
+        """A sheet that becomes these changes, where it has "nobody looked" at these places, or at all."""
+        gives(name, nobody_looked(changes, *places), changes, **other)
+
+    # What a sheet says was seen stays as it is, right or wrong.
+    keeps("no_changes", ())
+    keeps("no_changes_empty_table", (), user=())
+    keeps("p11", ((b"SITE", ABSENT, b"A"),), file=WORKED)
+    keeps("p12_conflict", ((b"SITE", ABSENT, b"A"),), file=WORKED[:94] + P11_TABLE)
+    keeps("agree", AGREE)
+    keeps("conflict_all", [(name, b"?", b"!") for name, _ in TAGS])
+    for kind in ("present_seen_absent", "absent_seen_value", "other_value"):
+        fills(f"conflict_{kind}", (AGREE[0], WRONG[kind], AGREE[3]), 0, 2)
+    largest = [(b"n" * 253 + b"%02d" % i, b"s" * 255, b"v" * 255) for i in range(64)]
+    keeps("largest", largest, user=(), room=49_281)
+    # Each thing that the table may have.
+    fills("absent", ((b"X", ABSENT, b"y"),))
+    fills("absent_stays_absent", ((b"X", ABSENT, ABSENT),))
+    fills("absent_empty_table", ((b"SITE", ABSENT, b"y"),), user=())
+    fills("present", ((b"SITE", b"Krk", b"x"),))
+    fills("present_new_is_the_same", ((b"SITE", b"Krk", b"Krk"),))
+    fills("present_removed", ((b"OBS", b"Ana", ABSENT),))
+    fills("empty_value", ((b"NOTE", b"", b"now"),))
+    fills("empty_value_removed", ((b"NOTE", b"", ABSENT),))
+    fills("name_and_value_of_255", ((b"n" * 255, b"v" * 255, b"w" * 255),), user=((b"n" * 255, b"v" * 255),), room=771)
+    fills("bytes_032_and_126", ((b" ~", b"~ ", b" "),), user=((b" ~", b"~ "),))
+    # Each place, and the order of the sheet.
+    for at, place in enumerate(("first", "middle", "last")):
+        fills(f"{place}_of_three", SEEN, at)
+    fills("all_of_three", SEEN)
+    fills("all_in_other_order", [(name, value, b"new") for name, value in TAGS[::-1]])
+    mixed = ((b"NEW2", ABSENT, b"2"), (b"OBS", b"Ana", ABSENT), (b"FILTER", b"R", b"Ha"), (b"NEW1", ABSENT, b"1"), (b"GONE", ABSENT, ABSENT))
+    fills("mixed", mixed, 2, 3)
+    fills("mixed_in_other_order", mixed[::-1], 1, 2)
+    many = [(b"T%02d" % i, b"%d" % (7 * i)) for i in range(64)]
+    fills("of_64_absent", [(name, ABSENT, b"") for name, _ in many], user=(), room=449)
+    fills("of_64_present", [(name, value, b"") for name, value in many], user=many[::-1], room=900)
+    fills("of_64_every_other_present", [(name, ABSENT if i % 2 else value, ABSENT) for i, (name, value) in enumerate(many)], user=many[::2], room=900)
+    fills("of_64_last", [(name, value, b"") for name, value in many], 63, user=many, room=900)
+    longest = [(name, b"s" * 255) for name, _, _ in largest]
+    fills("of_64_grown_by_16384", [(name, value, ABSENT) for name, value in longest], user=longest, room=32_897)
+    # The name decides, all of it, and in the user table alone.
+    fills("name_of_the_system_table", ((b"CAM", ABSENT, b"y"),), file=build(system=((b"CAM", b"x"),)))
+    fills("name_of_both_tables", ((b"CAM", b"u", b"y"),), file=build(system=((b"CAM", b"s"),), user=((b"CAM", b"u"),)))
+    fills("names_differ_by_case", ((b"site", ABSENT, b"x"), (b"SITE", b"Krk", b"x"), (b"Site", ABSENT, b"x")))
+    prefixes = ((b"SITES", b"3"), (b"S", b"1"), (b"SITE", b"2"))
+    fills("names_prefix_of_each_other", ((b"S", b"1", b""), (b"SI", ABSENT, b""), (b"SITE", b"2", b""), (b"SITES", b"3", b"")), user=prefixes)
+    fills("name_is_a_value", ((b"Krk", ABSENT, b"x"), (b"R", ABSENT, b"x")))
+    fills("haunted_file", ((b"SITE", b"Krk", b"x"),), file=build(frames=HAUNTED, user=TAGS))
+    fills("rich_file", ((b"NOTE", b"", b"x"), (b"CAMERA", ABSENT, ABSENT), (b"SITE", b"Krk", ABSENT)), file=RICH)
+    # 17 is not tested.
+    full = many_tags(1000)
+    fills("full_and_one_more", ((b"new", ABSENT, b""),), user=full)
+    fills("full_last_tag", ((full[999][0], b"", ABSENT),), user=full)
+    # Room.
+    present, absent = ((b"SITE", b"Krk", b"x"),), ((b"X", ABSENT, b"y"),)  # 10 bytes become 14, and 7 stay 7
+    fills("room_exact", present, room=14)
+    put("room_one_short", sheet(*nobody_looked(present)), "refused 9", room=13)
+    put("room_of_the_old_sheet", sheet(*nobody_looked(present)), "refused 9", room=10)
+    put("no_room", sheet(*nobody_looked(present)), "refused 9", room=0)
+    fills("room_exact_absent", absent, room=7)
+    put("room_one_short_absent", sheet(*nobody_looked(absent)), "refused 9", room=6)
+    keeps("room_exact_unchanged", AGREE, room=len(sheet(*AGREE)))
+    put("room_one_short_unchanged", sheet(*AGREE), "refused 9", room=len(sheet(*AGREE)) - 1)
+    keeps("no_changes_room_exact", (), room=1)
+    put("no_changes_no_room", sheet(), "refused 9", room=0)
+    # Malformed sheets.
+    for name, where, data in malformed_sheets():
+        put(f"sheet_{name}", data, f"refused 10 place {where}")
+    for byte in (31, 127):
+        put(f"sheet_name_byte_{byte:03}", sheet((b"A" + bytes([byte]), UNSEEN, b"x")), "refused 10 place 3")
+        put(f"sheet_new_byte_{byte:03}", sheet((b"A", UNSEEN, b"x" + bytes([byte]))), "refused 10 place 7")
+        put(f"sheet_seen_byte_{byte:03}", sheet((b"A", b"x" + bytes([byte]), ABSENT)), "refused 10 place 6")
+    put("sheet_changes_65_unseen", sheet(*((b"T%d" % i, UNSEEN, b"") for i in range(65))), "refused 10 place 0")
+    old = sheet((b"X", UNSEEN, b"y"), (b"N", b"a", ABSENT))
+    for n in range(len(old)):
+        put(f"sheet_cut_to_{n:02}", old[:n], f"refused 10 place {n}")
+    fills("sheet_not_cut", ((b"X", ABSENT, b"y"), (b"N", b"a", ABSENT)), 0)
+    # Files that do not open, and where two lines hold.
+    for number, refusal, file in refused_files():
+        put(f"file_refused_{number}", old, refusal, file=file)
+    put("unclosed", old, "refused 5", file=unclosed())
+    put("both_7_and_10", b"\x01\x01A\x03\x00", f"refused 7 place {len(RICH) - 1}", file=RICH[:-1])
+    put("both_5_and_10", b"\xff", "refused 5", file=changed(RICH, 25, u64(0)))
+    put("both_7_and_9", old, f"refused 7 place {len(RICH) - 1}", file=RICH[:-1], room=0)
+    put("both_10_and_9", old[:-1], f"refused 10 place {len(old) - 1}", room=0)
+    put("both_10_and_9_kind_3", b"\x02\x01A\x02\x00\x01B\x03\x00", "refused 10 place 7", room=3)
+
+
+def drawn(random, values):
+    return values[random.randrange(len(values))]
+
+
+def draw_old_sheet(random, values):
+    """A small table and the changes of an old sheet over the same few names: the tags, the changes, and what these become."""
+    names = (b"A", b"B", b"a", b"AB", b"C")
+    tags = {drawn(random, names): drawn(random, values) for _ in range(random.randrange(6))}
+    old, new = {}, {}
+    for _ in range(random.randrange(8)):
+        name = drawn(random, names)
+        right = tags.get(name, ABSENT)
+        seen = drawn(random, (right, right, right, UNSEEN, UNSEEN, UNSEEN, UNSEEN, drawn(random, (ABSENT, *values))))
+        after = drawn(random, (ABSENT, drawn(random, values), drawn(random, values)))
+        old[name], new[name] = (name, seen, after), (name, right if seen == UNSEEN else seen, after)
+    return tags, list(old.values()), list(new.values())
+
+
+def broken(random, data):
+    """The bytes with one fault put in, which now and then leaves them legal: cut, a byte changed, put in or taken out, one left over."""
+    at, byte = random.randrange(len(data) + 1), bytes([drawn(random, VALUES)])
+    turn = random.randrange(5)
+    if turn == 0:
+        return data[:at]
+    if turn == 1:
+        return data[:at] + byte + data[at + 1 :]
+    if turn == 2:
+        return data[:at] + byte + data[at:]
+    if turn == 3:
+        return data[:at] + data[at + 1 :]
+    return data + byte
+
+
+def random_conversions(v):
+    """Small tables and old sheets, drawn at random, in rooms about the answer; some with a fault in the sheet, a few with one in the file."""
+    random = Random(7)
+    for i in range(60):
+        tags, old, new = draw_old_sheet(random, (b"", b"x", b"y", b"xy"))
+        file, data, wanted = build(frames=(), user=tags.items()), sheet(*old), sheet(*new)
+        room = max(0, len(wanted) + drawn(random, (-2, -1, 0, 0, 1, 2, 3, 9, 20)))
+        expected = f"converted {len(wanted)} out {hex_check(wanted + lent(room)[len(wanted) :])}" if room >= len(wanted) else "refused 9"
+        if i % 5 == 4:
+            data, expected = broken(random, data), ""
+        if i % 15 == 7:
+            file, expected = broken(random, file), ""
+        v.put(f"convert_random_{i:02}", of_convert(room, data, file), expected)
 
 
 # ---- (3) the browser, a tag by its name ----
@@ -2052,7 +2270,7 @@ def places_of_sheets():
     yield "new_kind_wrong_behind_a_value", bytes.fromhex("01 01 41 01 01 78 02"), 6
     yield "both_kinds_wrong", bytes.fromhex("01 01 41 03 02"), 3
     yield "name_empty_and_kinds_wrong", bytes.fromhex("01 00 03 03"), 1
-    yield "names_abba", sheet(*((name, UNSEEN, ABSENT) for name in (b"A", b"B", b"B", b"A"))), 9
+    yield "names_abba", sheet(*((name, ABSENT, ABSENT) for name in (b"A", b"B", b"B", b"A"))), 9
     yield "name_used_twice_and_its_kind_wrong", bytes.fromhex("02 01 41 00 00 01 41 03 00"), 5
     yield "name_used_twice_and_no_kind", bytes.fromhex("02 01 41 00 00 01 41"), 5
     yield "kind_wrong_ahead_of_a_name_used_twice", bytes.fromhex("02 01 41 00 05 01 41 00 00"), 4
@@ -2157,18 +2375,24 @@ def sweeps(v):
         put("repair_" + name, b"R", file)
     sheets = {
         "p11": P11_SHEET,
-        "all_kinds": sheet((b"A", b"B", b"x"), (b"B", UNSEEN, ABSENT), (b"D", ABSENT, b"yz"), (b"C", b"xy", ABSENT)),
-        "names_abba": sheet(*((name, UNSEEN, b"x") for name in (b"A", b"B", b"B", b"A"))),
-        "kind_wrong": bytes.fromhex("02 01 41 02 05 01 42 01 01 78 00"),
-        "value_bad": sheet((b"A", UNSEEN, b"x\x07"), (b"B", UNSEEN, b"")),
-        "one_left_over": sheet((b"A", UNSEEN, ABSENT), (b"B", UNSEEN, ABSENT)) + b"\x07",
+        "all_kinds": sheet((b"A", b"B", b"x"), (b"B", b"", ABSENT), (b"D", ABSENT, b"yz"), (b"C", b"xy", ABSENT)),
+        "names_abba": sheet(*((name, dict(tags)[name], b"x") for name in (b"A", b"B", b"B", b"A"))),
+        "kind_wrong": bytes.fromhex("02 01 41 01 01 42 05 01 42 01 00 00"),
+        "value_bad": sheet((b"A", b"B", b"x\x07"), (b"B", b"", b"")),
+        "one_left_over": sheet((b"A", b"B", ABSENT), (b"B", b"", ABSENT)) + b"\x07",
         "no_changes": sheet(),
+        "old": sheet((b"A", UNSEEN, b"x"), (b"B", b"", ABSENT), (b"D", UNSEEN, b"yz"), (b"C", UNSEEN, ABSENT)),
+        "old_last": sheet((b"A", b"B", b"x"), (b"B", UNSEEN, ABSENT)),
+        "old_names_abba": sheet(*((name, UNSEEN, b"x") for name in (b"A", b"B", b"B", b"A"))),
+        "old_kind_wrong": bytes.fromhex("02 01 41 02 05 01 42 01 01 78 00"),
+        "old_one_left_over": sheet((b"A", UNSEEN, ABSENT), (b"B", UNSEEN, ABSENT)) + b"\x07",
     }
     for name, data in sheets.items():
-        put("saving_sheet_" + name, b"S", data, small, calls=2)
+        put("saving_sheet_" + name, b"S", data, small, calls=3)
     for name in ("worked", "user_table_bad", "user_name_twice"):
-        put("saving_file_" + name, b"U", files[name], P11_SHEET, calls=2)
-    put("saving_file_small", b"U", small, sheets["all_kinds"], calls=2)
+        put("saving_file_" + name, b"U", files[name], P11_SHEET, calls=3)
+    put("saving_file_small", b"U", small, sheets["all_kinds"], calls=3)
+    put("saving_file_small_old", b"U", small, sheets["old"], calls=3)
     lists = {
         "image": IMAGE,
         "two": set_up((b"AB", b"xyz"), (b"C", b"")),
@@ -2208,7 +2432,7 @@ def no_vectors(v):
     v.put("no_vector_close_short", of_close(ONE_ADDED, b"", 20)[:-1], "no vector")
     v.put("no_vector_close_notes_short", of_close(ONE_ADDED, ONE_NOTE, 20)[:-1], "no vector")
     v.put("no_vector_repair_short", b"r\x00", "no vector")
-    for name, kind in (("commit", b"m"), ("look", b"l")):
+    for name, kind in (("commit", b"m"), ("look", b"l"), ("convert", b"v")):
         v.put(f"no_vector_{name}_short", kind + b"\x00\x01\x00", "no vector")
         v.put(f"no_vector_{name}_sheet_short", of_saving(kind, 9, P11_SHEET, b"")[:-1], "no vector")
     v.put("no_vector_browse_short", of_browse(0, b"")[:-1], "no vector")
@@ -2227,6 +2451,7 @@ def no_vectors(v):
     v.put("part_no_file", of_part(0, 0, 0, b""), "refused 1 part of 0")
     v.put("commit_no_file", of_commit(20, P11_SHEET, b""), "refused 1")
     v.put("look_no_file", of_look(P11_SHEET, b""), "refused 1")
+    v.put("convert_no_file", of_convert(20, P11_SHEET, b""), "refused 1")
 
 
 # ---- checks of the model ----
@@ -2279,6 +2504,143 @@ def check_looks(v):
         expected = f"refused 11 place {lowest}" if conflicts else look if look.startswith("refused") else ""
         assert commit.startswith(expected and expected + " "), (name, look, commit)
         assert conflicts or not commit.startswith("refused 11"), (name, look, commit)
+
+
+def whole_answer(call, file, data, room):
+    """All that a commit or a conversion hands back: its length or its refusal in words, and the lent bytes, which a refusal leaves as they were."""
+    out = lent(room)
+    try:
+        return call(file, data, out), out
+    except Refusal as refusal:
+        assert out == lent(room)
+        return refused(refusal), out
+
+
+def is_refused(answer, *numbers):
+    return isinstance(answer, str) and int(answer.split()[1]) in numbers
+
+
+def refused_now(file, old):
+    """The refusal that a look and a commit give an old sheet in this release."""
+    commit, _ = whole_answer(model.commit, file, old, 0)
+    look, _ = whole_answer(lambda file, data, _: model.look(file, data), file, old, 0)
+    assert commit == look
+    return commit
+
+
+def seen_places(data):
+    """The places of the seen kinds of a legal sheet, old or new."""
+    at, places = 1, []
+    for _ in range(data[0]):
+        at += 1 + data[at]
+        places.append(at)
+        for _ in range(2):
+            at += 2 + data[at + 1] if data[at] == 1 else 1
+    assert at == len(data)
+    return places
+
+
+# What the checks of the converter have to come upon.
+TO_SEE = ("cases", "refused 1 to 7", "refused 10", "converted", "with nobody looked", "unchanged")
+TO_SEE += ("whose commit is accepted", "refused 11", "refused 17", "commits compared", "of these refused 9")
+
+
+def check_refused_conversion(file, old, given, saw):
+    """A refused conversion: refused in no room as well, and in this release for the same fault, or for "nobody looked" ahead of it."""
+    assert whole_answer(model.convert, file, old, 0)[0] == given
+    now = refused_now(file, old)
+    if now != given:
+        place, old_place = int(now.split()[-1]), int(given.split()[-1])
+        assert is_refused(now, 10) and is_refused(given, 10) and place < old_place and old[place] == 2
+    saw["refused 10" if is_refused(given, 10) else "refused 1 to 7"] += 1
+
+
+def check_new_sheet(file, old, new, saw):
+    """What was written: no "nobody looked", and the old sheet where it had none."""
+    unseen = [at for at in seen_places(old) if old[at] == 2]
+    assert all(new[at] in (0, 1) for at in seen_places(new))
+    assert len(new) <= min(len(old) + 256 * len(unseen), 49_281)
+    if unseen:
+        assert refused_now(file, old) == f"refused 10 place {unseen[0]}"
+    else:
+        assert new == old
+    saw["with nobody looked" if unseen else "unchanged"] += 1
+
+
+def check_conversion(file, old, room, saw, wanted=None):
+    """What #111 wants of a file and an old sheet, in this room and in those about the answers; `saw` counts what came of it.
+
+    `wanted` is the sheet that it has to become, where that is known from how it was made.
+    """
+    saw["cases"] += 1
+    most = len(old) + 64 * 256
+    before, _ = whole_answer(model.old_commit, file, old, len(file) + len(old))
+    given, out = whole_answer(model.convert, file, old, most)
+    # 1 to 7 and 10 are exactly the old commit's, places and all.
+    if is_refused(before, 1, 2, 3, 4, 5, 6, 7, 10) or isinstance(given, str):
+        assert given == before and wanted is None
+        check_refused_conversion(file, old, given, saw)
+        return
+    new = bytes(out[:given])
+    assert out[given:] == lent(most - given) and wanted in (None, new)
+    check_new_sheet(file, old, new, saw)
+    for other in {room, given - 1, given}:
+        expected = (given, new + lent(other)[given:]) if other >= given else ("refused 9", lent(other))
+        assert whole_answer(model.convert, file, old, other) == expected
+    for other in {room} if isinstance(before, str) else {room, before - 1, before}:
+        answer = whole_answer(model.old_commit, file, old, other)
+        assert whole_answer(model.commit, file, new, other) == answer
+        saw["commits compared"] += 1
+        saw["of these refused 9"] += is_refused(answer[0], 9)
+    saw["converted"] += 1
+    saw[before[:10] if isinstance(before, str) else "whose commit is accepted"] += 1
+
+
+def draw_long_sheet(random, names, tags):
+    """An old sheet over these names, and what it becomes."""
+    old, new = [], []
+    for name in names:
+        right, after = tags.get(name, ABSENT), drawn(random, (ABSENT, b"", b"n" * random.randrange(256)))
+        seen = drawn(random, (right, UNSEEN, UNSEEN, UNSEEN))
+        old.append((name, seen, after))
+        new.append((name, right, after))
+    return sheet(*old), sheet(*new)
+
+
+def drawn_conversions(random):
+    """Files and old sheets: file, sheet, and what it becomes where that is known."""
+    for i in range(200_000):
+        values = (b"", b"x", b"y", b"xy") if i % 20 else (b"", b"x", b"v" * 255, b"w" * 200)
+        tags, old, new = draw_old_sheet(random, values)
+        file, old, new = build(frames=(), user=tags.items()), sheet(*old), sheet(*new)
+        if i % 4 == 3:
+            old, new = broken(random, old), None
+        if i % 15 == 5:
+            file, new = broken(random, file), None
+        yield file, old, new
+    # Up to 64 changes, with long values, and over tables that are full or nearly so.
+    for _ in range(200):
+        tags = {b"T%02d" % i: b"v" * random.randrange(256) for i in range(64) if random.randrange(2)}
+        yield build(frames=(), user=tags.items()), *draw_long_sheet(random, [b"T%02d" % i for i in range(random.randrange(65))], tags)
+    for _ in range(40):
+        many = many_tags(1064)
+        tags = dict(many[: 1000 - drawn(random, (0, 0, 1, 8, 30))])
+        names = [name for name, _ in many[900:] if random.randrange(3) == 0][:64]
+        yield build(frames=(), user=tags.items()), *draw_long_sheet(random, names, tags)
+
+
+def check_conversions(v):
+    """The converter against the old commit: every vector of the converter, and files and sheets drawn at random."""
+    saw, random = dict.fromkeys(TO_SEE, 0), Random(8)
+    for name, vector in v.all.items():
+        if vector[:1] == b"v" and v.lines[name] != "no vector":
+            fields = Fields(vector[1:])
+            room, old = fields.number(2), fields.bytes(fields.number(2))
+            check_conversion(fields.rest(), old, room, saw)
+    for file, old, new in drawn_conversions(random):
+        check_conversion(file, old, random.randrange(60), saw, new)
+    assert all(saw.values()), saw
+    print("conversions:", ", ".join(f"{count:,} {word}" for word, count in saw.items()))
 
 
 def check_readings():
@@ -2338,10 +2700,11 @@ def main():
     v = Vectors()
     readers = (opening, frame_reader, part_reader)
     recorder = (begin_vectors, add_vectors, random_recorder_vectors, close_vectors, whole_recordings, repair_vectors, random_repairs)
-    tags = (commit_vectors, look_vectors, random_commits, browser_vectors, named_vectors)
+    tags = (commit_vectors, look_vectors, random_commits, unseen_vectors, convert_vectors, random_conversions, browser_vectors, named_vectors)
     for group in (*readers, *recorder, *tags, place_vectors, sweeps, no_vectors):
         group(v)
     check_looks(v)
+    check_conversions(v)
     v.write()
     print(len(v.all), "vectors,", sum(map(len, v.all.values())), "bytes")
 

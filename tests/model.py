@@ -1,10 +1,11 @@
-"""Document 01 in plain Python, with the places of request #102 and the look and commit of #108: an implementation of its own, by which the
-vectors' answers were computed.
+"""Document 01 in plain Python, with the places of request #102, the look and commit of #108 and the converter of #111: an implementation of its
+own, by which the vectors' answers were computed.
 
 It was written from the documents alone, without a look at the library under test. Each public call of the library stands here as a
-function: open_file, frame, part and part_refusal, begin, add, close, repair, look, commit, browse, walk_tags, tag_by_name. A refused call raises
-Refusal with the document's number. Lent outputs are bytearrays; every test of a call comes before its first write, so that a refusal changes
-nothing. Python's whole numbers have no width, so no sum or difference here can wrap.
+function: open_file, frame, part and part_refusal, begin, add, close, repair, look, commit, convert, browse, walk_tags, tag_by_name. A refused call
+raises Refusal with the document's number. Lent outputs are bytearrays; every test of a call comes before its first write, so that a refusal changes
+nothing. Python's whole numbers have no width, so no sum or difference here can wrap. One function is no call any more: old_commit, which is commit
+as it was before #111, for the checks of the converter alone.
 
 What is lent is read front to back, and the reading stops at the first fault: its place is the one that the refusal carries. A fault of a
 string is at the byte that breaks its rule, or at the end of the bytes where they run out; any other is at the start of its field.
@@ -37,6 +38,9 @@ PLACED = (SECTIONS, SYSTEM_TABLE, USER_TABLE, SHEET, CONFLICT)
 # The recorder's stages.
 FRESH, RUNNING, CLOSING, CLOSED = 0, 1, 2, 3
 
+# The kinds of an entry of a sheet. The last was a seen kind until #111; since then it is read by the converter alone.
+ABSENT, VALUE, NOBODY_LOOKED = 0, 1, 2
+
 # The items that can be read as a part of the file.
 SECTION, SECTION_NAME, CONFIGURATION, SYSTEM_NAME, SYSTEM_VALUE, USER_NAME, USER_VALUE = range(7)
 
@@ -48,7 +52,7 @@ Opened = namedtuple("Opened", "front frames user")
 State = namedtuple("State", "stage piece sections frames first last end")
 Piece = namedtuple("Piece", "place length")
 Repaired = namedtuple("Repaired", "kept count index_offset user_offset tail_length")
-Change = namedtuple("Change", "name seen_kind seen new_kind new")
+Change = namedtuple("Change", "name seen_at seen_kind seen new_kind new")  # seen_at: the place of the seen kind in the sheet
 Compared = namedtuple("Compared", "tags changes conflicts")  # (name, value) pairs, Changes, numbers of changes from the lowest on
 Looked = namedtuple("Looked", "changes set")  # how many changes, and 2^i for each change i that conflicts
 
@@ -526,40 +530,46 @@ def repaired_file(file, answer, out):
 # ---- saving tags ----
 
 
-def optional_value_at(sheet, at, kinds):
-    """A kind and, for kind 1, the value directly behind it: the kind, the value or None, the end."""
+def optional_value_at(sheet, at, greatest):
+    """A kind up to `greatest` and, for kind 1, the value directly behind it: the kind, the value or None, the end."""
     kind = number_at(sheet, at, 1)
-    refuse_if(kind is None or kind not in kinds, SHEET, at)
-    if kind != 1:
+    refuse_if(kind is None or kind > greatest, SHEET, at)
+    if kind != VALUE:
         return kind, None, at + 1
     value = short_string_at(sheet, at + 1, 0, is_tag_byte, SHEET)
     return kind, taken(sheet, value), end_of(value)
 
 
-def changes_of(sheet):
-    """The sheet's changes. 10 where it is malformed."""
+def changes_of(sheet, greatest_seen):
+    """The changes of a sheet whose seen kinds go up to `greatest_seen`. 10 where it is malformed."""
     refuse_if(len(sheet) < 1 or sheet[0] > MOST_CHANGES, SHEET, 0)
     at = 1
     changes, names = [], []
     for _ in range(sheet[0]):
         name = new_name_at(sheet, at, names, is_tag_byte, SHEET)
-        seen_kind, seen, at = optional_value_at(sheet, end_of(name), (0, 1, 2))
-        new_kind, new, at = optional_value_at(sheet, at, (0, 1))
-        changes.append(Change(taken(sheet, name), seen_kind, seen, new_kind, new))
+        seen_at = end_of(name)
+        seen_kind, seen, at = optional_value_at(sheet, seen_at, greatest_seen)
+        new_kind, new, at = optional_value_at(sheet, at, VALUE)
+        changes.append(Change(taken(sheet, name), seen_at, seen_kind, seen, new_kind, new))
     refuse_if(at != len(sheet), SHEET, at)
     return changes
 
 
+def tags_of(file):
+    """Tests 1 to 7, and the user table's (name, value) pairs."""
+    return [(taken(file, tag.name), taken(file, tag.value)) for tag in open_file(file).user]
+
+
 def conflicts_of(tags, changes):
-    """The numbers of the changes whose seen entry is not the table's. Kind 2 is nobody's look, and never conflicts."""
+    """The numbers of the changes whose seen entry is not the table's. Where nobody looked, as in old sheets, there is nothing to compare."""
     before = dict(tags)
-    return [i for i, change in enumerate(changes) if change.seen_kind != 2 and before.get(change.name) != change.seen]
+    return [i for i, change in enumerate(changes) if change.seen_kind != NOBODY_LOOKED and before.get(change.name) != change.seen]
 
 
-def compared(file, sheet):
+def compared(file, sheet, greatest_seen):
     """Tests 1 to 7 and 10, and what they find, with every seen entry compared."""
-    tags = [(taken(file, tag.name), taken(file, tag.value)) for tag in open_file(file).user]
-    changes = changes_of(sheet)
+    tags = tags_of(file)
+    changes = changes_of(sheet, greatest_seen)
     return Compared(tags, changes, conflicts_of(tags, changes))
 
 
@@ -567,22 +577,15 @@ def changed_table(tags, changes):
     """The (name, value) pairs after the commit: a dict keeps its order, and a changed name its place."""
     table = dict(tags)
     for change in changes:
-        if change.new_kind == 1:
+        if change.new_kind == VALUE:
             table[change.name] = change.new
         else:
             table.pop(change.name, None)
     return list(table.items())
 
 
-def look(file, sheet):
-    """A look: 1 to 7, 10."""
-    found = compared(file, sheet)
-    return Looked(len(found.changes), sum(2**i for i in found.conflicts))
-
-
-def commit(file, sheet, out):
-    """A commit: 1 to 7, 10, 11, 17, 9. The new user table is put into `out`; its length is the answer."""
-    found = compared(file, sheet)
+def save(found, out):
+    """Tests 11, 17 and 9. The new user table is put into `out`; its length is the answer."""
     if found.conflicts:
         raise Refusal(CONFLICT, min(found.conflicts))
     after = changed_table(found.tags, found.changes)
@@ -591,3 +594,47 @@ def commit(file, sheet, out):
     refuse_if(len(out) < len(table), NO_ROOM)
     fill(out, table)
     return len(table)
+
+
+def look(file, sheet):
+    """A look: 1 to 7, 10."""
+    found = compared(file, sheet, VALUE)
+    return Looked(len(found.changes), sum(2**i for i in found.conflicts))
+
+
+def commit(file, sheet, out):
+    """A commit: 1 to 7, 10, 11, 17, 9."""
+    return save(compared(file, sheet, VALUE), out)
+
+
+def old_commit(file, sheet, out):
+    """A commit before #111, which took "nobody looked"."""
+    return save(compared(file, sheet, NOBODY_LOOKED), out)
+
+
+# ---- the converter ----
+
+
+def seen_entry(value):
+    """The seen entry that says what the table has: the value of a name, or None for a name that it has not."""
+    return bytes([ABSENT]) if value is None else bytes([VALUE, len(value)]) + value
+
+
+def filled_in(sheet, changes, tags):
+    """The sheet with what the table has wherever nobody looked. All other bytes are taken over as they stand."""
+    before = dict(tags)
+    written, at = b"", 0
+    for change in changes:
+        if change.seen_kind == NOBODY_LOOKED:
+            written += sheet[at : change.seen_at] + seen_entry(before.get(change.name))
+            at = change.seen_at + 1
+    return written + sheet[at:]
+
+
+def convert(file, sheet, out):
+    """The converter of old sheets: 1 to 7, 10, 9. The new sheet is put into `out`; its length is the answer."""
+    tags = tags_of(file)
+    answer = filled_in(sheet, changes_of(sheet, NOBODY_LOOKED), tags)
+    refuse_if(len(out) < len(answer), NO_ROOM)
+    fill(out, answer)
+    return len(answer)

@@ -52,7 +52,7 @@ pub record Storing (to : ℕ) (rest out before : List ℕ) (start : ℕ) (bytes 
   pub stored : sets out to rest ≡ sets before start bytes
 
 -- nothing is left
-storing-end : (to : ℕ) (rest out before : List ℕ) (start : ℕ) (bytes : List ℕ) → rest ≡ [] → Storing to rest out before start bytes
+pub storing-end : (to : ℕ) (rest out before : List ℕ) (start : ℕ) (bytes : List ℕ) → rest ≡ [] → Storing to rest out before start bytes
     → Written to before out start bytes
 storing-end to rest out before start bytes e s =
     let l : length rest ≡ 0 = ap length e in
@@ -60,7 +60,7 @@ storing-end to rest out before start bytes e s =
     record { end = omega arith; stored = sym (ap (λ (x : List ℕ). sets out to x) e) ∙ s .stored }
 
 -- one more piece
-storing-more : (to n : ℕ) (some rest more out out₁ before : List ℕ) (start : ℕ) (bytes : List ℕ) → more ≡ some ++ rest → n ≡ length some
+pub storing-more : (to n : ℕ) (some rest more out out₁ before : List ℕ) (start : ℕ) (bytes : List ℕ) → more ≡ some ++ rest → n ≡ length some
     → out₁ ≡ sets out to some → Storing to more out before start bytes → Storing (to + n) rest out₁ before start bytes
 storing-more to n some rest more out out₁ before start bytes e f h g =
     let c : length more ≡ length some + length rest = ap length e ∙ length-append some rest in

@@ -14,6 +14,9 @@ use Rattle.saving.specs.declared.Looked.{Looked}
 use Rattle.saving.specs.declared.Looked.the-variants as looked
 use Rattle.saving.specs.declared.Committed.{Committed}
 use Rattle.saving.specs.declared.Committed.the-variants as committed
+use Rattle.converting.specs.Answers as converting
+use Rattle.converting.specs.declared.Converted.{Converted}
+use Rattle.converting.specs.declared.Converted.the-variants as converted
 use Rattle.browser.specs.Browsing.{browsedAs}
 use Rattle.browser.specs.declared.Browsed.{Browsed}
 use Rattle.browser.specs.declared.Browsed.the-variants as browsed
@@ -21,9 +24,10 @@ use Rattle.cursor.specs.Cursors.{cursorAs, nextAs}
 use Rattle.cursor.specs.declared.Cursor.{Cursor}
 use Rattle.cursor.specs.declared.Cursor.the-variants as cursor
 use Rattle.refusal.specs.declared.Refusal.{Refusal}
-use Rattle.face_tags.specs.Face.{lookedNot, lookedFlat, committedNot, committedFlat, kept, outcomeFlat, tagNot, tagFlat, cursorNot, cursorFlat, cursorAsked, cursorNext}
+use Rattle.face_tags.specs.Face.{lookedNot, lookedFlat, committedNot, committedFlat, kept, outcomeFlat, convertedNot, convertedFlat, conversionFlat, tagNot, tagFlat, cursorNot, cursorFlat, cursorAsked, cursorNext}
 use Rattle.face_tags.specs.declared.FstfLooked.{FstfLooked}
 use Rattle.face_tags.specs.declared.FstfCommitted.{FstfCommitted}
+use Rattle.face_tags.specs.declared.FstfConverted.{FstfConverted}
 use Rattle.face_tags.specs.declared.FstfTag.{FstfTag}
 use Rattle.face_tags.specs.declared.FstfCursor.{FstfCursor}
 
@@ -49,6 +53,20 @@ pub commit-face : (f s out out' : List ℕ) (o : Committed) (r : FstfCommitted) 
     → kept r out' ≡ outcomeFlat (saving.commitOf f s out)
 unfolding outcomeFlat
 commit-face f s out out' o r e h = ap (λ (x : FstfCommitted). kept x out') h ∙ ap outcomeFlat e
+
+-- ── To convert ──
+
+pub convert-sheet : (o : Converted) (n : ℕ) → o ≡ converted.Sheet n → record { refused = 0; place = 0; length = n } ≡ convertedFlat o
+convert-sheet o n e = sym (ap convertedFlat e)
+
+pub convert-not : (o : Converted) (n : Refusal) (r : FstfConverted) → o ≡ converted.Refused n → r ≡ convertedNot (n .number) (n .place)
+    → r ≡ convertedFlat o
+convert-not o n r e h = h ∙ sym (ap convertedFlat e)
+
+pub convert-face : (f s out out' : List ℕ) (o : Converted) (r : FstfConverted) → converting.outcome o out' ≡ converting.convertOf f s out → r ≡ convertedFlat o
+    → kept r out' ≡ conversionFlat (converting.convertOf f s out)
+unfolding conversionFlat
+convert-face f s out out' o r e h = ap (λ (x : FstfConverted). kept x out') h ∙ ap conversionFlat e
 
 -- ── Tags ──
 
@@ -113,6 +131,9 @@ pub ruleset laws = (
   commit-table,
   commit-not,
   commit-face,
+  convert-sheet,
+  convert-not,
+  convert-face,
   tag-is,
   tag-end,
   tag-not,

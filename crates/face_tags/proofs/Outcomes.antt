@@ -11,6 +11,7 @@ use prog.Wp.{Heap}
 use Rattle.outcome.specs.Outcome.{Determines, agree}
 use Rattle.face_tags.proofs.look
 use Rattle.face_tags.proofs.commit
+use Rattle.face_tags.proofs.convert
 use Rattle.face_tags.proofs.tag_at
 use Rattle.face_tags.proofs.tag_named
 use Rattle.face_tags.proofs.first_tag
@@ -22,6 +23,9 @@ module _ {M : Type 1} (𝓤 : URA M) (H : Heap 𝓤) (A : Atoms 𝓤) (mem : Mem
 
   pub commit-one : Determines 𝓤 commit.ended (commit.clauses 𝓤 H A mem run)
   commit-one κs a g x y v w = agree 𝓤 (λ p q. let e = p ∙ sym q in (λ i. e i .answer, λ i. (v .0, (v .1 .0, (e i .out, v .1 .1 .1)))))
+
+  pub convert-one : Determines 𝓤 convert.ended (convert.clauses 𝓤 H A mem run)
+  convert-one κs a g x y v w = agree 𝓤 (λ p q. let e = p ∙ sym q in (λ i. e i .answer, λ i. (v .0, (v .1 .0, (e i .out, v .1 .1 .1)))))
 
   pub tag-at-one : Determines 𝓤 «tag_at».ended («tag_at».clauses 𝓤 H A mem run)
   tag-at-one κs a g x y v w = agree 𝓤 (λ p q. (p ∙ sym q, refl))

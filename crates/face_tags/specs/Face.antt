@@ -1,4 +1,4 @@
--- The flat answers of look, commit and tags, by cases on the answers of the calls behind them.
+-- The flat answers of look, commit, the converter and tags, by cases on the answers of the calls behind them.
 use Prim.Native.Nat.{ℕ}
 use mathlib.Core.Bool.{cond}
 use mathlib.Core.List.{List}
@@ -8,6 +8,9 @@ use Rattle.saving.specs.declared.Looked.the-variants as looked
 use Rattle.saving.specs.declared.Committed.{Committed}
 use Rattle.saving.specs.declared.Committed.the-variants as committed
 use Rattle.saving.specs.Answers as saving
+use Rattle.converting.specs.declared.Converted.{Converted}
+use Rattle.converting.specs.declared.Converted.the-variants as converted
+use Rattle.converting.specs.Answers as converting
 use Rattle.browser.specs.declared.Browsed.{Browsed}
 use Rattle.browser.specs.declared.Browsed.the-variants as browsed
 use Rattle.cursor.specs.Cursors.{nextAs}
@@ -15,6 +18,7 @@ use Rattle.cursor.specs.declared.Cursor.{Cursor}
 use Rattle.cursor.specs.declared.Cursor.the-variants as cursor
 use Rattle.face_tags.specs.declared.FstfLooked.{FstfLooked}
 use Rattle.face_tags.specs.declared.FstfCommitted.{FstfCommitted}
+use Rattle.face_tags.specs.declared.FstfConverted.{FstfConverted}
 use Rattle.face_tags.specs.declared.FstfTag.{FstfTag}
 use Rattle.face_tags.specs.declared.FstfCursor.{FstfCursor}
 
@@ -36,15 +40,27 @@ committedFlat (committed.Table n) = record { refused = 0; place = 0; length = n 
 committedFlat (committed.Refused n) = committedNot (n .number) (n .place)
 
 -- an answer, and what the call leaves in the lent output
-pub record Kept : Type 0 where
-  pub answer : FstfCommitted
+pub record Kept (A : Type 0) : Type 0 where
+  pub answer : A
   pub out : List ℕ
 
-abbrev pub kept : FstfCommitted → List ℕ → Kept
+abbrev pub kept : {A : Type 0} → A → List ℕ → Kept A
 kept r out = record { answer = r; out = out }
 
-unfoldable pub outcomeFlat : saving.Outcome → Kept
+unfoldable pub outcomeFlat : saving.Outcome → Kept FstfCommitted
 outcomeFlat o = kept (committedFlat (o .answer)) (o .out)
+
+-- ── To convert ──
+
+abbrev pub convertedNot : (number place : ℕ) → FstfConverted
+convertedNot n place = record { refused = n; place = place; length = 0 }
+
+abbrev pub convertedFlat : Converted → FstfConverted
+convertedFlat (converted.Sheet n) = record { refused = 0; place = 0; length = n }
+convertedFlat (converted.Refused n) = convertedNot (n .number) (n .place)
+
+unfoldable pub conversionFlat : converting.Outcome → Kept FstfConverted
+conversionFlat o = kept (convertedFlat (o .answer)) (o .out)
 
 -- ── Tags ──
 

@@ -1,6 +1,7 @@
-// The C face of look, commit and tags: answers are flat structs of numbers, each with `refused` and the refusal's `place` ahead. The crate `fstf` exports
+// The C face of look, commit, the converter and tags: answers are flat structs of numbers, each with `refused` and the refusal's `place` ahead. The crate `fstf` exports
 // the calls, and include/fstf.h declares them.
 use browser::Browsed;
+use converting::Converted;
 use cursor::Cursor;
 use saving::Committed;
 use saving::Looked;
@@ -8,9 +9,10 @@ ghost use mathlib.Core.Path.{_≡_};
 ghost use Rattle.layout.specs.Browser.{browse, tagNamed};
 ghost use Rattle.layout.specs.Cursor.{firstTag};
 ghost use Rattle.saving.specs.Answers.{lookOf, commitOf};
+ghost use Rattle.converting.specs.Answers.{convertOf};
 ghost use Rattle.browser.specs.Browsing.{browsedAs};
 ghost use Rattle.cursor.specs.Cursors.{cursorAs};
-ghost use Rattle.face_tags.specs.Face.{lookedNot, lookedFlat, committedNot, committedFlat, kept, outcomeFlat, tagNot, tagFlat, cursorNot, cursorFlat, cursorAsked, cursorNext};
+ghost use Rattle.face_tags.specs.Face.{lookedNot, lookedFlat, committedNot, committedFlat, kept, outcomeFlat, convertedNot, convertedFlat, conversionFlat, tagNot, tagFlat, cursorNot, cursorFlat, cursorAsked, cursorNext};
 
 // ── To look and to commit ──
 
@@ -90,6 +92,46 @@ pub fn commit(file: &[u8], sheet: &[u8], out: &mut [u8]) -> FstfCommitted
     ensures { λ r. ⌜ kept r (now (out .exit)) ≡ outcomeFlat (commitOf (now (file .entry)) (now (sheet .entry)) (now (out .entry))) ⌝ }
 {
     committed_flat(saving::commit(file, sheet, out))
+}
+
+// ── To convert ──
+
+// The length of the new sheet, which stands at the start of the lent output; refused, 0. The place counts from the start of the file for 3, 4 and 7 and of the
+// old sheet for 10.
+#[repr(C)]
+pub struct FstfConverted {
+    pub refused: u64,
+    pub place: u64,
+    pub length: u64,
+}
+
+fn converted_not(number: u64, place: u64) -> FstfConverted
+    ensures { λ r. ⌜ r ≡ convertedNot number place ⌝ }
+{
+    FstfConverted {
+        refused: number,
+        place,
+        length: 0,
+    }
+}
+
+fn converted_flat(answer: Converted) -> FstfConverted
+    ensures { λ r. ⌜ r ≡ convertedFlat answer ⌝ }
+{
+    match answer {
+        Converted::Sheet(length) => FstfConverted {
+            refused: 0,
+            place: 0,
+            length: length as u64,
+        },
+        Converted::Refused(refusal) => converted_not(refusal.number as u64, refusal.place as u64),
+    }
+}
+
+pub fn convert(file: &[u8], sheet: &[u8], out: &mut [u8]) -> FstfConverted
+    ensures { λ r. ⌜ kept r (now (out .exit)) ≡ conversionFlat (convertOf (now (file .entry)) (now (sheet .entry)) (now (out .entry))) ⌝ }
+{
+    converted_flat(converting::convert(file, sheet, out))
 }
 
 // ── Tags ──

@@ -1,25 +1,24 @@
 -- The first fault of rows: what the functions ahead of the walk over rows leave to be shown.
 -- Assumes nothing.
-use Prim.Native.Nat.{ℕ, zero, suc, _+_, _-_, _^_, _<_, _≤_}
+use Prim.Native.Nat.{ℕ, _+_, _-_, _^_, _<_, _≤_}
 use native.Mathlib.Omega.{arith}
 use mathlib.Core.Path.{_≡_, refl, ap, sym, _∙_}
-use mathlib.Core.Bool.{cond}
+use mathlib.Core.Bool.{Bool, true, false, cond}
 use mathlib.Core.List.{List, []}
 use lib.ListN.{length, take, drop, getD, length-drop}
 use lib.Seq.{drop-drop}
 use lib.Dec.{leb, eqb}
-use mir.Syntax.{w64}
+use mir.Syntax.{w8, w64}
 use mir.Val.{Fits}
 use borrow.Author.Needs.{needs}
-use borrow.Author.Tests.{le-leb, lt-leb, leb-true, eq-eqb, ne-eqb}
+use borrow.Author.Tests.{le-leb, lt-leb, eq-eqb, ne-eqb}
 use Rattle.number.specs.Number.{readAt}
-use Rattle.number.proofs.Bytes.{both-true}
 use Rattle.number.proofs.Bools.{and-false}
 use Rattle.layout.specs.Recording.{within, legalSectionName, legalTagName, legalTagValue, isNameByte, isTagByte}
 use Rattle.layout.specs.Reading.{Parsed, bad, good, Reader, onward, behind, give, _then_, only, number, block, string, stringFault, sectionName, tagName, tagValue, keeping, rowsFault, countedFault}
 use Rattle.layout.specs.Opening.{step, offsetBehind}
 use Rattle.layout.specs.Recorder.{configured}
-use Rattle.layout.specs.Saving.{kind, entryOf, seenOf, seenPart, newPart, absent, holds, saw, nobodyLooked}
+use Rattle.layout.specs.Saving.{kind, entryOf, entryPart, absent, holds}
 use Rattle.layout.proofs.Readers.{placed-good, then-takes, block-is}
 use Rattle.strings.specs.Strings.{textOf, shortOf, readBy}
 use Rattle.strings.specs.declared.Short.{Short}
@@ -29,6 +28,7 @@ use Rattle.strings.specs.declared.Rule.the-variants as rule
 use Rattle.strings.proofs.Laws.{string-parts}
 use Rattle.parts.proofs.Readers.{only-bad, only-pass, only-fail, then-bad, then-onward, number-there, number-cut}
 use Rattle.parts.proofs.Taken.{only-parts, give-parts, then-give, then-next-bad, block-short}
+use Rattle.rows.specs.Rows.{entryUpTo}
 use Rattle.rows.specs.declared.Row.{Row}
 use Rattle.rows.specs.declared.Row.the-variants as row
 use Rattle.rows.proofs.Laws.{entry-kind}
@@ -188,6 +188,10 @@ module _ (s : List ℕ) (at before : ℕ) (r : Short) where
 
 -- ── An entry ──
 
+-- a byte fits a wider number
+pub byte-fits : (s : List ℕ) (at : ℕ) → ((i : ℕ) → Fits w8 (getD s i 0)) → Fits w64 (getD s at 0)
+byte-fits s at b = record { fits = omega (arith, b at .fits) }
+
 module _ (s : List ℕ) (at most before : ℕ) where
   next : ℕ → Reader ℕ
   next k = cond (eqb k 1) (keeping tagValue before) (give before)
@@ -266,40 +270,27 @@ made {A} p f b t = go (p t)
     go (bad m) = refl
     go (good a n) = ap (good b) (omega arith)
 
-kind-most : (most : ℕ) (t : List ℕ) (k n : ℕ) → kind most t ≡ good k n → k ≤ most
-unfolding kind
-kind-most most t k n e = leb-true k most (both-true (leb 0 k) (leb k most) (only-parts (within 0 most) (number 1) t k n e .1) .1)
-
 kept-nothing : {A : Type 0} (a : A) (b : ℕ) (u : List ℕ) → keeping (give a) b u ≡ give b u
 unfolding keeping _then_ onward behind give
 kept-nothing a b u = refl
 
-new-kept : (b k : ℕ) → k ≤ 1 → (u : List ℕ) → keeping (entryOf k) b u ≡ cond (eqb k 1) (keeping tagValue b) (give b) u
+entry-kept : (b k : ℕ) (u : List ℕ) → keeping (entryOf k) b u ≡ cond (eqb k 1) (keeping tagValue b) (give b) u
 unfolding entryOf
-new-kept b zero h u = kept-nothing absent b u
-new-kept b (suc zero) h u = made tagValue holds b u
-new-kept b (suc (suc k)) h u = absurd (omega arith)
+entry-kept b k u = go (eqb k 1)
+  where
+    go : (c : Bool) → keeping (cond c (tagValue then λ v. give (holds v)) (give absent)) b u ≡ cond c (keeping tagValue b) (give b) u
+    go true = made tagValue holds b u
+    go false = kept-nothing absent b u
 
-new-entry : (b : ℕ) (t : List ℕ) → keeping newPart b t ≡ entryBy 1 b t
-unfolding keeping newPart entryBy
-new-entry b t =
-    then-assoc (kind 1) entryOf (give b) t
-    ∙ then-alike (kind 1) (λ k. entryOf k then λ e. give b) (λ k. cond (eqb k 1) (keeping tagValue b) (give b)) t
-    (λ k n e u. new-kept b k (kind-most 1 t k n e) u)
+entry-up-to : (most b : ℕ) (t : List ℕ) → keeping (entryUpTo most) b t ≡ entryBy most b t
+unfolding keeping entryUpTo entryBy
+entry-up-to most b t =
+    then-assoc (kind most) entryOf (give b) t
+    ∙ then-alike (kind most) (λ k. entryOf k then λ e. give b) (λ k. cond (eqb k 1) (keeping tagValue b) (give b)) t (λ k n e u. entry-kept b k u)
 
-seen-kept : (b k : ℕ) → k ≤ 2 → (u : List ℕ) → keeping (seenOf k) b u ≡ cond (eqb k 1) (keeping tagValue b) (give b) u
-unfolding seenOf
-seen-kept b zero h u = made (entryOf 0) saw b u ∙ new-kept b 0 (omega arith) u
-seen-kept b (suc zero) h u = made (entryOf 1) saw b u ∙ new-kept b 1 (omega arith) u
-seen-kept b (suc (suc zero)) h u = kept-nothing nobodyLooked b u
-seen-kept b (suc (suc (suc k))) h u = absurd (omega arith)
-
-seen-entry : (b : ℕ) (t : List ℕ) → keeping seenPart b t ≡ entryBy 2 b t
-unfolding keeping seenPart entryBy
-seen-entry b t =
-    then-assoc (kind 2) seenOf (give b) t
-    ∙ then-alike (kind 2) (λ k. seenOf k then λ e. give b) (λ k. cond (eqb k 1) (keeping tagValue b) (give b)) t
-    (λ k n e u. seen-kept b k (kind-most 2 t k n e) u)
+entry-part : (b : ℕ) (t : List ℕ) → keeping entryPart b t ≡ entryBy 1 b t
+unfolding entryPart entryUpTo
+entry-part b t = entry-up-to 1 b t
 
 keeping-bad : {A : Type 0} (p : Reader A) (b : ℕ) (t : List ℕ) (m : ℕ) → keeping p b t ≡ bad m → p t ≡ bad m
 unfolding keeping _then_ onward behind give
@@ -309,24 +300,24 @@ keeping-bad {A} p b t m e = go (p t) e
     go (bad i) f = cc
     go (good a n) f = let z : _≡_ {A = ℕ} 0 1 = cc in absurd (omega arith)
 
-module _ (s : List ℕ) (at before : ℕ) (r : Rest) where
-  pub entries-broken : (p : ℕ) → r ≡ restOf at (entryBy 2 before (drop at s)) → r ≡ rest.Broken p
-      → rest.Broken p ≡ restOf at (keeping (seenPart then λ seen. newPart) before (drop at s))
+module _ (s : List ℕ) (at most : ℕ) (r : Rest) where
+  pub entries-broken : (p : ℕ) → r ≡ restOf at (entryBy most most (drop at s)) → r ≡ rest.Broken p
+      → rest.Broken p ≡ restOf at (keeping (entryUpTo most then λ seen. entryPart) most (drop at s))
   unfolding keeping restOf
   entries-broken p e f =
-      let (m, g, h) = rest-bad (entryBy 2 before (drop at s)) at p (sym e ∙ f) in
-      let i : seenPart (drop at s) ≡ bad m = keeping-bad seenPart before (drop at s) m (seen-entry before (drop at s) ∙ g) in
-      rw (then-bad (seenPart then λ seen. newPart) (λ x. give before) (drop at s) (then-bad seenPart (λ seen. newPart) (drop at s) i)) (ap rest.Broken h)
+      let (m, g, h) = rest-bad (entryBy most most (drop at s)) at p (sym e ∙ f) in
+      let i : entryUpTo most (drop at s) ≡ bad m = keeping-bad (entryUpTo most) most (drop at s) m (entry-up-to most most (drop at s) ∙ g) in
+      rw (then-bad (entryUpTo most then λ seen. entryPart) (λ x. give most) (drop at s) (then-bad (entryUpTo most) (λ seen. entryPart) (drop at s) i)) (ap rest.Broken h)
 
-  pub entries-next : (end number : ℕ) (t : Rest) → r ≡ restOf at (entryBy 2 before (drop at s)) → r ≡ rest.Whole end number
-      → t ≡ restOf end (entryBy 1 number (drop end s)) → t ≡ restOf at (keeping (seenPart then λ seen. newPart) before (drop at s))
+  pub entries-next : (end number : ℕ) (t : Rest) → r ≡ restOf at (entryBy most most (drop at s)) → r ≡ rest.Whole end number
+      → t ≡ restOf end (entryBy 1 number (drop end s)) → t ≡ restOf at (keeping (entryUpTo most then λ seen. entryPart) most (drop at s))
   unfolding keeping
   entries-next end number t e f g =
-      let (m, h, i) = rest-good (entryBy 2 before (drop at s)) at end number (sym e ∙ f) in
-      give-parts seenPart (λ x. before) (drop at s) number m (seen-entry before (drop at s) ∙ h) (λ x j k.
+      let (m, h, i) = rest-good (entryBy most most (drop at s)) at end number (sym e ∙ f) in
+      give-parts (entryUpTo most) (λ x. most) (drop at s) number m (entry-up-to most most (drop at s) ∙ h) (λ x j k.
       g ∙ ap (λ (e : ℕ). restOf e (entryBy 1 number (drop e s))) i ∙ ap (λ (b : ℕ). restOf (at + m) (entryBy 1 b (drop (at + m) s))) k
-      ∙ sym (ap (restOf at) (then-assoc seenPart (λ seen. newPart) (give before) (drop at s))
-      ∙ then-rest seenPart (λ seen. keeping newPart before) s at x m j ∙ ap (restOf (at + m)) (new-entry before (drop (at + m) s))))
+      ∙ sym (ap (restOf at) (then-assoc (entryUpTo most) (λ seen. entryPart) (give most) (drop at s))
+      ∙ then-rest (entryUpTo most) (λ seen. keeping entryPart most) s at x m j ∙ ap (restOf (at + m)) (entry-part most (drop (at + m) s))))
 
 -- ── What follows a name, by the kind of row ──
 
@@ -343,7 +334,7 @@ module _ (s : List ℕ) (at before : ℕ) (k : Row) (r : Rest) where
   unfolding restBy
   rest-tag e f = rw e f
 
-  pub rest-change : k ≡ row.Change → r ≡ restOf at (keeping (seenPart then λ seen. newPart) before (drop at s))
+  pub rest-change : k ≡ row.Change → r ≡ restOf at (keeping (entryUpTo before then λ seen. entryPart) before (drop at s))
       → r ≡ restOf at (restBy k before (drop at s))
   unfolding restBy
   rest-change e f = rw e f
@@ -507,6 +498,7 @@ pub ruleset laws = (
   configuration-whole,
   value-whole,
   value-broken,
+  byte-fits,
   entry-past,
   entry-more,
   entry-value,

@@ -8,10 +8,11 @@ use Rattle.layout.specs.Recording.{mostSections, mostTags, within}
 use Rattle.layout.specs.Reading.{Parsed, bad, good, Reader, _then_, only, give, number, tagValue, keeping, countedFault}
 use Rattle.layout.specs.Opening.{offsetBehind}
 use Rattle.layout.specs.Recorder.{configured}
-use Rattle.layout.specs.Saving.{mostChanges, kind, seenPart, newPart}
+use Rattle.layout.specs.Saving.{mostChanges, kind, entryPart}
 use Rattle.strings.specs.Strings.{readBy}
 use Rattle.strings.specs.declared.Rule.{Rule}
 use Rattle.strings.specs.declared.Rule.the-variants as rule
+use Rattle.rows.specs.Rows.{entryUpTo}
 use Rattle.rows.specs.declared.Row.{Row}
 use Rattle.rows.specs.declared.Row.the-variants as row
 use Rattle.order.specs.Order.{seek}
@@ -35,12 +36,12 @@ ruleOf row.Change = rule.TagName
 unfoldable pub nameBy : Row → Reader (List ℕ)
 nameBy k = readBy (ruleOf k)
 
--- and what follows it
+-- and what follows it; of a change, `before` is the greatest kind of what was seen
 unfoldable pub restBy : Row → (before : ℕ) → Reader ℕ
 restBy row.Definition = offsetBehind
 restBy row.SetUp = keeping configured
 restBy row.Tag = keeping tagValue
-restBy row.Change = keeping (seenPart then λ s. newPart)
+restBy row.Change = λ most. keeping (entryUpTo most then λ s. entryPart) most
 
 -- an entry of a change, whatever becomes of it: a kind up to `most` and, for kind 1, a value
 unfoldable pub entryBy : (most before : ℕ) → Reader ℕ

@@ -12,7 +12,8 @@ ghost use lib.ListN.{length, drop};
 ghost use Rattle.layout.specs.Opening.{offsetBehind};
 ghost use Rattle.layout.specs.Reading.{rowsFault, keeping, tagValue, _then_};
 ghost use Rattle.layout.specs.Recorder.{configured};
-ghost use Rattle.layout.specs.Saving.{seenPart, newPart};
+ghost use Rattle.layout.specs.Saving.{entryPart};
+ghost use Rattle.rows.specs.Rows.{entryUpTo};
 ghost use Rattle.faults.specs.Faults.{ruleOf, entryBy, nameBy, restBy, restOf, passedBy, rowPassed, countOf, firstFault};
 
 // The rule of the names of a kind of row.
@@ -88,14 +89,14 @@ fn value_at(s: &[u8], at: usize, before: usize) -> Rest
 }
 
 // An entry of a change: a kind up to `most` and, for kind 1, a value.
-fn entry_at(s: &[u8], at: usize, most: u8, before: usize) -> Rest
+fn entry_at(s: &[u8], at: usize, most: usize, before: usize) -> Rest
     ensures { λ r. ⌜ r ≡ restOf at (entryBy most before (drop at (now (s .entry)))) ⌝ }
 {
     if s.len() <= at {
         return Rest::Broken(at);
     }
     let kind = s[at];
-    if most < kind {
+    if most < kind as usize {
         return Rest::Broken(at);
     }
     if kind == 1 {
@@ -107,11 +108,11 @@ fn entry_at(s: &[u8], at: usize, most: u8, before: usize) -> Rest
     }
 }
 
-// What was seen, and what is new.
-fn entries_at(s: &[u8], at: usize, before: usize) -> Rest
-    ensures { λ r. ⌜ r ≡ restOf at (keeping (seenPart then λ seen. newPart) before (drop at (now (s .entry)))) ⌝ }
+// What was seen, of which `most` is the greatest kind, and what is new.
+fn entries_at(s: &[u8], at: usize, most: usize) -> Rest
+    ensures { λ r. ⌜ r ≡ restOf at (keeping (entryUpTo most then λ seen. entryPart) most (drop at (now (s .entry)))) ⌝ }
 {
-    match entry_at(s, at, 2, before) {
+    match entry_at(s, at, most, most) {
         Rest::Whole { end, number } => entry_at(s, end, 1, number),
         Rest::Broken(place) => Rest::Broken(place),
     }
@@ -236,7 +237,7 @@ fn count_of(row: Row) -> Count
 }
 
 // Where the first fault is of rows that stand behind their number from a place on, and of nothing behind them. What follows a definition's name goes by
-// `before`, the offset ahead of it.
+// `before`, the offset ahead of it; what follows a change's name, by the greatest kind of what was seen.
 pub fn first_fault(s: &[u8], at: usize, row: Row, before: usize) -> usize
     ensures { λ r. ⌜ r ≡ at + firstFault row before (drop at (now (s .entry))) ⌝ }
 {

@@ -6,6 +6,7 @@ use face_recording::FstfRecorder;
 use face_recording::FstfTaken;
 use face_repair::FstfRepaired;
 use face_tags::FstfCommitted;
+use face_tags::FstfConverted;
 use face_tags::FstfCursor;
 use face_tags::FstfLooked;
 use face_tags::FstfTag;
@@ -21,9 +22,10 @@ ghost use Rattle.face_repair.specs.Face.{repaired, madeFlat};
 ghost use Rattle.layout.specs.Browser.{browse, tagNamed};
 ghost use Rattle.layout.specs.Cursor.{firstTag};
 ghost use Rattle.saving.specs.Answers.{lookOf, commitOf};
+ghost use Rattle.converting.specs.Answers.{convertOf};
 ghost use Rattle.browser.specs.Browsing.{browsedAs};
 ghost use Rattle.cursor.specs.Cursors.{cursorAs};
-ghost use Rattle.face_tags.specs.Face.{lookedFlat, kept, outcomeFlat, tagFlat, cursorFlat, cursorNext};
+ghost use Rattle.face_tags.specs.Face.{lookedFlat, kept, outcomeFlat, conversionFlat, tagFlat, cursorFlat, cursorNext};
 
 #[no_mangle]
 pub extern "C" fn fstf_open(file: &[u8]) -> FstfOpened
@@ -126,6 +128,13 @@ pub extern "C" fn fstf_commit(file: &[u8], sheet: &[u8], out: &mut [u8]) -> Fstf
     ensures { λ r. ⌜ kept r (now (out .exit)) ≡ outcomeFlat (commitOf (now (file .entry)) (now (sheet .entry)) (now (out .entry))) ⌝ }
 {
     face_tags::commit(file, sheet, out)
+}
+
+#[no_mangle]
+pub extern "C" fn fstf_convert(file: &[u8], sheet: &[u8], out: &mut [u8]) -> FstfConverted
+    ensures { λ r. ⌜ kept r (now (out .exit)) ≡ conversionFlat (convertOf (now (file .entry)) (now (sheet .entry)) (now (out .entry))) ⌝ }
+{
+    face_tags::convert(file, sheet, out)
 }
 
 #[no_mangle]

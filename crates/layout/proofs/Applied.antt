@@ -10,16 +10,30 @@ use lib.Dec.{leb}
 use borrow.Author.Tests.{le-leb, not-true}
 use Rattle.number.proofs.Bytes.{both-true, and-true}
 use Rattle.layout.specs.Recording.{Tag, mostTags, every, same, among, distinct, legalTagName, legalTagValue, legalTag, tagNames, legalTable}
-use Rattle.layout.specs.Saving.{Entry, absent, holds, nobodyLooked, Change, changeNames, lookUp, newEntry, tagWith, keptTags, newTags, applied}
+use Rattle.layout.specs.Saving.{Entry, absent, holds, Change, changeNames, lookUp, sameEntry, newEntry, tagWith, keptTags, newTags, applied}
 use Rattle.layout.proofs.Lists.{or-false, or-right, cond-true, cond-false, same-refl, same-true}
 
 abbrev pub noChange : Change
-noChange = record { name = []; seen = nobodyLooked; new = absent }
+noChange = record { name = []; seen = absent; new = absent }
 
 -- the tags of a table that a sheet does not name, in their order
 unfoldable pub unnamed : List Change → List Tag → List Tag
 unnamed cs [] = []
 unnamed cs (t ∷ ts) = cond (among (t .name) (changeNames cs)) (unnamed cs ts) (t ∷ unnamed cs ts)
+
+-- ── Entries ──
+
+pub entry-same : (e : Entry) → sameEntry e e ≡ true
+unfolding sameEntry
+entry-same absent = refl
+entry-same (holds v) = same-refl v
+
+pub same-entry : (e d : Entry) → sameEntry e d ≡ true → e ≡ d
+unfolding sameEntry
+same-entry absent absent h = refl
+same-entry absent (holds w) h = let z : _≡_ {A = ℕ} 0 1 = cc in absurd (omega arith)
+same-entry (holds v) absent h = let z : _≡_ {A = ℕ} 0 1 = cc in absurd (omega arith)
+same-entry (holds v) (holds w) h = ap holds (same-true v w h)
 
 -- ── Names ──
 
@@ -278,7 +292,7 @@ unfolding applied
 applied-names cs ts = names-kept cs ts (newTags ts cs) ∙ rw (names-new ts cs)
 
 -- A sheet of no changes leaves the table as it is.
-pub applied-none : (ts : List Tag) → applied [] ts ≡ ts
+pub applied-none : (ts : List Tag) → applied {S = Entry} [] ts ≡ ts
 unfolding applied keptTags newTags newEntry tagWith
 applied-none [] = refl
 applied-none (t ∷ ts) = ap (λ (l : List Tag). t ∷ l) (applied-none ts)

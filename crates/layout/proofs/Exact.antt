@@ -3,7 +3,7 @@
 use Prim.Native.Nat.{ℕ, suc, _^_, _<_}
 use native.Mathlib.Omega.{arith}
 use mathlib.Core.Path.{_≡_, refl, ap, sym, _∙_}
-use mathlib.Core.Bool.{Bool, true, _&&_}
+use mathlib.Core.Bool.{Bool, true, false, _&&_}
 use mathlib.Core.Logic.{_↔_}
 use mathlib.Core.List.{List, [], _∷_, _++_, flatMap, append-assoc, append-nil}
 use lib.ListN.{length, drop, drop-of-length-le}
@@ -12,7 +12,7 @@ use lib.Pow.{areBytes}
 use borrow.Author.Tests.{ltb-true, lt-ltb, leb-true, le-leb, eqb-true, eq-eqb}
 use Rattle.number.specs.Number.{bytesOf}
 use Rattle.layout.specs.Recording.{Section, Tag, Frame, shortString, tagBytes, tableBytes, sizedBytes, frameHeadBytes, frameBytes, frameMark, longestSection, mostSections, mostTags, within, every, distinct, legalSectionName, legalTagName, legalTagValue, isNameByte, isTagByte, tagNames, legalTag, legalTable, legalFrame}
-use Rattle.layout.specs.Reading.{good, Reader, times, exactly, number, string, stringFault, sectionName, tagName, tagValue, numberOfTags, tableFault, numberOfSections, Definition, definition, definedNames, definitions, tag, table, sized, frame}
+use Rattle.layout.specs.Reading.{Parsed, bad, good, isBad, valueOr, Reader, times, exactly, number, string, stringFault, sectionName, tagName, tagValue, numberOfTags, tableFault, numberOfSections, Definition, definition, definedNames, definitions, tag, table, sized, frame}
 use Rattle.layout.specs.Recorder.{configured, setUpSection, setUpList}
 use Rattle.number.proofs.Bytes.{both-true, and-true}
 use Rattle.layout.proofs.Readers.{Reads, reads-alike, give-reads, number-reads, block-reads, only-reads, placed-reads, then-reads, times-reads, exactly-good, exactly-is}
@@ -230,3 +230,19 @@ exactly-gives ok bytes p e s x n h q =
 
 pub exactly-takes : {A : Type 0} (ok : A → Bool) (bytes : A → List ℕ) (p : Reader A) → Exact ok bytes p → (x : A) → ok x ≡ true → exactly p (bytes x) ≡ good x (length (bytes x))
 exactly-takes ok bytes p e x h = exactly-is p (bytes x) x (rw append-nil at (e .takes x [] h))
+
+-- What is written of something legal is well formed, with nothing behind it, and is read back;
+pub whole-read : {A : Type 0} (ok : A → Bool) (bytes : A → List ℕ) (p : Reader A) → Exact ok bytes p → (else x : A) → ok x ≡ true
+    → (isBad (exactly p (bytes x)) ≡ false) × (valueOr else (exactly p (bytes x)) ≡ x)
+unfolding valueOr
+whole-read ok bytes p exact else x h = let e = exactly-takes ok bytes p exact x h in (rw e, rw e)
+
+-- and what is well formed, with nothing behind it, is what is written of something legal, which is read.
+pub whole-given : {A : Type 0} (ok : A → Bool) (bytes : A → List ℕ) (p : Reader A) → Exact ok bytes p → (else : A) (s : List ℕ) → areBytes s ≡ true
+    → isBad (exactly p s) ≡ false → (ok (valueOr else (exactly p s)) ≡ true) × (bytes (valueOr else (exactly p s)) ≡ s)
+unfolding valueOr
+whole-given {A} ok bytes p exact else s h k = go (exactly p s) refl k
+  where
+    go : (r : Parsed A) → exactly p s ≡ r → isBad r ≡ false → (ok (valueOr else r) ≡ true) × (bytes (valueOr else r) ≡ s)
+    go (bad m) e b = let z : _≡_ {A = ℕ} 0 1 = cc in absurd (omega arith)
+    go (good x n) e b = let g = exactly-gives ok bytes p exact s x n h e in (g .0, sym (g .1))

@@ -1,6 +1,7 @@
 pub mod Examples
 pub mod PositionExamples
 pub mod LookExamples
+pub mod ConvertExamples
 pub mod Limits
 pub mod Lists
 pub mod Outputs
@@ -16,7 +17,9 @@ pub mod Places
 pub mod Condition2
 pub mod Sheets
 pub mod SheetBytes
+pub mod OldSheetBytes
 pub mod Applied
+pub mod Filled
 pub mod Saved
 pub mod Repaired
 pub mod Stores
@@ -34,6 +37,7 @@ pub mod Moments
 pub mod Condition3
 pub mod Refusals
 pub mod Looked
+pub mod Converted
 pub mod Fresh
 pub mod Browsing
 pub mod Cursors

@@ -15,7 +15,8 @@ use Rattle.layout.specs.Reading.{Reader, good, isBad, onward, behind, gi
 use Rattle.layout.specs.Opening.{firstOf, field, headerCount, indexOffset, systemOffset, userOffset, readDefinitions, definedIn, readSystem, readUser, walkStart, walkOf, counted, notFstf, otherRevision, steps, offsetsLegal, lastOffset, badSections, badSystem, notClosed, badIndex, badUser, frontLines, openingLines, refusal, nextOffset, sectionsFrom, shown}
 use Rattle.layout.specs.Recorder.{Stage, fresh, running, closing, closed, State, Piece, isFresh, isRunning, takesClose, pieceNumber, tooLong, brokenState, answer, configured, setUpSection, setUpList, sectionsOf, badSetUp, firstPiece, beginLines, begun, begin, framePiece, badShape, badClock, addLines, firstAfter, added, noted, add, closingPieces, closingPiece, notesShort, stageAfter, closeLines, closedBy, close}
 use Rattle.layout.specs.Storage.{closes, freshState, pieceOf, passedOn, called, session}
-use Rattle.layout.specs.Saving.{malformed, entryOf, seenOf, kind, seenPart, newPart, numberOfChanges, sheetFault, change, changeNames, sheet}
+use Rattle.layout.specs.Saving.{entryOf, kind, entryPart, numberOfChanges, sheetFault, changeWith, changeNames, sheetWith, sheet}
+use Rattle.layout.specs.OldSheets.{oldSeenOf, oldSeenPart, oldSheet}
 use Rattle.layout.proofs.Exact.{sized-exact}
 use Rattle.layout.proofs.Examples.{theFile, Row, row, holdsAt}
 
@@ -174,8 +175,9 @@ limitRows =
     ∷ row (map (λ n. close (stateWith running 1 1 0 0 100) (replicate n 7) 20 .refused) (19 ∷ 20 ∷ [])) (9 ∷ 0 ∷ [])
     -- "number of changes, 0 to 64"
     ∷ row (map (λ k. reads sheet (sheetOfCount k)) (0 ∷ 1 ∷ 64 ∷ 65 ∷ [])) (1 ∷ 1 ∷ 1 ∷ 0 ∷ [])
-    -- "a seen kind (0 absent, 1 a value, which follows, 2 nobody looked); a new kind (0 absent, 1 a value, which follows)"
-    ∷ row (map (λ s. reads sheet (sheetAs s (0 ∷ []))) ((0 ∷ []) ∷ (1 ∷ 1 ∷ 66 ∷ []) ∷ (2 ∷ []) ∷ (3 ∷ []) ∷ [])) (1 ∷ 1 ∷ 1 ∷ 0 ∷ [])
+    -- "a seen kind (0 absent, 1 a value, which follows ..); a new kind (0 absent, 1 a value, which follows)"; and "2 nobody looked" in a sheet from before
+    ∷ row (map (λ s. reads sheet (sheetAs s (0 ∷ []))) ((0 ∷ []) ∷ (1 ∷ 1 ∷ 66 ∷ []) ∷ (2 ∷ []) ∷ (3 ∷ []) ∷ [])) (1 ∷ 1 ∷ 0 ∷ 0 ∷ [])
+    ∷ row (map (λ s. reads oldSheet (sheetAs s (0 ∷ []))) ((0 ∷ []) ∷ (1 ∷ 1 ∷ 66 ∷ []) ∷ (2 ∷ []) ∷ (3 ∷ []) ∷ [])) (1 ∷ 1 ∷ 1 ∷ 0 ∷ [])
     ∷ row (map (λ n. reads sheet (sheetAs (0 ∷ []) n)) ((0 ∷ []) ∷ (1 ∷ 1 ∷ 66 ∷ []) ∷ (2 ∷ []) ∷ [])) (1 ∷ 1 ∷ 0 ∷ [])
     -- Limits of lists that are too long to compute with, as equations on their constants: a last configuration of 65,535 bytes, 1,000 tags, a section of
     -- 16,777,216 bytes, 1,000,000 frames in a file, the largest table of 4 + 1,000 · 512 bytes, a user table at 2^40 − 512,004. What they do to recordings
@@ -186,7 +188,7 @@ limitRows =
 
 -- the numbers and classes of document 01 hold of the definitions
 pub limits : T (every holdsAt limitRows)
-unfolding bit reads counting definedAs setUpAs letters sectionsOfCount beginsBy taggedAs stateWith closesBy addsBy frameAt pieceBytes changesFrom sheetOfCount sheetAs limitRows theFile row holdsAt map bytesOf numberOf flatMap fileMark shortString headerBytes definitionListBytes definitionsEnd definitionsBytes configurationsBytes frontBytes tableBytes tagBytes sizedBytes frameHeadBytes frameBytes entryBytes entriesBytes firstTime indexBytes every same among distinct isNameByte isTagByte legalSectionName legalTagName legalTagValue tagNames sectionNames follows follow inOrder onward behind give _then_ only faultAt placed times exactly valueOr taken faultOf number block string outside stringFault sectionName tagName tagValue keeping rowsFault countedFault numberOfSections numberOfTags tableFault definition definedNames definitions tag table sized frame stopped longer walk firstOf field headerCount indexOffset systemOffset userOffset readDefinitions definedIn readSystem readUser walkStart walkOf counted notFstf otherRevision steps offsetsLegal lastOffset badSections badSystem notClosed badIndex badUser frontLines openingLines refusal nextOffset sectionsFrom shown isFresh isRunning takesClose pieceNumber tooLong brokenState answer configured setUpSection setUpList sectionsOf badSetUp firstPiece beginLines begun begin framePiece badShape badClock addLines firstAfter added noted add closingPieces closingPiece notesShort stageAfter closeLines closedBy close pieceOf passedOn called session malformed entryOf seenOf kind seenPart newPart numberOfChanges sheetFault change changeNames sheet
+unfolding bit reads counting definedAs setUpAs letters sectionsOfCount beginsBy taggedAs stateWith closesBy addsBy frameAt pieceBytes changesFrom sheetOfCount sheetAs limitRows theFile row holdsAt map bytesOf numberOf flatMap fileMark shortString headerBytes definitionListBytes definitionsEnd definitionsBytes configurationsBytes frontBytes tableBytes tagBytes sizedBytes frameHeadBytes frameBytes entryBytes entriesBytes firstTime indexBytes every same among distinct isNameByte isTagByte legalSectionName legalTagName legalTagValue tagNames sectionNames follows follow inOrder onward behind give _then_ only faultAt placed times exactly valueOr taken faultOf number block string outside stringFault sectionName tagName tagValue keeping rowsFault countedFault numberOfSections numberOfTags tableFault definition definedNames definitions tag table sized frame stopped longer walk firstOf field headerCount indexOffset systemOffset userOffset readDefinitions definedIn readSystem readUser walkStart walkOf counted notFstf otherRevision steps offsetsLegal lastOffset badSections badSystem notClosed badIndex badUser frontLines openingLines refusal nextOffset sectionsFrom shown isFresh isRunning takesClose pieceNumber tooLong brokenState answer configured setUpSection setUpList sectionsOf badSetUp firstPiece beginLines begun begin framePiece badShape badClock addLines firstAfter added noted add closingPieces closingPiece notesShort stageAfter closeLines closedBy close pieceOf passedOn called session entryOf kind entryPart numberOfChanges sheetFault changeWith changeNames sheetWith sheet oldSeenOf oldSeenPart oldSheet
 limits = tt
 
 -- ── The same of long lists ──

@@ -4,7 +4,7 @@ use Prim.Native.Nat.{ℕ, zero, suc, _+_, _*_, _/_, _%_, _^_, _<_}
 use native.Mathlib.Nat.{pow-suc}
 use native.Mathlib.Omega.{arith}
 use mathlib.Core.Path.{_≡_, refl, sym, _∙_}
-use mathlib.Core.Bool.{Bool, true, false, cond, _||_}
+use mathlib.Core.Bool.{Bool, true, false, not, cond, _||_}
 use mathlib.Core.Logic.{_↔_}
 use mathlib.Core.List.{List, [], _∷_, _++_, map}
 use lib.ListN.{length, getD, length-map}
@@ -13,11 +13,11 @@ use borrow.Author.Tests.{lt-ltb, ltb-true, ltb-false, ne-eqb}
 use Rattle.layout.specs.Recording.{Tag, tableBytes}
 use Rattle.layout.specs.Opening.{line, firstOf, frontLines, openingLines, refusal}
 use Rattle.layout.specs.Recorder.{noRoom}
-use Rattle.layout.specs.Saving.{Change, changesOf, conflicts, someConflict, tableLines, userTags, badSheet, lookLines, lookRefusal, lookAnswer, look, bits, newTable, commitLines, commitRefusal, commitPlace, commit}
+use Rattle.layout.specs.Saving.{Change, changesOf, lookUp, sameEntry, conflicts, some, someConflict, tableLines, userTags, badSheet, lookLines, lookRefusal, lookAnswer, look, bits, newTable, commitLines, commitRefusal, commitPlace, commit}
 use Rattle.layout.proofs.Lists.{or-false, cond-false}
 use Rattle.layout.proofs.Lines.{line-pass, line-holds, lines-first, opening-pass, opens-passes}
 use Rattle.layout.proofs.Orders.{without, no-lines, line-other, line-own, lines-other, lines-not}
-use Rattle.layout.proofs.Applied.{noChange}
+use Rattle.layout.proofs.Applied.{noChange, entry-same, same-entry}
 use Rattle.layout.proofs.Refusals.{look-number, look-refused, commit-number, commit-place}
 use Rattle.layout.proofs.Saved.{sheetLines, commit-opened, commit-lines, commit-conflict}
 
@@ -57,7 +57,7 @@ bits-few (false ∷ bs) = rw pow-suc (omega (arith, bits-few bs))
 
 -- The set is not empty exactly when some change conflicts.
 pub bits-some : (ts : List Tag) (cs : List Change) → ltb 0 (bits (map (conflicts ts) cs)) ≡ someConflict ts cs
-unfolding bits someConflict
+unfolding bits some
 bits-some ts [] = refl
 bits-some ts (c ∷ cs) = go (conflicts ts c) (bits (map (conflicts ts) cs)) (bits-some ts cs)
   where
@@ -74,12 +74,21 @@ shown-at ts (c ∷ cs) (suc i) h = shown-at ts cs i (omega arith)
 
 -- no conflict is shown
 none-shown : (ts : List Tag) (cs : List Change) → someConflict ts cs ≡ false → (i : ℕ) → getD (map (conflicts ts) cs) i false ≡ false
-unfolding someConflict
+unfolding some
 none-shown ts [] e i = refl
 none-shown ts (c ∷ cs) e zero = or-false (conflicts ts c) (someConflict ts cs) e .0
 none-shown ts (c ∷ cs) e (suc i) = none-shown ts cs (or-false (conflicts ts c) (someConflict ts cs) e .1) i
 
 -- ── To look ──
+
+-- A change agrees exactly where its member saw what the table has.
+pub agrees-saw : (ts : List Tag) (c : Change) → (conflicts ts c ≡ false) ↔ (c .seen ≡ lookUp (c .name) ts)
+unfolding conflicts
+agrees-saw ts c = (λ h. same-entry (c .seen) (lookUp (c .name) ts) (not-false (sameEntry (c .seen) (lookUp (c .name) ts)) h), λ e. rw (e, entry-same (lookUp (c .name) ts)))
+  where
+    not-false : (b : Bool) → not b ≡ false → b ≡ true
+    not-false true h = refl
+    not-false false h = let z : _≡_ {A = ℕ} 0 1 = cc in absurd (omega arith)
 
 -- Look is accepted exactly when the file opens and the sheet is well formed,
 pub look-accepted : (f bytes : List ℕ) → (look f bytes .refused ≡ 0) ↔ ((refusal f ≡ 0) × (badSheet bytes ≡ false))

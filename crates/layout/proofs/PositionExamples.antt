@@ -12,7 +12,7 @@ use Rattle.layout.specs.Opening.{firstOf, field, headerCount, indexOffse
 use Rattle.layout.specs.Recorder.{tooLong, isFresh, configured, setUpSection, setUpList, sectionsOf, badSetUp, firstPiece, beginLines, beginPlace}
 use Rattle.layout.specs.Storage.{freshState}
 use Rattle.layout.specs.Repair.{walked, keptLength, keptCount, tail, repairLines, repairRefusal}
-use Rattle.layout.specs.Saving.{malformed, entryOf, seenOf, kind, seenPart, newPart, numberOfChanges, sheetFault, change, changeNames, sheet, lookLines, lookRefusal, lookPlace}
+use Rattle.layout.specs.Saving.{entryOf, kind, entryPart, numberOfChanges, sheetFault, changeWith, changeNames, sheetWith, sheet, lookLines, lookRefusal, lookPlace}
 use Rattle.layout.proofs.Examples.{Row, row, holdsAt, theFile}
 
 -- ── What each call answers: its number, and the place that goes with it ──
@@ -93,12 +93,13 @@ rows =
     ∷ row (looks (0x01 ∷ 0x05 ∷ 0x41 ∷ 0x07 ∷ [])) (10 ∷ 3 ∷ [])
     ∷ row (looks (0x01 ∷ 0x00 ∷ 0x00 ∷ 0x00 ∷ [])) (10 ∷ 1 ∷ [])
     ∷ row (looks (0x01 ∷ 0x01 ∷ 0x41 ∷ 0x01 ∷ 0x01 ∷ 0x07 ∷ 0x00 ∷ [])) (10 ∷ 5 ∷ [])
-    ∷ row (looks (0x01 ∷ 0x01 ∷ 0x41 ∷ 0x02 ∷ 0x01 ∷ 0x02 ∷ 0x41 ∷ [])) (10 ∷ 7 ∷ [])
+    ∷ row (looks (0x01 ∷ 0x01 ∷ 0x41 ∷ 0x00 ∷ 0x01 ∷ 0x02 ∷ 0x41 ∷ [])) (10 ∷ 7 ∷ [])
     ∷ row (looks (0x01 ∷ 0x01 ∷ 0x41 ∷ 0x03 ∷ 0x00 ∷ [])) (10 ∷ 3 ∷ [])
-    ∷ row (looks (0x01 ∷ 0x01 ∷ 0x41 ∷ 0x02 ∷ 0x02 ∷ [])) (10 ∷ 4 ∷ [])
+    ∷ row (looks (0x01 ∷ 0x01 ∷ 0x41 ∷ 0x02 ∷ 0x00 ∷ [])) (10 ∷ 3 ∷ [])
+    ∷ row (looks (0x01 ∷ 0x01 ∷ 0x41 ∷ 0x00 ∷ 0x02 ∷ [])) (10 ∷ 4 ∷ [])
     ∷ row (looks (0x01 ∷ 0x01 ∷ 0x41 ∷ [])) (10 ∷ 3 ∷ [])
-    ∷ row (looks (0x02 ∷ 0x01 ∷ 0x41 ∷ 0x02 ∷ 0x00 ∷ 0x01 ∷ 0x41 ∷ 0x02 ∷ 0x00 ∷ [])) (10 ∷ 5 ∷ [])
-    ∷ row (looks (0x01 ∷ 0x01 ∷ 0x41 ∷ 0x02 ∷ 0x00 ∷ 0xFF ∷ [])) (10 ∷ 5 ∷ [])
+    ∷ row (looks (0x02 ∷ 0x01 ∷ 0x41 ∷ 0x00 ∷ 0x00 ∷ 0x01 ∷ 0x41 ∷ 0x00 ∷ 0x00 ∷ [])) (10 ∷ 5 ∷ [])
+    ∷ row (looks (0x01 ∷ 0x01 ∷ 0x41 ∷ 0x00 ∷ 0x00 ∷ 0xFF ∷ [])) (10 ∷ 5 ∷ [])
     ∷ row (looks (0x41 ∷ [])) (10 ∷ 0 ∷ [])
     ∷ row (looks []) (10 ∷ 0 ∷ [])
     -- set-up lists: a configuration, a length and a name cut short, whatever the name; bytes left over; none
@@ -116,5 +117,5 @@ rows =
     ∷ []
 
 pub positions : T (every holdsAt rows)
-unfolding theFile row holdsAt opens repairs looks begins twoSections sameSections badBehindTwice twoTwice rows bytesOf numberOf flatMap fileMark shortString tableBytes tagBytes sizedBytes frameHeadBytes frameBytes entryBytes entriesBytes firstTime indexBytes every same among distinct isNameByte isTagByte legalSectionName legalTagName legalTagValue tagNames follows follow inOrder onward behind give _then_ only faultAt placed times exactly valueOr taken faultOf number block string outside stringFault sectionName tagName tagValue rowsFault countedFault numberOfSections numberOfTags tableFault definition definedNames definitions tag table sized frame stopped longer walk firstOf field headerCount indexOffset systemOffset userOffset readDefinitions definedIn readSystem readUser walkStart walkOf counted notFstf otherRevision steps offsetsLegal lastOffset badSections badSystem openingPlace notClosed badIndex badUser frontLines openingLines refusal nextOffset sectionsFrom shown tooLong walked keptLength keptCount tail repairLines repairRefusal malformed entryOf seenOf kind seenPart newPart numberOfChanges sheetFault change changeNames sheet lookLines lookRefusal lookPlace headerBytes definitionListBytes definitionsEnd definitionsBytes configurationsBytes frontBytes sectionNames isFresh configured setUpSection setUpList sectionsOf badSetUp firstPiece beginLines keeping firstOffsetPlace firstOffset firstOffsetWrong offsetBehind sectionsFault systemFault userFault beginPlace
+unfolding theFile row holdsAt opens repairs looks begins twoSections sameSections badBehindTwice twoTwice rows bytesOf numberOf flatMap fileMark shortString tableBytes tagBytes sizedBytes frameHeadBytes frameBytes entryBytes entriesBytes firstTime indexBytes every same among distinct isNameByte isTagByte legalSectionName legalTagName legalTagValue tagNames follows follow inOrder onward behind give _then_ only faultAt placed times exactly valueOr taken faultOf number block string outside stringFault sectionName tagName tagValue rowsFault countedFault numberOfSections numberOfTags tableFault definition definedNames definitions tag table sized frame stopped longer walk firstOf field headerCount indexOffset systemOffset userOffset readDefinitions definedIn readSystem readUser walkStart walkOf counted notFstf otherRevision steps offsetsLegal lastOffset badSections badSystem openingPlace notClosed badIndex badUser frontLines openingLines refusal nextOffset sectionsFrom shown tooLong walked keptLength keptCount tail repairLines repairRefusal entryOf kind entryPart numberOfChanges sheetFault changeWith changeNames sheetWith sheet lookLines lookRefusal lookPlace headerBytes definitionListBytes definitionsEnd definitionsBytes configurationsBytes frontBytes sectionNames isFresh configured setUpSection setUpList sectionsOf badSetUp firstPiece beginLines keeping firstOffsetPlace firstOffset firstOffsetWrong offsetBehind sectionsFault systemFault userFault beginPlace
 positions = tt

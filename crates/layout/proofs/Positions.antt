@@ -17,7 +17,8 @@ use Rattle.layout.specs.Reading.{Parsed, bad, good, Reader, onward, behi
 use Rattle.layout.specs.Opening.{Line, firstOf, indexOffset, systemOffset, userOffset, readSystem, readUser, notFstf, notClosed, frontLines, openingLines, refusal, firstOffset, firstOffsetPlace, firstOffsetWrong, step, offsetBehind, farSystem, sectionsFault, systemFault, userFault, openingPlace}
 use Rattle.layout.specs.Recorder.{configured, setUpSection, setUpList, beginPlace}
 use Rattle.layout.specs.Repair.{repairLines, repairRefusal}
-use Rattle.layout.specs.Saving.{Entry, absent, holds, saw, nobodyLooked, mostChanges, malformed, entryOf, seenOf, kind, seenPart, newPart, change, changeNames, numberOfChanges, sheetFault, sheet, lookLines, lookRefusal, lookPlace, commitRefusal, commitPlace}
+use Rattle.layout.specs.Saving.{absent, holds, mostChanges, entryOf, kind, entryPart, changeWith, changeNames, numberOfChanges, sheetFault, sheetWith, sheet, lookLines, lookRefusal, lookPlace, commitRefusal, commitPlace}
+use Rattle.layout.specs.OldSheets.{saw, nobodyLooked, oldSeenOf, oldSeenPart, oldSheet, oldSheetPlace, convertLines, convertRefusal}
 use Rattle.layout.proofs.Lists.{or-false}
 use Rattle.layout.proofs.Readers.{onward-good, cond-good, then-good, then-takes, number-is, number-good, block-is, block-good, placed-good, placed-takes}
 use Rattle.layout.proofs.Orders.{without, line-other, lines-not}
@@ -243,55 +244,53 @@ kind-within : (most : ℕ) → Within (kind most)
 unfolding kind
 kind-within most = only-within (within 0 most) (number 1) (number-within 1)
 
-malformed-within : Within (malformed {A = Entry})
-unfolding malformed stop
-malformed-within s = omega arith
-
 entry-within : (k : ℕ) → Within (entryOf k)
 unfolding entryOf
 entry-within k =
-    cond-within (eqb k 0) (give absent) (cond (eqb k 1) (tagValue then λ v. give (holds v)) malformed) (give-within absent)
-    (cond-within (eqb k 1) (tagValue then λ v. give (holds v)) malformed
-    (then-within tagValue (λ v. give (holds v)) tag-value-within (λ v. give-within (holds v))) malformed-within)
+    cond-within (eqb k 1) (tagValue then λ v. give (holds v)) (give absent)
+    (then-within tagValue (λ v. give (holds v)) tag-value-within (λ v. give-within (holds v))) (give-within absent)
 
-seen-within : (k : ℕ) → Within (seenOf k)
-unfolding seenOf
-seen-within k =
-    cond-within (eqb k 2) (give nobodyLooked) (entryOf k then λ e. give (saw e)) (give-within nobodyLooked)
-    (then-within (entryOf k) (λ e. give (saw e)) (entry-within k) (λ e. give-within (saw e)))
+entry-part-within : Within entryPart
+unfolding entryPart
+entry-part-within = then-within (kind 1) entryOf (kind-within 1) entry-within
 
-seen-part-within : Within seenPart
-unfolding seenPart
-seen-part-within = then-within (kind 2) seenOf (kind-within 2) seen-within
-
-new-part-within : Within newPart
-unfolding newPart
-new-part-within = then-within (kind 1) entryOf (kind-within 1) entry-within
-
-change-within : Within change
-unfolding change
-change-within =
-    then-within tagName (λ n. seenPart then λ s. newPart then λ e. give (record { name = n; seen = s; new = e })) tag-name-within
-    (λ n. then-within seenPart (λ s. newPart then λ e. give (record { name = n; seen = s; new = e })) seen-part-within
-    (λ s. then-within newPart (λ e. give (record { name = n; seen = s; new = e })) new-part-within
+change-within : {S : Type 0} (seen : Reader S) → Within seen → Within (changeWith seen)
+unfolding changeWith
+change-within seen w =
+    then-within tagName (λ n. seen then λ s. entryPart then λ e. give (record { name = n; seen = s; new = e })) tag-name-within
+    (λ n. then-within seen (λ s. entryPart then λ e. give (record { name = n; seen = s; new = e })) w
+    (λ s. then-within entryPart (λ e. give (record { name = n; seen = s; new = e })) entry-part-within
     (λ e. give-within (record { name = n; seen = s; new = e }))))
 
 changes-number-within : Within numberOfChanges
 unfolding numberOfChanges
 changes-number-within = only-within (within 0 mostChanges) (number 1) (number-within 1)
 
-pub sheet-within : Within sheet
-unfolding sheet sheetFault
-sheet-within =
-    placed-within sheetFault (only (λ cs. distinct (changeNames cs)) (numberOfChanges then λ n. times n change))
-    (counted-within tagName (keeping (seenPart then λ s. newPart)) tag-name-within
-    (λ b. keeping-within (seenPart then λ s. newPart) b (then-within seenPart (λ s. newPart) seen-part-within (λ s. new-part-within)))
+sheet-with-within : {S : Type 0} (seen : Reader S) → Within seen → Within (sheetWith seen)
+unfolding sheetWith sheetFault
+sheet-with-within seen w =
+    placed-within (sheetFault seen) (only (λ cs. distinct (changeNames cs)) (numberOfChanges then λ n. times n (changeWith seen)))
+    (counted-within tagName (keeping (seen then λ s. entryPart)) tag-name-within
+    (λ b. keeping-within (seen then λ s. entryPart) b (then-within seen (λ s. entryPart) w (λ s. entry-part-within)))
     numberOfChanges 0 changes-number-within)
-    (only-within (λ cs. distinct (changeNames cs)) (numberOfChanges then λ n. times n change)
-    (then-within numberOfChanges (λ n. times n change) changes-number-within (λ n. times-within n change change-within)))
+    (only-within (λ cs. distinct (changeNames cs)) (numberOfChanges then λ n. times n (changeWith seen))
+    (then-within numberOfChanges (λ n. times n (changeWith seen)) changes-number-within (λ n. times-within n (changeWith seen) (change-within seen w))))
 
 pub whole-sheet-within : Within (exactly sheet)
-whole-sheet-within = exactly-within sheet sheet-within
+unfolding sheet
+whole-sheet-within = exactly-within sheet (sheet-with-within entryPart entry-part-within)
+
+-- a sheet from before, likewise: the converter's 10
+old-seen-within : (k : ℕ) → Within (oldSeenOf k)
+unfolding oldSeenOf
+old-seen-within k =
+    cond-within (eqb k 2) (give nobodyLooked) (entryOf k then λ e. give (saw e)) (give-within nobodyLooked)
+    (then-within (entryOf k) (λ e. give (saw e)) (entry-within k) (λ e. give-within (saw e)))
+
+pub whole-old-sheet-within : Within (exactly oldSheet)
+unfolding oldSheet oldSeenPart
+whole-old-sheet-within =
+    exactly-within oldSheet (sheet-with-within oldSeenPart (then-within (kind 2) oldSeenOf (kind-within 2) old-seen-within))
 
 configured-within : Within configured
 unfolding configured
@@ -334,6 +333,10 @@ look-sheet-within f bytes = fault-within (exactly sheet) whole-sheet-within byte
 pub commit-sheet-within : (f bytes : List ℕ) → commitPlace 10 f bytes ≤ length bytes
 unfolding commitPlace
 commit-sheet-within f bytes = look-sheet-within f bytes
+
+pub convert-sheet-within : (f bytes : List ℕ) → oldSheetPlace 10 f bytes ≤ length bytes
+unfolding oldSheetPlace
+convert-sheet-within f bytes = fault-within (exactly oldSheet) whole-old-sheet-within bytes
 
 -- ── In a file ──
 
@@ -444,11 +447,16 @@ pub look-within : (f bytes : List ℕ) (n : ℕ) → lookRefusal f bytes ≡ n �
 unfolding lookRefusal lookLines lookPlace
 look-within f bytes n e h = (rw (ne-eqb n 10 h), opened-within f _ n e)
 
--- and in a commit, where it is neither the sheet nor a conflict.
+-- and in a commit, where it is neither the sheet nor a conflict,
 pub commit-within : (f bytes : List ℕ) (room n : ℕ) → commitRefusal f bytes room ≡ n → (n ≡ 10 → ⊥) → (n ≡ 11 → ⊥)
     → (commitPlace n f bytes ≡ openingPlace n f) × InFile n f
 unfolding commitPlace lookPlace
 commit-within f bytes room n e h k = (rw (ne-eqb n 11 k, ne-eqb n 10 h), opened-within f _ n (sym (commit-is f bytes room) ∙ e))
+
+-- and in the converter, where it is not the sheet.
+pub convert-within : (f bytes : List ℕ) (room n : ℕ) → convertRefusal f bytes room ≡ n → (n ≡ 10 → ⊥) → (oldSheetPlace n f bytes ≡ openingPlace n f) × InFile n f
+unfolding oldSheetPlace convertRefusal convertLines
+convert-within f bytes room n e h = (rw (ne-eqb n 10 h), opened-within f _ n e)
 
 -- ── A string that is refused at a byte is so whatever follows that byte ──
 

@@ -11,6 +11,7 @@ use Rattle.layout.specs.Opening.{firstOf}
 use Rattle.layout.specs.Recorder.{State, piece, Step, filled, answer, beginLines, begin, addLines, add, closeLines, close}
 use Rattle.layout.specs.Repair.{Repair, repairRefusal, repairAnswer, repair}
 use Rattle.layout.specs.Saving.{lookRefusal, lookPlace, lookAnswer, look, commitRefusal, commitPlace, commitAnswer, commit}
+use Rattle.layout.specs.OldSheets.{oldSheetPlace, convertRefusal, convertAnswer, convert}
 
 -- an output into which nothing is filled
 pub filled-none : (out : List ℕ) → filled out [] ≡ out
@@ -146,3 +147,40 @@ commit-refused f sheet out n h = go (commitRefusal f sheet (length out)) _ _ h
     go : (m place : ℕ) (ts : List Tag) → commitAnswer m place ts .refused ≡ suc n → (commitAnswer m place ts .table ≡ []) × (filled out (commitAnswer m place ts .table) ≡ out)
     go zero place ts k = absurd (omega (arith, k))
     go (suc m) place ts k = (refl, filled-none out)
+
+-- ── The converter ──
+
+-- The converter answers the number of its order;
+pub convert-number : (f sheet : List ℕ) (room : ℕ) → convert f sheet room .refused ≡ convertRefusal f sheet room
+unfolding convert convertAnswer
+convert-number f sheet room = go (convertRefusal f sheet room) _ _
+  where
+    go : (m place : ℕ) (bytes : List ℕ) → convertAnswer m place bytes .refused ≡ m
+    go zero place bytes = refl
+    go (suc m) place bytes = refl
+
+-- refused, it carries the place that goes with its number,
+pub convert-place : (f sheet : List ℕ) (room n : ℕ) → convert f sheet room .refused ≡ suc n → convert f sheet room .place ≡ oldSheetPlace (suc n) f sheet
+unfolding convert convertAnswer
+convert-place f sheet room n h = go (convertRefusal f sheet room) _ h
+  where
+    go : (m : ℕ) (bytes : List ℕ)
+        → convertAnswer m (oldSheetPlace m f sheet) bytes .refused ≡ suc n
+        → convertAnswer m (oldSheetPlace m f sheet) bytes .place ≡ oldSheetPlace (suc n) f sheet
+    go zero bytes k = absurd (omega (arith, k))
+    go (suc m) bytes k = ap (λ (i : ℕ). oldSheetPlace i f sheet) k
+
+-- has no sheet, and leaves the output as it was.
+pub convert-refused : (f sheet out : List ℕ) (n : ℕ)
+    → convert f sheet (length out) .refused ≡ suc n
+    → (convert f sheet (length out) .sheet ≡ [])
+    × (filled out (convert f sheet (length out) .sheet) ≡ out)
+unfolding convert convertAnswer
+convert-refused f sheet out n h = go (convertRefusal f sheet (length out)) _ _ h
+  where
+    go : (m place : ℕ) (bytes : List ℕ)
+        → convertAnswer m place bytes .refused ≡ suc n
+        → (convertAnswer m place bytes .sheet ≡ [])
+        × (filled out (convertAnswer m place bytes .sheet) ≡ out)
+    go zero place bytes k = absurd (omega (arith, k))
+    go (suc m) place bytes k = (refl, filled-none out)

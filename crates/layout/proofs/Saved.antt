@@ -16,7 +16,7 @@ use Rattle.layout.specs.Recording.{Tag, Recording, Legal, mostTags, ever
 use Rattle.layout.specs.Reading.{Parsed, bad, good, onward, behind, _then_, only, faultAt, placed, times, number, exactly, table, isBad, valueOr}
 use Rattle.layout.specs.Opening.{Line, line, firstOf, frontLines, openingLines, refusal, shown, userOffset, readUser, badUser}
 use Rattle.layout.specs.Recorder.{noRoom}
-use Rattle.layout.specs.Saving.{nobodyLooked, Change, numberOfChanges, sheet, changeNames, changesOf, lookUp, agrees, conflicts, someConflict, conflictPlace, tableLines, userTags, badSheet, lookLines, newTable, commitLines, commitPlace, commitRefusal, commitAnswer, commit}
+use Rattle.layout.specs.Saving.{Change, numberOfChanges, sheetWith, sheet, changeNames, changesOf, lookUp, conflicts, some, lowest, someConflict, conflictPlace, tableLines, userTags, badSheet, lookLines, newTable, commitLines, commitPlace, commitRefusal, commitAnswer, commit}
 use Rattle.layout.proofs.Lists.{or-false, or-right, not-or, bytes-drop}
 use Rattle.layout.proofs.Exact.{table-exact, exactly-gives}
 use Rattle.layout.proofs.Lines.{line-pass, line-holds, opening-pass, opens-passes}
@@ -114,26 +114,26 @@ lines-commit f bytes room o p q r s =
 -- ── Conflicts ──
 
 no-conflict : (ts : List Tag) (cs : List Change) → someConflict ts cs ≡ false → (i : ℕ) → i < length cs → conflicts ts (getD cs i noChange) ≡ false
-unfolding someConflict
+unfolding some
 no-conflict ts [] e i h = absurd (omega arith)
 no-conflict ts (c ∷ cs) e zero h = or-false (conflicts ts c) (someConflict ts cs) e .0
 no-conflict ts (c ∷ cs) e (suc i) h = no-conflict ts cs (or-false (conflicts ts c) (someConflict ts cs) e .1) i (omega arith)
 
 none-conflicts : (ts : List Tag) (cs : List Change) → ((i : ℕ) → i < length cs → conflicts ts (getD cs i noChange) ≡ false) → someConflict ts cs ≡ false
-unfolding someConflict
+unfolding some
 none-conflicts ts [] p = refl
 none-conflicts ts (c ∷ cs) p = not-or (conflicts ts c) (someConflict ts cs) (p zero (omega arith)) (none-conflicts ts cs (λ i h. p (suc i) (omega arith)))
 
 -- one that conflicts is enough
 some-conflict : (ts : List Tag) (cs : List Change) (i : ℕ) → i < length cs → conflicts ts (getD cs i noChange) ≡ true → someConflict ts cs ≡ true
-unfolding someConflict
+unfolding some
 some-conflict ts [] i h e = absurd (omega arith)
 some-conflict ts (c ∷ cs) zero h e = ap (λ (b : Bool). b || someConflict ts cs) e
 some-conflict ts (c ∷ cs) (suc i) h e = or-right (conflicts ts c) (someConflict ts cs) (some-conflict ts cs i (omega arith) e)
 
 -- the lowest place that conflicts
 lowest-conflict : (ts : List Tag) (cs : List Change) → someConflict ts cs ≡ true → (conflictPlace ts cs < length cs) × (conflicts ts (getD cs (conflictPlace ts cs) noChange) ≡ true) × ((i : ℕ) → i < conflictPlace ts cs → conflicts ts (getD cs i noChange) ≡ false)
-unfolding someConflict conflictPlace
+unfolding some lowest
 lowest-conflict ts [] e = let z : _≡_ {A = ℕ} 0 1 = cc in absurd (omega arith)
 lowest-conflict ts (c ∷ cs) e = go (conflicts ts c) refl e (lowest-conflict ts cs)
   where
@@ -214,7 +214,7 @@ commit-conflict f bytes room r =
 -- ── The file of a commit ──
 
 -- the user table of a file that opens is legal, and the file ends with it
-user-stands : (f : List ℕ) → areBytes f ≡ true → refusal f ≡ 0 → (legalTable (userTags f) ≡ true) × (drop (userOffset f) f ≡ tableBytes (userTags f))
+pub user-stands : (f : List ℕ) → areBytes f ≡ true → refusal f ≡ 0 → (legalTable (userTags f) ≡ true) × (drop (userOffset f) f ≡ tableBytes (userTags f))
 unfolding userTags shown badUser readUser valueOr
 user-stands f h o = go (exactly table (drop (userOffset f) f)) refl (opens-passes f o .user)
   where
@@ -275,7 +275,7 @@ saved-opens f bytes room h a = rw (table-is _ _ _ a, ← e) (legal-opens (withUs
 
 -- a sheet of no changes is well formed
 sheet-none : exactly sheet (0 ∷ []) ≡ good [] 1
-unfolding exactly sheet placed faultAt numberOfChanges only _then_ onward behind times number numberOf distinct changeNames
+unfolding exactly sheet sheetWith placed faultAt numberOfChanges only _then_ onward behind times number numberOf distinct changeNames
 sheet-none = refl
 
 table-few : (ts : List Tag) → legalTable ts ≡ true → length ts ≤ mostTags
@@ -303,8 +303,3 @@ commit-nothing f room h o r = (a, table-is _ _ _ a ∙ ap tableBytes t ∙ sym (
 
     a : commit f (0 ∷ []) room .refused ≡ 0
     a = commit-accepted f (0 ∷ []) room .1 (o, rw sheet-none, rw c (λ i q. absurd (omega arith)), rw t (table-few (userTags f) (u .0)), rw (t, ← u .1) r)
-
--- "Nobody looked" never conflicts.
-pub nobody-looked : (ts : List Tag) (c : Change) → c .seen ≡ nobodyLooked → conflicts ts c ≡ false
-unfolding conflicts agrees
-nobody-looked ts c e = rw e

@@ -10,7 +10,7 @@ use lib.Dec.{eqb}
 use Rattle.number.proofs.Bytes.{and-true}
 use Rattle.layout.specs.Recording.{every, distinct, legalTagName, legalTagValue}
 use Rattle.layout.specs.Reading.{Parsed, bad, good, Reader, _then_, only, placed, give, exactly, times, tagName, tagValue, isBad, valueOr}
-use Rattle.layout.specs.Saving.{absent, holds, Change, malformed, entryOf, seenPart, newPart, change, changeNames, sheetFault, sheet, changesOf}
+use Rattle.layout.specs.Saving.{absent, holds, Change, entryOf, entryPart, changeWith, changeNames, sheetFault, sheetWith, sheet, changesOf}
 use Rattle.layout.proofs.Readers.{onward-good, cond-good, then-good, times-suc-good, exactly-good, placed-good}
 use Rattle.layout.proofs.Applied.{legalEntry, legalChange}
 
@@ -59,16 +59,15 @@ times-gives {A} ok p g (suc k) s ys n e = go (times-suc-good p k s ys n e) (time
 -- ── A sheet ──
 
 entry-gives : (kind : ℕ) → Gives legalEntry (entryOf kind)
-unfolding entryOf tagValue malformed legalEntry
-entry-gives kind = go (eqb kind 0) (eqb kind 1)
+unfolding entryOf tagValue legalEntry
+entry-gives kind = go (eqb kind 1)
   where
-    go : (a b : Bool) → Gives legalEntry (cond a (give absent) (cond b (tagValue then λ v. give (holds v)) malformed))
-    go true b = give-gives legalEntry absent refl
-    go false true = then-gives legalTagValue legalEntry _ _ (placed-gives legalTagValue _ _ (only-gives legalTagValue _)) (λ v h. give-gives legalEntry (holds v) h)
-    go false false = λ s x n e. let z : _≡_ {A = ℕ} 0 1 = cc in absurd (omega arith)
+    go : (b : Bool) → Gives legalEntry (cond b (tagValue then λ v. give (holds v)) (give absent))
+    go false = give-gives legalEntry absent refl
+    go true = then-gives legalTagValue legalEntry _ _ (placed-gives legalTagValue _ _ (only-gives legalTagValue _)) (λ v h. give-gives legalEntry (holds v) h)
 
-change-gives : Gives legalChange change
-unfolding change legalChange tagName newPart
+change-gives : Gives legalChange (changeWith entryPart)
+unfolding changeWith legalChange tagName entryPart
 change-gives =
     then-gives legalTagName legalChange _ _ (placed-gives legalTagName _ _ (only-gives legalTagName _)) (λ m h.
     then-gives (λ x. true) legalChange _ _ (any-gives _) (λ s t.
@@ -77,11 +76,11 @@ change-gives =
 
 -- the changes of a well-formed sheet are legal and of distinct names
 pub sheet-legal : (bytes : List ℕ) → isBad (exactly sheet bytes) ≡ false → (every legalChange (changesOf bytes) ≡ true) × (distinct (changeNames (changesOf bytes)) ≡ true)
-unfolding changesOf sheet valueOr
+unfolding changesOf sheet sheetWith valueOr
 sheet-legal bytes h = go (exactly sheet bytes) refl h
   where
     go : (p : Parsed (List Change)) → exactly sheet bytes ≡ p → isBad p ≡ false → (every legalChange (valueOr [] p) ≡ true) × (distinct (changeNames (valueOr [] p)) ≡ true)
     go (bad m) e b = let z : _≡_ {A = ℕ} 0 1 = cc in absurd (omega arith)
     go (good cs n) e b =
-        let o = only-good (λ ds. distinct (changeNames ds)) _ bytes cs n (placed-good sheetFault _ bytes cs n (exactly-good sheet bytes cs n e .0)) in
-        (then-gives (λ x. true) (every legalChange) _ _ (any-gives _) (λ k t. times-gives legalChange change change-gives k) bytes cs n (o .1), o .0)
+        let o = only-good (λ ds. distinct (changeNames ds)) _ bytes cs n (placed-good (sheetFault entryPart) _ bytes cs n (exactly-good sheet bytes cs n e .0)) in
+        (then-gives (λ x. true) (every legalChange) _ _ (any-gives _) (λ k t. times-gives legalChange (changeWith entryPart) change-gives k) bytes cs n (o .1), o .0)

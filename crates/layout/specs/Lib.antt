@@ -8,4 +8,5 @@ pub mod Cursor
 pub mod Recorder
 pub mod Repair
 pub mod Saving
+pub mod OldSheets
 pub mod Storage

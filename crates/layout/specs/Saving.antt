@@ -5,7 +5,7 @@ use mathlib.Core.List.{List, [], _∷_, _++_, map, flatMap}
 use lib.ListN.{length}
 use lib.Dec.{ltb, eqb}
 use Rattle.layout.specs.Recording.{Tag, mostTags, shortString, within, same, among, distinct, tagNames, tableBytes}
-use Rattle.layout.specs.Reading.{Reader, bad, _then_, only, placed, give, exactly, times, number, tagName, tagValue, keeping, countedFault, isBad, valueOr, faultOf}
+use Rattle.layout.specs.Reading.{Reader, _then_, only, placed, give, exactly, times, number, tagName, tagValue, keeping, countedFault, isBad, valueOr, faultOf}
 use Rattle.layout.specs.Opening.{Line, line, firstOf, openingLines, openingPlace, shown}
 use Rattle.layout.specs.Recorder.{noRoom}
 
@@ -16,71 +16,65 @@ pub data Entry : Type 0 where
   absent : Entry
   holds : List ℕ → Entry
 
--- "0 absent, 1 a value, which follows, 2 nobody looked"
-pub data Seen : Type 0 where
-  saw : Entry → Seen
-  nobodyLooked : Seen
-
-pub record Change : Type 0 where
+-- a change: a name, what was seen and what is new. What was seen is an entry; before, it could also be that nobody looked, which OldSheets alone speaks of.
+pub record ChangeOf (S : Type 0) : Type 0 where
   pub name : List ℕ
-  pub seen : Seen
+  pub seen : S
   pub new : Entry
+
+abbrev pub Change : Type 0
+Change = ChangeOf Entry
 
 abbrev pub mostChanges : ℕ
 mostChanges = 64
-
-unfoldable pub malformed : {A : Type 0} → Reader A
-malformed s = bad 0
-
--- what a kind byte asks for
-unfoldable pub entryOf : (kind : ℕ) → Reader Entry
-entryOf kind = cond (eqb kind 0) (give absent) (cond (eqb kind 1) (tagValue then λ v. give (holds v)) malformed)
-
-unfoldable pub seenOf : (kind : ℕ) → Reader Seen
-seenOf kind = cond (eqb kind 2) (give nobodyLooked) (entryOf kind then λ e. give (saw e))
 
 -- a kind byte
 unfoldable pub kind : (most : ℕ) → Reader ℕ
 kind most = only (within 0 most) (number 1)
 
-unfoldable pub seenPart : Reader Seen
-seenPart = kind 2 then seenOf
+-- what a kind byte asks for: "0 absent, 1 a value, which follows"; that it is no other, `kind` sees to
+unfoldable pub entryOf : (kind : ℕ) → Reader Entry
+entryOf kind = cond (eqb kind 1) (tagValue then λ v. give (holds v)) (give absent)
 
-unfoldable pub newPart : Reader Entry
-newPart = kind 1 then entryOf
+unfoldable pub entryPart : Reader Entry
+entryPart = kind 1 then entryOf
 
-unfoldable pub change : Reader Change
-change = tagName then λ n. seenPart then λ s. newPart then λ e. give (record { name = n; seen = s; new = e })
+-- "per change a name; a seen kind ..; a new kind ..", by the reader of what was seen
+unfoldable pub changeWith : {S : Type 0} → (seen : Reader S) → Reader (ChangeOf S)
+changeWith seen = tagName then λ n. seen then λ s. entryPart then λ e. give (record { name = n; seen = s; new = e })
 
-unfoldable pub changeNames : List Change → List (List ℕ)
+unfoldable pub changeNames : {S : Type 0} → List (ChangeOf S) → List (List ℕ)
 changeNames = map (λ c. c .name)
 
 unfoldable pub numberOfChanges : Reader ℕ
 numberOfChanges = only (within 0 mostChanges) (number 1)
 
-unfoldable pub sheetFault : List ℕ → ℕ
-sheetFault = countedFault numberOfChanges tagName (keeping (seenPart then λ s. newPart)) 0
+unfoldable pub sheetFault : {S : Type 0} → (seen : Reader S) → List ℕ → ℕ
+sheetFault seen = countedFault numberOfChanges tagName (keeping (seen then λ s. entryPart)) 0
 
+unfoldable pub sheetWith : {S : Type 0} → (seen : Reader S) → Reader (List (ChangeOf S))
+sheetWith seen = placed (sheetFault seen) (only (λ cs. distinct (changeNames cs)) (numberOfChanges then λ n. times n (changeWith seen)))
+
+-- a sheet: what was seen is an entry
 unfoldable pub sheet : Reader (List Change)
-sheet = placed sheetFault (only (λ cs. distinct (changeNames cs)) (numberOfChanges then λ n. times n change))
+sheet = sheetWith entryPart
 
 unfoldable pub changesOf : List ℕ → List Change
 changesOf bytes = valueOr [] (exactly sheet bytes)
 
 -- the bytes of a sheet
-unfoldable pub newBytes : Entry → List ℕ
-newBytes absent = 0 ∷ []
-newBytes (holds v) = 1 ∷ shortString v
+unfoldable pub entryPartBytes : Entry → List ℕ
+entryPartBytes absent = 0 ∷ []
+entryPartBytes (holds v) = 1 ∷ shortString v
 
-unfoldable pub seenBytes : Seen → List ℕ
-seenBytes (saw e) = newBytes e
-seenBytes nobodyLooked = 2 ∷ []
+unfoldable pub changeBytes : {S : Type 0} → (seen : S → List ℕ) → ChangeOf S → List ℕ
+changeBytes seen c = shortString (c .name) ++ seen (c .seen) ++ entryPartBytes (c .new)
 
-unfoldable pub changeBytes : Change → List ℕ
-changeBytes c = shortString (c .name) ++ seenBytes (c .seen) ++ newBytes (c .new)
+unfoldable pub sheetBytesWith : {S : Type 0} → (seen : S → List ℕ) → List (ChangeOf S) → List ℕ
+sheetBytesWith seen cs = length cs ∷ flatMap (changeBytes seen) cs
 
 unfoldable pub sheetBytes : List Change → List ℕ
-sheetBytes cs = length cs ∷ flatMap changeBytes cs
+sheetBytes = sheetBytesWith entryPartBytes
 
 -- ── To compare: "All seen entries are compared with the table before the save" ──
 
@@ -95,26 +89,30 @@ sameEntry absent (holds v) = false
 sameEntry (holds v) absent = false
 sameEntry (holds v) (holds w) = same v w
 
-unfoldable pub agrees : Seen → Entry → Bool
-agrees (saw e) found = sameEntry e found
-agrees nobodyLooked found = true
-
 unfoldable pub conflicts : List Tag → Change → Bool
-conflicts ts c = not (agrees (c .seen) (lookUp (c .name) ts))
+conflicts ts c = not (sameEntry (c .seen) (lookUp (c .name) ts))
 
-unfoldable pub someConflict : List Tag → List Change → Bool
-someConflict ts [] = false
-someConflict ts (c ∷ cs) = conflicts ts c || someConflict ts cs
+-- whether at least one passes a test
+unfoldable pub some : {A : Type 0} → (A → Bool) → List A → Bool
+some test [] = false
+some test (x ∷ xs) = test x || some test xs
 
--- "the lowest such place, from 0"; where none conflicts, the number of changes
-unfoldable pub conflictPlace : List Tag → List Change → ℕ
-conflictPlace ts [] = 0
-conflictPlace ts (c ∷ cs) = cond (conflicts ts c) 0 (suc (conflictPlace ts cs))
+-- the lowest place of one that does, from 0, where one does
+unfoldable pub lowest : {A : Type 0} → (A → Bool) → List A → ℕ
+lowest test [] = 0
+lowest test (x ∷ xs) = cond (test x) 0 (suc (lowest test xs))
+
+abbrev pub someConflict : List Tag → List Change → Bool
+someConflict ts cs = some (conflicts ts) cs
+
+-- "the lowest such place, from 0"
+abbrev pub conflictPlace : List Tag → List Change → ℕ
+conflictPlace ts cs = lowest (conflicts ts) cs
 
 -- ── To apply ──
 
 -- what a sheet says of a name, or what is there
-unfoldable pub newEntry : List Change → Tag → Entry
+unfoldable pub newEntry : {S : Type 0} → List (ChangeOf S) → Tag → Entry
 newEntry [] t = holds (t .value)
 newEntry (c ∷ cs) t = cond (same (c .name) (t .name)) (c .new) (newEntry cs t)
 
@@ -123,16 +121,16 @@ tagWith name absent = []
 tagWith name (holds v) = record { name = name; value = v } ∷ []
 
 -- "Kept tags keep their order and a changed tag its place; removed tags vanish"
-unfoldable pub keptTags : List Change → List Tag → List Tag
+unfoldable pub keptTags : {S : Type 0} → List (ChangeOf S) → List Tag → List Tag
 keptTags cs [] = []
 keptTags cs (t ∷ ts) = tagWith (t .name) (newEntry cs t) ++ keptTags cs ts
 
 -- "new ones come last in sheet order"
-unfoldable pub newTags : List Tag → List Change → List Tag
+unfoldable pub newTags : {S : Type 0} → List Tag → List (ChangeOf S) → List Tag
 newTags ts [] = []
 newTags ts (c ∷ cs) = cond (among (c .name) (tagNames ts)) [] (tagWith (c .name) (c .new)) ++ newTags ts cs
 
-unfoldable pub applied : List Change → List Tag → List Tag
+unfoldable pub applied : {S : Type 0} → List (ChangeOf S) → List Tag → List Tag
 applied cs ts = keptTags cs ts ++ newTags ts cs
 
 -- ── A sheet on a table ──

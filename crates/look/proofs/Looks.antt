@@ -3,16 +3,15 @@
 use Prim.Native.Nat.{ℕ, zero, suc, _+_, _-_, _*_, _%_, _^_, _<_, _≤_}
 use native.Mathlib.Nat.{zero-add, add-zero, add-assoc, two-mul, mul-comm, mul-assoc, mul-zero, mul-suc, mul-one, mul-add, mod-add-mod, add-mod-mod, mod-eq-of-lt, mod-lt}
 use native.Mathlib.Omega.{arith}
-use mathlib.Core.Path.{_≡_, refl, sym, ap, ap₂, _∙_}
+use mathlib.Core.Path.{_≡_, sym, ap, ap₂, _∙_}
 use mathlib.Core.Bool.{Bool, true, false, not}
 use mathlib.Core.List.{List, [], _∷_}
 use lib.ListN.{length, take, drop, getD}
 use borrow.Author.Needs.{needs}
-use borrow.Author.Tests.{lt-ltb, le-ltb, ne-eqb}
 use mir.Syntax.{w64}
 use mir.Val.{Fits}
 use Rattle.layout.specs.Reading.{good, number, string}
-use Rattle.layout.specs.Saving.{Entry, sameEntry, agrees, bits}
+use Rattle.layout.specs.Saving.{sameEntry, bits}
 use Rattle.parts.specs.Parts.{samePart}
 use Rattle.rows.specs.Rows.{entry, rest, rowName, rowOf}
 use Rattle.rows.specs.declared.Row.the-variants as row
@@ -21,24 +20,13 @@ use Rattle.rows.specs.declared.RowPlace.the-variants as rowPlace
 use Rattle.names.proofs.Laws.{name-other, name-same, row-name-place}
 use Rattle.parts.proofs.Taken.{then-parts}
 use Rattle.tables.proofs.Places.{number-parts}
-use Rattle.sheet.specs.Rows.{rowWith, tagWithName, changeWithName, changesAt, tagHolds, beside}
-use Rattle.sheet.specs.Values.{entryValue, valueIn, Stands, Finds}
-use Rattle.look.specs.Look.{isNothing, tagEntry, differs, comparedBy, compareOf, withBit}
+use Rattle.sheet.specs.Rows.{rowWith, changeWithName, changesAt, tagEntry, beside}
+use Rattle.sheet.specs.Values.{entryValue, heldValue, valueIn, Stands}
+use Rattle.look.specs.Look.{isNothing, differs, comparedBy, compareOf, withBit}
 use Rattle.sheet.specs.declared.Value.{Value}
 use Rattle.sheet.specs.declared.Value.the-variants as value
-use Rattle.sheet.proofs.Values.{string-stands, first-of, entry-finds, row-rest, row-fits-2, tag-row-broken, tag-row-value, tag-row-end, tag-fits-3}
+use Rattle.sheet.proofs.Values.{string-stands, entry-finds, held-finds, row-rest, row-fits-2}
 use Rattle.sheet.proofs.Rows.{beside-done, beside-stop, beside-step}
-
--- ── What a tag holds ──
-
-pub look-none : (s : List ℕ) (tag : ℕ) → tag ≡ 0 → Finds s value.Nothing (tagEntry s tag)
-unfolding tagEntry valueIn Stands
-look-none s tag e = record { found = rw e; there = refl }
-
-pub look-there : (s : List ℕ) (tag : ℕ) (v : Value) → (tag ≡ 0 → ⊥) → Finds s v (tagHolds (rowWith row.Tag tagWithName (drop tag s)))
-    → Finds s v (tagEntry s tag)
-unfolding tagEntry
-look-there s tag v h g = rw (ne-eqb tag 0 h) g
 
 -- ── Equal values ──
 
@@ -85,18 +73,19 @@ same-bytes a b one other p n q m r h k e f w g =
 
 -- ── One change ──
 
-pub nobody-looked : (had : Entry) (name s : List ℕ) (at : ℕ) → 1 < getD s at 0 → false ≡ differs had (changeWithName name (drop at s))
-unfolding differs changeWithName agrees
-nobody-looked had name s at k = rw (first-of s at, lt-ltb 1 (getD s at 0) k)
-
 pub entry-stands : (s : List ℕ) (at : ℕ) (v : Value) → v ≡ entryValue s at → Stands s v
 entry-stands s at v e = entry-finds s at v e .there
 
-pub looked-at : (had : Entry) (name s table : List ℕ) (at : ℕ) (v o : Value) (r : Bool) → getD s at 0 ≤ 1 → v ≡ entryValue s at
-    → Finds table o had → r ≡ sameEntry (valueIn s v) (valueIn table o) → not r ≡ differs had (changeWithName name (drop at s))
-unfolding differs changeWithName agrees
-looked-at had name s table at v o r k f g e = let w = entry-finds s at v f in rw
-    (first-of s at, le-ltb 1 (getD s at 0) k, ← w .found, ← g .found, ← e)
+pub held-stands : (table : List ℕ) (tag : ℕ) (v : Value) → v ≡ heldValue table tag → Stands table v
+held-stands table tag v e = held-finds table tag v e .there
+
+pub looked-at : (name s table : List ℕ) (at tag : ℕ) (v o : Value) (r : Bool) → v ≡ entryValue s at → o ≡ heldValue table tag
+    → r ≡ sameEntry (valueIn s v) (valueIn table o) → not r ≡ differs (tagEntry table tag) (changeWithName name (drop at s))
+unfolding differs changeWithName
+looked-at name s table at tag v o r f g e =
+    let w = entry-finds s at v f in
+    let h = held-finds table tag o g in
+    rw (← w .found, ← h .found, ← e)
 
 -- ── All changes ──
 
@@ -193,12 +182,6 @@ pub ruleset laws = (
   needs,
   row-name-place,
   row-fits-2,
-  tag-row-broken,
-  tag-row-value,
-  tag-row-end,
-  tag-fits-3,
-  look-none,
-  look-there,
   at-is-something,
   nothing-is-nothing,
   same-nothing,
@@ -206,9 +189,9 @@ pub ruleset laws = (
   stands-fits,
   same-longer,
   same-bytes,
-  nobody-looked,
   looked-at,
   entry-stands,
+  held-stands,
   kind-there,
   bit-set,
   bit-left,

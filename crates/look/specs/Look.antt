@@ -2,21 +2,16 @@
 use Prim.Native.Nat.{ℕ, _+_, _%_, _^_}
 use mathlib.Core.Bool.{Bool, true, false, cond, not}
 use mathlib.Core.List.{List, [], _∷_}
-use lib.ListN.{length, drop}
-use lib.Dec.{eqb}
-use Rattle.layout.specs.Saving.{Entry, absent, Change, agrees, bits}
+use lib.ListN.{length}
+use Rattle.layout.specs.Saving.{Entry, Change, sameEntry, bits}
 use Rattle.rows.specs.declared.Row.the-variants as row
 use Rattle.sheet.specs.declared.Value.{Value}
 use Rattle.sheet.specs.declared.Value.the-variants as value
-use Rattle.sheet.specs.Rows.{rowWith, tagWithName, tagHolds, changesAt, Beside, beside}
+use Rattle.sheet.specs.Rows.{tagEntry, changesAt, Beside, beside}
 
--- what the tag at a place holds
-unfoldable pub tagEntry : (table : List ℕ) → (tag : ℕ) → Entry
-tagEntry table tag = cond (eqb tag 0) absent (tagHolds (rowWith row.Tag tagWithName (drop tag table)))
-
--- what a change saw is not what the table has; where nobody looked there is no such thing
+-- what a change saw is not what the table has
 unfoldable pub differs : Entry → Change → Bool
-differs e c = not (agrees (c .seen) e)
+differs e c = not (sameEntry (c .seen) e)
 
 -- of each change, whether it disagrees with its tag
 unfoldable pub comparedBy : (table : List ℕ) → List (Beside Change) → List Bool

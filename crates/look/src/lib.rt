@@ -6,30 +6,9 @@ ghost use mathlib.Core.Path.{_≡_};
 ghost use Prim.Native.Nat.{_+_, _<_};
 ghost use lib.ListN.{length, take, drop};
 ghost use Rattle.layout.specs.Saving.{sameEntry};
-ghost use Rattle.sheet.specs.Rows.{rowWith, tagWithName, changeWithName, tagHolds};
-ghost use Rattle.sheet.specs.Values.{valueIn, Stands, Finds};
-ghost use Rattle.look.specs.Look.{isNothing, tagEntry, differs, withBit, compareOf};
-
-// The value of the tag at a place.
-fn held_value(table: &[u8], place: usize) -> Value
-    ensures { λ r. ⌜ Finds (now (table .entry)) r (tagHolds (rowWith Row.Tag tagWithName (drop place (now (table .entry))))) ⌝ }
-{
-    let row = rows::row_at(table, place, Row::Tag);
-    let RowPlace::Whole(len, end) = row else {
-        return Value::Nothing;
-    };
-    Value::At(place + 1 + len, end - (place + 1 + len + 1))
-}
-
-// What the tag at a place holds, or nothing for place 0.
-fn look_up(table: &[u8], tag: usize) -> Value
-    ensures { λ r. ⌜ Finds (now (table .entry)) r (tagEntry (now (table .entry)) tag) ⌝ }
-{
-    if tag == 0 {
-        return Value::Nothing;
-    }
-    held_value(table, tag)
-}
+ghost use Rattle.sheet.specs.Rows.{changeWithName, tagEntry};
+ghost use Rattle.sheet.specs.Values.{valueIn, Stands};
+ghost use Rattle.look.specs.Look.{isNothing, differs, withBit, compareOf};
 
 // Whether two values are the same, or both are absent.
 fn same_value(a: &[u8], one: Value, b: &[u8], other: Value) -> bool
@@ -57,18 +36,14 @@ fn is_nothing(value: Value) -> bool
     }
 }
 
-// Whether what a change saw is not what the tag at a place holds. Where nobody looked it is not so.
+// Whether what a change saw is not what the tag at a place holds.
 fn disagrees(sheet: &[u8], place: usize, len: usize, table: &[u8], tag: usize) -> bool
     requires { ⌜ place + 1 + len < length (now sheet) ⌝ }
     ensures { λ r. ⌜ r ≡ differs (tagEntry (now (table .entry)) tag) (changeWithName (take len (drop (place + 1) (now (sheet .entry)))) (drop (place + 1 + len) (now (sheet .entry)))) ⌝ }
 {
-    let seen = place + 1 + len;
-    if 1 < sheet[seen] {
-        return false;
-    }
-    let value = sheet::entry_value(sheet, seen);
-    let old = look_up(table, tag);
-    !same_value(sheet, value, table, old)
+    let seen = sheet::entry_value(sheet, place + 1 + len);
+    let held = sheet::held_value(table, tag);
+    !same_value(sheet, seen, table, held)
 }
 
 // The set with the bit of a change, where that conflicts.

@@ -7,15 +7,14 @@ use mathlib.Core.Bool.{Bool, true, false, cond}
 use mathlib.Core.List.{List, [], _∷_}
 use lib.ListN.{length, take, drop}
 use lib.Dec.{leb, eqb}
-use borrow.Author.Tests.{eqb-true}
 use Rattle.number.specs.Number.{numberOf}
 use Rattle.layout.specs.Recording.{Section, Tag, within, distinct, tagNames, sectionNames}
 use Rattle.layout.specs.Reading.{Reader, bad, good, _then_, times, give, number, block, string, sectionName, tagName, tagValue, Definition, definition, definedNames, tag}
 use Rattle.layout.specs.Recorder.{configured, setUpSection}
-use Rattle.layout.specs.Saving.{Change, Seen, Entry, nobodyLooked, absent, saw, holds, change, changeNames, entryOf, seenOf, kind, seenPart, newPart, malformed}
+use Rattle.layout.specs.Saving.{Entry, absent, holds, ChangeOf, changeWith, changeNames, entryOf, kind, entryPart}
 use Rattle.layout.proofs.Readers.{then-takes}
 use Rattle.strings.proofs.Named.{section-keeps, name-keeps, value-keeps}
-use Rattle.rows.specs.Rows.{entry, rest, rowName}
+use Rattle.rows.specs.Rows.{entry, entryUpTo, rest, rowName}
 use Rattle.names.specs.Names.{names, distinctNames}
 use Rattle.rows.specs.declared.Row.{Row}
 use Rattle.rows.specs.declared.Row.the-variants as row
@@ -74,52 +73,49 @@ set-up-row =
 unfoldable pub entryValue : ℕ → Reader (List ℕ)
 entryValue kind = cond (eqb kind 1) string (give [])
 
-no-value : (kind m : ℕ) (t : List ℕ) → eqb kind 1 ≡ false → m ≡ 0 → (r : List ℕ) × (entryValue kind t ≡ good r m)
+pub no-value : (kind m : ℕ) (t : List ℕ) → eqb kind 1 ≡ false → m ≡ 0 → (r : List ℕ) × (entryValue kind t ≡ good r m)
 unfolding entryValue give
 no-value kind m t e z = ([], rw (e, z))
 
 pub entry-leads : (kind m : ℕ) (t : List ℕ) (x : Entry) → entryOf kind t ≡ good x m → (r : List ℕ) × (entryValue kind t ≡ good r m)
-unfolding entryOf entryValue malformed give
-entry-leads kind m t x e = go (eqb kind 0) (eqb kind 1) refl refl e
+unfolding entryOf entryValue give
+entry-leads kind m t x e = go (eqb kind 1) refl e
   where
-    go : (a b : Bool) → eqb kind 0 ≡ a → eqb kind 1 ≡ b → cond a (give absent) (cond b (tagValue then λ v. give (holds v)) malformed) t ≡ good x m
-        → (r : List ℕ) × (entryValue kind t ≡ good r m)
-    go true true p q h = let z : _≡_ {A = ℕ} 0 1 = sym (eqb-true kind 0 p) ∙ eqb-true kind 1 q in absurd (omega arith)
-    go true false p q h = no-value kind m t q cc
-    go false true p q h = give-parts tagValue holds t x m h (λ v i o. (v, rw q (value-keeps .text t v m i)))
-    go false false p q h = let z : _≡_ {A = ℕ} 0 1 = cc in absurd (omega arith)
+    go : (b : Bool) → eqb kind 1 ≡ b → cond b (tagValue then λ v. give (holds v)) (give absent) t ≡ good x m → (r : List ℕ) × (entryValue kind t ≡ good r m)
+    go true q h = give-parts tagValue holds t x m h (λ v i o. (v, rw q (value-keeps .text t v m i)))
+    go false q h = no-value kind m t q cc
 
-pub seen-leads : (kind m : ℕ) (t : List ℕ) (x : Seen) → seenOf kind t ≡ good x m → (r : List ℕ) × (entryValue kind t ≡ good r m)
-unfolding seenOf give
-seen-leads kind m t x e = go (eqb kind 2) (eqb kind 1) refl refl e
-  where
-    go : (a b : Bool) → eqb kind 2 ≡ a → eqb kind 1 ≡ b → cond a (give nobodyLooked) (entryOf kind then λ e. give (saw e)) t ≡ good x m
-        → (r : List ℕ) × (entryValue kind t ≡ good r m)
-    go true true p q h = let z : _≡_ {A = ℕ} 2 1 = sym (eqb-true kind 2 p) ∙ eqb-true kind 1 q in absurd (omega arith)
-    go true false p q h = no-value kind m t q cc
-    go false b p q h = give-parts (entryOf kind) saw t x m h (λ en i o. entry-leads kind m t en i)
+-- what reader p reads, an entry leads over
+abbrev pub LeadsEntry : {A : Type 0} → Reader A → Type 0
+LeadsEntry {A} p = (t : List ℕ) (x : A) (m : ℕ) → p t ≡ good x m → (r : List ℕ) × (entry t ≡ good r m)
 
 pub kind-leads : {A : Type 0} (q : ℕ → Reader A) → ((kind m : ℕ) (t : List ℕ) (x : A) → q kind t ≡ good x m
-    → (r : List ℕ) × (entryValue kind t ≡ good r m)) → (most : ℕ) (t : List ℕ) (x : A) (m : ℕ) → (kind most then q) t ≡ good x m
-    → (r : List ℕ) × (entry t ≡ good r m)
+    → (r : List ℕ) × (entryValue kind t ≡ good r m)) → (most : ℕ) → LeadsEntry (kind most then q)
 unfolding entry entryValue kind
 kind-leads q leads most t x m e =
     then-parts (kind most) q t x m e (λ j n k f g h.
     let (r, l) = leads j k (drop n t) x g in
     (r, then-takes (number 1) (λ i. cond (eqb i 1) string (give [])) t j r n k (only-parts (within 0 most) (number 1) t j n f .0) l ∙ ap (good r) (sym h)))
 
-pub change-row : (t : List ℕ) (x : Change) (n : ℕ) → change t ≡ good x n → rowName row.Change t ≡ good (x .name) n
-unfolding change seenPart newPart rest
-change-row t x n e =
-    then-parts tagName (λ name. seenPart then λ s. newPart then λ e. give
+-- an entry of a change, whatever its kinds go up to
+pub up-to-leads : (most : ℕ) → LeadsEntry (entryUpTo most)
+unfolding entryUpTo
+up-to-leads = kind-leads entryOf entry-leads
+
+-- a change, by the reader of what was seen
+pub change-row : {S : Type 0} (p : Reader S) → LeadsEntry p → (t : List ℕ) (x : ChangeOf S) (n : ℕ) → changeWith p t ≡ good x n
+    → rowName row.Change t ≡ good (x .name) n
+unfolding changeWith entryPart rest
+change-row {S} p leads t x n e =
+    then-parts tagName (λ name. p then λ s. entryPart then λ e. give
     (record { name = name; seen = s; new = e })) t x n e (λ v a b f g h.
-    then-parts seenPart (λ s. newPart then λ e. give (record { name = v; seen = s; new = e })) (drop a t) x b g
+    then-parts p (λ s. entryPart then λ e. give (record { name = v; seen = s; new = e })) (drop a t) x b g
     (λ s c d i j k.
-    give-parts newPart (λ e. record { name = v; seen = s; new = e }) (drop c (drop a t)) x d j (λ en l o.
-    let (y, p) = kind-leads seenOf seen-leads 2 (drop a t) s c i in
+    give-parts entryPart (λ e. record { name = v; seen = s; new = e }) (drop c (drop a t)) x d j (λ en l o.
+    let (y, p) = leads (drop a t) s c i in
     let (z, q) = kind-leads entryOf entry-leads 1 (drop c (drop a t)) en d l in
     row-of row.Change t v z a (c + d) (name-keeps .text t v a f) (then-takes entry (λ seen. entry) (drop a t) y z c d p q)
-    ∙ ap (λ (w : List ℕ). good w (a + (c + d))) (sym (ap (λ (u : Change). u .name) o)) ∙ ap (good (x .name)) (omega arith))))
+    ∙ ap (λ (w : List ℕ). good w (a + (c + d))) (sym (ap (λ (u : ChangeOf S). u .name) o)) ∙ ap (good (x .name)) (omega arith))))
 
 -- ── Rows that were read ──
 
@@ -153,8 +149,8 @@ unfolding sectionNames
 distinct-set-up s at n m ss e = distinct-rows s at n m row.SetUp (sectionNames ss)
     (times-led setUpSection (rowName row.SetUp) (λ s. s .name) set-up-row n (drop at s) ss m e)
 
-pub distinct-changes : (s : List ℕ) (at n m : ℕ) (cs : List Change) → times n change (drop at s) ≡ good cs m
-    → distinctNames s at n row.Change ≡ distinct (changeNames cs)
+pub distinct-changes : {S : Type 0} (p : Reader S) → LeadsEntry p → (s : List ℕ) (at n m : ℕ) (cs : List (ChangeOf S))
+    → times n (changeWith p) (drop at s) ≡ good cs m → distinctNames s at n row.Change ≡ distinct (changeNames cs)
 unfolding changeNames
-distinct-changes s at n m cs e = distinct-rows s at n m row.Change (changeNames cs)
-    (times-led change (rowName row.Change) (λ c. c .name) change-row n (drop at s) cs m e)
+distinct-changes p leads s at n m cs e = distinct-rows s at n m row.Change (changeNames cs)
+    (times-led (changeWith p) (rowName row.Change) (λ c. c .name) (change-row p leads) n (drop at s) cs m e)

@@ -5,6 +5,7 @@ use mathlib.Core.List.{List, []}
 use lib.ListN.{length}
 use lib.Dec.{eqb}
 use Rattle.layout.specs.Reading.{Parsed, bad, good, Reader, _then_, give, number, block, string}
+use Rattle.layout.specs.Saving.{Entry, kind, entryOf}
 use Rattle.rows.specs.declared.Row.{Row}
 use Rattle.rows.specs.declared.Row.the-variants.{Definition, SetUp, Tag, Change}
 use Rattle.rows.specs.declared.RowPlace.{RowPlace}
@@ -13,6 +14,10 @@ use Rattle.rows.specs.declared.RowPlace.the-variants as rowPlace
 -- an entry of a change: its kind and, for kind 1, a value
 unfoldable pub entry : Reader (List ℕ)
 entry = number 1 then λ kind. cond (eqb kind 1) string (give [])
+
+-- the same, read as the layout says; its kind goes up to `most`
+unfoldable pub entryUpTo : (most : ℕ) → Reader Entry
+entryUpTo most = kind most then entryOf
 
 -- what follows the name in a row of each kind
 unfoldable pub rest : Row → Reader (List ℕ)

@@ -43,14 +43,14 @@ use Rattle.saving.proofs.Requests.{stands, asked-unopened, user-fits, a
 
 -- ── Look's answer ──
 
-pub look-not : (f bytes : List ℕ) (a : Asked) (q : Refusal) → a ≡ askedOf f bytes → a ≡ asked.Refused q → looked.Refused q ≡ lookOf f bytes
+pub look-not : (f bytes : List ℕ) (a : Asked) (q : Refusal) → a ≡ askedOf 1 f bytes → a ≡ asked.Refused q → looked.Refused q ≡ lookOf f bytes
 unfolding lookOf lookedBy
 look-not f bytes a q e g =
     let (n, h, i) = asked-refused f bytes a q e g in
     let r : look f bytes .refused ≡ suc n = look-number f bytes ∙ h in
     ap looked.Refused i ∙ sym (rw (r, look-refused f bytes n r .1))
 
-pub look-changes : (f bytes : List ℕ) (a : Asked) (at n k set : ℕ) → a ≡ askedOf f bytes → a ≡ asked.Changes at n k → set ≡ setIn f at n bytes k
+pub look-changes : (f bytes : List ℕ) (a : Asked) (at n k set : ℕ) → a ≡ askedOf 1 f bytes → a ≡ asked.Changes at n k → set ≡ setIn f at n bytes k
     → looked.Changes k set ≡ lookOf f bytes
 unfolding lookOf lookedBy setIn
 look-changes f bytes a at n k set e g h =
@@ -103,7 +103,7 @@ answer-applied place ts out p q r e = rw e (go (ltb mostTags (length ts)) (ltb (
     go false false = answer-table (place 0) ts out
 
 -- what look refuses commit refuses
-pub commit-not : (f bytes out : List ℕ) (a : Asked) (q : Refusal) → a ≡ askedOf f bytes → a ≡ asked.Refused q
+pub commit-not : (f bytes out : List ℕ) (a : Asked) (q : Refusal) → a ≡ askedOf 1 f bytes → a ≡ asked.Refused q
     → outcome (committed.Refused q) out ≡ commitOf f bytes out
 unfolding commitOf committedAs committedBy
 commit-not f bytes out a q e g =
@@ -132,7 +132,7 @@ committed-by f bytes out a = go (someConflict (userTags f) (changesOf bytes)) re
         sym (answer-by f bytes out (commitRefusal f bytes (length out)) refl
         ∙ answer-applied (λ n. commitPlace n f bytes) (newTable f bytes) out refl refl (commitRefusal f bytes (length out)) (number ∙ line-pass 11 _ _ e))
 
-pub commit-changes : (f bytes out o : List ℕ) (a : Asked) (at n k : ℕ) (r : Committed) → a ≡ askedOf f bytes → a ≡ asked.Changes at n k
+pub commit-changes : (f bytes out o : List ℕ) (a : Asked) (at n k : ℕ) (r : Committed) → a ≡ askedOf 1 f bytes → a ≡ asked.Changes at n k
     → outcome r o ≡ committedIn f at n bytes k out → outcome r o ≡ commitOf f bytes out
 unfolding committedIn newTable
 commit-changes f bytes out o a at n k r e g h =

@@ -16,9 +16,9 @@ use Rattle.rows.specs.declared.Row.{Row}
 use Rattle.rows.specs.declared.Row.the-variants as row
 use Rattle.names.specs.declared.NameFound.{NameFound}
 use Rattle.names.specs.declared.NameFound.the-variants as found
-use Rattle.sheet.specs.Rows.{rows, rowWith, tagWithName, made, tagHolds, changeWithName, changesAt, pair, beside, tagsAt, changeMakes}
+use Rattle.sheet.specs.Rows.{rows, rowWith, tagWithName, made, tagHolds, changeWithName, changesAt, pair, beside, tagsAt, changeMakes, tagEntry}
 use Rattle.layout.specs.Saving.{Change, conflicts, absent, holds, lookUp, newEntry, tagWith, keptTags, newTags, applied}
-use Rattle.look.specs.Look.{tagEntry, differs, comparedBy}
+use Rattle.look.specs.Look.{differs, comparedBy}
 use Rattle.sheet.proofs.Values.{row-makes-none, row-read}
 use Rattle.sheet.proofs.Rows.{rows-more, rows-none, no-rows, beside-none}
 use lib.Dec.{eqb, ltb}
@@ -82,7 +82,7 @@ lookUp-found : (name s : List ℕ) (n i at : ℕ) → lookUp name (tagsAt s at n
 unfolding lookUp tagWithName
 lookUp-found name s n i at = by-found row.Tag tagWithName name (lookUp name) (λ t. holds (t .value)) absent absent refl (λ v t xs. refl) n s i at
 
-entry-by-place : (name table : List ℕ) (at n : ℕ) → 0 < at → tagEntry table (tagPlace table at n name) ≡ lookUp name (tagsAt table at n)
+pub entry-by-place : (name table : List ℕ) (at n : ℕ) → 0 < at → tagEntry table (tagPlace table at n name) ≡ lookUp name (tagsAt table at n)
 unfolding tagEntry tagPlace
 entry-by-place name table at n z = by-place tagHolds (rowWith row.Tag tagWithName) absent name n (rowName row.Tag) table at z
     ∙ sym (lookUp-found name table n 0 at)
@@ -131,14 +131,15 @@ new-by-place table at n z c = ap (λ b. cond b [] (tagWith (c .name) (c .new)))
         (λ b a l t o. rw (lt-ltb 0 q (omega arith)) (sym (made-true (rowWith row.Tag tagWithName (drop q table)))))
     go found.Nothing e = refl
 
+-- the places behind the first are those of the names behind it
+pub lists-next : (place : List ℕ → ℕ) (ps : List ℕ) (i : ℕ) (v : List ℕ) (ns : List (List ℕ)) → Lists place ps i (v ∷ ns) → Lists place ps (i + 1) ns
+lists-next place ps i v ns l =
+    let h = l .room in
+    record { room = omega arith; known = λ c b. let a : i + 1 + c ≡ i + suc c = omega arith in rw a (l .known (suc c) (omega arith)) }
+
 -- rows with the places of their names beside each
 module _ {A : Type 0} (k : Row) (make : List ℕ → List ℕ → A) (name : A → List ℕ) (named : (v t : List ℕ) → name (make v t) ≡ v) (place : List ℕ
     → ℕ) (ps : List ℕ) where
-  lists-next : (i : ℕ) (v : List ℕ) (ns : List (List ℕ)) → Lists place ps i (v ∷ ns) → Lists place ps (i + 1) ns
-  lists-next i v ns l =
-      let h = l .room in
-      record { room = omega arith; known = λ c b. let a : i + 1 + c ≡ i + suc c = omega arith in rw a (l .known (suc c) (omega arith)) }
-
   beside-known : (n : ℕ) (t : List ℕ) (i : ℕ) → Lists place ps i (names n (rowName k) t)
       → beside (drop i ps) (rows n (rowWith k make) t) ≡ map (λ x. pair (place (name x)) x) (rows n (rowWith k make) t)
   unfolding beside
@@ -156,7 +157,7 @@ module _ {A : Type 0} (k : Row) (make : List ℕ → List ℕ → A) (name : A �
           let q : i + 1 ≡ suc i = omega arith in
           let x : getD ps i 0 ≡ place v = rw o at (g .known 0 (omega arith)) in
           let y : beside (drop (suc i) ps) (rows n (rowWith k make) (drop m t)) ≡ map (λ x. pair (place (name x)) x)
-          (rows n (rowWith k make) (drop m t)) = rw q at (ih (drop m t) (i + 1) (lists-next i v _ g)) in
+          (rows n (rowWith k make) (drop m t)) = rw q at (ih (drop m t) (i + 1) (lists-next place ps i v _ g)) in
           rw (
             rows-more n (rowWith k make) t (make v (drop (1 + length v) t)) m (row-read k make t v m e),
             drop-cons ps i 0 (omega arith),

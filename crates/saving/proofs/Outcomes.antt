@@ -9,10 +9,14 @@ use prog.Memory.{Memory}
 use prog.Routine.{Routine}
 use prog.Wp.{Heap}
 use Rattle.outcome.specs.Outcome.{Determines, agree}
+use Rattle.saving.proofs.asked_of
 use Rattle.saving.proofs.look
 use Rattle.saving.proofs.commit
 
 module _ {M : Type 1} (𝓤 : URA M) (H : Heap 𝓤) (A : Atoms 𝓤) (mem : Memory → SProp 𝓤) (run : Routine → Fun 𝓤) where
+  pub asked-of-one : Determines 𝓤 «asked_of».ended («asked_of».clauses 𝓤 H A mem run)
+  asked-of-one κs a g x y v w = agree 𝓤 (λ p q. (p ∙ sym q, refl))
+
   pub look-one : Determines 𝓤 look.ended (look.clauses 𝓤 H A mem run)
   look-one κs a g x y v w = agree 𝓤 (λ p q. (p ∙ sym q, refl))
 

@@ -1,10 +1,10 @@
--- What look and commit begin with: 1 to 7, 10; and that the table and the sheet are legal then.
+-- What look and commit begin with, and the converter too: 1 to 7, 10; and that the table and the sheet are legal then.
 -- Assumes nothing.
 use Prim.Native.Nat.{ℕ, zero, suc, _+_, _^_, _<_, _≤_}
 use native.Mathlib.Omega.{arith}
 use mathlib.Core.Path.{_≡_, refl, ap, sym, _∙_}
 use mathlib.Core.Bool.{true, false}
-use mathlib.Core.List.{List, [], _∷_}
+use mathlib.Core.List.{List, []}
 use lib.ListN.{length, drop, length-drop}
 use lib.Dec.{leb}
 use borrow.Author.Tests.{leb-true, ne-eqb}
@@ -12,27 +12,27 @@ use mir.Syntax.{w64}
 use mir.Val.{Fits}
 use Rattle.number.proofs.Bytes.{both-true}
 use Rattle.layout.specs.Recording.{Tag, mostTags, within, distinct, tagNames}
-use Rattle.layout.specs.Reading.{Parsed, bad, good, _then_, only, times, exactly, number, numberOfTags, tag, tableFault, table, isBad, valueOr, faultOf}
-use Rattle.layout.specs.Opening.{line, frontLines, openingLines, refusal, openingPlace, shown, userOffset, readUser, badUser}
-use Rattle.layout.specs.Saving.{Change, change, changeNames, mostChanges, numberOfChanges, sheetFault, sheet, changesOf, userTags, lookLines, lookRefusal, lookPlace}
+use Rattle.layout.specs.Reading.{Parsed, bad, good, Reader, _then_, only, times, exactly, number, numberOfTags, tag, tableFault, table, isBad, valueOr, faultOf}
+use Rattle.layout.specs.Opening.{frontLines, openingLines, refusal, openingPlace, shown, userOffset, readUser, badUser}
+use Rattle.layout.specs.Saving.{ChangeOf, entryPart, changeWith, changeNames, mostChanges, numberOfChanges, sheetFault, sheetWith, sheet, changesOf, userTags, lookLines, lookRefusal, lookPlace}
 use Rattle.layout.proofs.Readers.{exactly-good, placed-good, number-good}
-use Rattle.layout.proofs.Lines.{line-pass, line-holds, opening-pass, opens-passes, lines-first}
-use Rattle.layout.proofs.Orders.{without, no-lines, lines-not}
+use Rattle.layout.proofs.Lines.{line-holds, opening-pass, opens-passes, lines-first}
+use Rattle.layout.proofs.Orders.{without, lines-not}
 use Rattle.layout.proofs.Refusals.{look-number}
 use Rattle.layout.proofs.Looked.{look-accepted}
 use Rattle.names.specs.Names.{distinctNames}
-use Rattle.rows.specs.Rows.{rowName}
+use Rattle.rows.specs.Rows.{entryUpTo, rowName}
 use Rattle.rows.specs.declared.Row.the-variants as row
 use Rattle.parts.proofs.Taken.{then-parts, only-parts}
 use Rattle.parts.proofs.Times.{times-length, times-led}
-use Rattle.names.proofs.Readers.{tag-row, distinct-tags, distinct-changes}
+use Rattle.names.proofs.Readers.{LeadsEntry, tag-row, up-to-leads, distinct-tags, distinct-changes}
 use Rattle.tables.proofs.Places.{table-read}
 use Rattle.opening.specs.Opened.{openOf, openRefusal, heldOf}
 use Rattle.opening.specs.declared.Held.{Held}
 use Rattle.opening.specs.declared.Opening.{Opening}
 use Rattle.opening.specs.declared.Opening.the-variants as openingAs
 use Rattle.opening.proofs.Lines.{open-opens, open-refuses}
-use Rattle.sheet.specs.Sheet.{sheetOf}
+use Rattle.sheet.specs.Sheet.{sheetUpTo, sheetOf}
 use Rattle.sheet.specs.Rows.{tagsAt, changesAt}
 use Rattle.sheet.specs.declared.Sheet.{Sheet}
 use Rattle.sheet.specs.declared.Sheet.the-variants as sheet
@@ -94,61 +94,38 @@ user-stands f o =
 
 -- ── The sheet ──
 
-sheet-read : (bytes : List ℕ) (cs : List Change) (m : ℕ) → exactly sheet bytes ≡ good cs m
-    → (length cs ≤ 64) × (changesAt bytes 1 (length cs) ≡ cs) × (distinctNames bytes 1 (length cs) row.Change ≡ true)
-unfolding sheet numberOfChanges
-sheet-read bytes cs m e =
-    let (x, y) = only-parts (λ ds. distinct (changeNames ds)) (only (within 0 mostChanges) (number 1) then λ n. times n change) bytes cs m
-    (placed-good sheetFault _ bytes cs m (exactly-good sheet bytes cs m e .0)) in
-    then-parts (only (within 0 mostChanges) (number 1)) (λ n. times n change) bytes cs m x (λ c a k f g h.
-    let p = only-parts (within 0 mostChanges) (number 1) bytes c a f in
-    let l = leb-true c mostChanges (both-true (leb 0 c) (leb c mostChanges) (p .1) .1) in
-    let q : 1 ≡ a = number-good 1 bytes c a (p .0) .2 in
-    let o : length cs ≡ c = times-length change c (drop a bytes) cs k g in
-    (omega arith, rw o (changes-are bytes 1 c k cs (rw q g)), rw o (distinct-changes bytes 1 c k cs (rw q g) ∙ y)))
+-- its changes stand behind their number
+pub changes-stand : {S : Type 0} (p : Reader S) → LeadsEntry p → (bytes : List ℕ) (cs : List (ChangeOf S)) (m : ℕ) → exactly (sheetWith p) bytes ≡ good cs m
+    → (length cs ≤ 64) × (distinctNames bytes 1 (length cs) row.Change ≡ true) × (k : ℕ) × (times (length cs) (changeWith p) (drop 1 bytes) ≡ good cs k)
+unfolding sheetWith numberOfChanges
+changes-stand p leads bytes cs m e =
+    let (x, y) = only-parts (λ ds. distinct (changeNames ds)) (only (within 0 mostChanges) (number 1) then λ n. times n (changeWith p)) bytes cs m
+    (placed-good (sheetFault p) _ bytes cs m (exactly-good (sheetWith p) bytes cs m e .0)) in
+    then-parts (only (within 0 mostChanges) (number 1)) (λ n. times n (changeWith p)) bytes cs m x (λ c a k f g h.
+    let q = only-parts (within 0 mostChanges) (number 1) bytes c a f in
+    let l = leb-true c mostChanges (both-true (leb 0 c) (leb c mostChanges) (q .1) .1) in
+    let r : 1 ≡ a = number-good 1 bytes c a (q .0) .2 in
+    let o : length cs ≡ c = times-length (changeWith p) c (drop a bytes) cs k g in
+    (omega arith, rw o (distinct-changes p leads bytes 1 c k cs (rw r g) ∙ y), k, rw (o, r) g))
 
--- the changes of a well-formed sheet stand behind their number
-sheet-stands : (bytes : List ℕ) → isBad (exactly sheet bytes) ≡ false
-    → (length (changesOf bytes) ≤ 64) × (changesAt bytes 1 (length (changesOf bytes)) ≡ changesOf bytes)
-    × (distinctNames bytes 1 (length (changesOf bytes)) row.Change ≡ true)
-unfolding changesOf valueOr
-sheet-stands bytes h = go (exactly sheet bytes) refl h
-  where
-    go : (p : Parsed (List Change)) → exactly sheet bytes ≡ p → isBad p ≡ false
-        → (length (valueOr [] p) ≤ 64) × (changesAt bytes 1 (length (valueOr [] p)) ≡ valueOr [] p)
-        × (distinctNames bytes 1 (length (valueOr [] p)) row.Change ≡ true)
-    go (bad j) g h = let z : _≡_ {A = ℕ} 0 1 = cc in absurd (omega arith)
-    go (good cs m) g h = sheet-read bytes cs m g
-
--- ── What both begin with ──
-
--- opening has no 10
-opening-place : (f bytes : List ℕ) (n : ℕ) → refusal f ≡ n → lookPlace n f bytes ≡ openingPlace n f
-unfolding refusal openingLines frontLines without lookPlace
-opening-place f bytes n e = rw (ne-eqb n 10 (λ z. lines-not (openingLines f) 10 refl (λ o. omega arith) (e ∙ z)))
-
--- refused with a number and its place
-asked-at : (f bytes : List ℕ) (n p : ℕ) (q : Refusal) → lookRefusal f bytes ≡ suc n → lookPlace (suc n) f bytes ≡ p → q ≡ placed (suc n) p
-    → asked.Refused q ≡ askedOf f bytes
-unfolding askedOf askedBy
-asked-at f bytes n p q e h i = rw (e, h, i)
-
-pub asked-unopened : (f bytes : List ℕ) (o : Opening) (n m : Refusal) → o ≡ openOf f → o ≡ openingAs.Refused n → m ≡ openRefusal o
-    → asked.Refused m ≡ askedOf f bytes
-unfolding lookRefusal lookLines refusal
-asked-unopened f bytes o n m e g h =
-    let (j, a, b) = open-refuses f n (sym e ∙ g) in
-    asked-at f bytes j (openingPlace (suc j) f) m (lines-first (openingLines f) _ j b) (opening-place f bytes (suc j) b) (h ∙ ap openRefusal g ∙ a)
-
-sheet-is-bad : (p : Parsed (List Change)) (k : ℕ) → sheetOf p ≡ sheet.Broken k → (isBad p ≡ true) × (faultOf p ≡ k)
+pub sheet-is-bad : {A : Type 0} (p : Parsed (List A)) (k : ℕ) → sheetOf p ≡ sheet.Broken k → (isBad p ≡ true) × (faultOf p ≡ k)
 unfolding sheetOf faultOf
 sheet-is-bad (bad j) k e = (refl, cc)
 sheet-is-bad (good cs n) k e = let z : _≡_ {A = ℕ} 0 1 = cc in absurd (omega arith)
 
-sheet-is-good : (p : Parsed (List Change)) (k : ℕ) → sheetOf p ≡ sheet.Whole k → (isBad p ≡ false) × (length (valueOr [] p) ≡ k)
-unfolding sheetOf valueOr
+sheet-is-good : {A : Type 0} (p : Parsed (List A)) (k : ℕ) → sheetOf p ≡ sheet.Whole k → (cs : List A) × (m : ℕ) × (p ≡ good cs m) × (length cs ≡ k)
+unfolding sheetOf
 sheet-is-good (bad j) k e = let z : _≡_ {A = ℕ} 0 1 = cc in absurd (omega arith)
-sheet-is-good (good cs n) k e = (refl, cc)
+sheet-is-good (good cs n) k e = (cs, n, refl, cc)
+
+-- ── What all begin with ──
+
+pub asked-unopened : (most : ℕ) (f bytes : List ℕ) (o : Opening) (n m : Refusal) → o ≡ openOf f → o ≡ openingAs.Refused n → m ≡ openRefusal o
+    → asked.Refused m ≡ askedOf most f bytes
+unfolding askedOf askedBy
+asked-unopened most f bytes o n m e g h =
+    let (j, a, b) = open-refuses f n (sym e ∙ g) in
+    rw b (ap asked.Refused (h ∙ ap openRefusal g ∙ a))
 
 module _ (f : List ℕ) (o : Opening) (held : Held) (e : o ≡ openOf f) (g : o ≡ openingAs.Opened held) where
   opens : (refusal f ≡ 0) × (held ≡ heldOf f)
@@ -161,36 +138,56 @@ module _ (f : List ℕ) (o : Opening) (held : Held) (e : o ≡ openOf f) (g : o 
       let l = user-stands f (opens .0) .0 in
       record { fits = omega arith }
 
-  pub asked-malformed : (bytes : List ℕ) (s : Sheet) (k : ℕ) (q : Refusal) → s ≡ sheetOf (exactly sheet bytes) → s ≡ sheet.Broken k → q ≡ placed 10 k
-      → asked.Refused q ≡ askedOf f bytes
-  unfolding lookRefusal lookLines lookPlace
-  asked-malformed bytes s k q h i j =
-      let (a, b) = sheet-is-bad (exactly sheet bytes) k (sym h ∙ i) in
-      asked-at f bytes 9 k q (opening-pass f _ (opens-passes f (opens .0)) ∙ line-holds 10 _ _ a) b j
+  pub asked-malformed : (most : ℕ) (bytes : List ℕ) (s : Sheet) (k : ℕ) (q : Refusal) → s ≡ sheetOf (exactly (sheetUpTo most) bytes) → s ≡ sheet.Broken k
+      → q ≡ placed 10 k → asked.Refused q ≡ askedOf most f bytes
+  unfolding askedOf askedBy
+  asked-malformed most bytes s k q h i j = rw (opens .0, ← h, i, j)
 
-  pub asked-changes : (bytes : List ℕ) (s : Sheet) (k : ℕ) → s ≡ sheetOf (exactly sheet bytes) → s ≡ sheet.Whole k
-      → asked.Changes (held .user + 4) (held .«user_tags») k ≡ askedOf f bytes
-  unfolding askedOf askedBy lookRefusal lookLines heldOf userTags changesOf
-  asked-changes bytes s k h i =
-      let (a, b) = sheet-is-good (exactly sheet bytes) k (sym h ∙ i) in
-      rw (opening-pass f (line 10 (isBad (exactly sheet bytes)) ∷ []) (opens-passes f (opens .0)) ∙ line-pass 10 _ _ a ∙ no-lines, opens .1, b)
+  pub asked-changes : (most : ℕ) (bytes : List ℕ) (s : Sheet) (k : ℕ) → s ≡ sheetOf (exactly (sheetUpTo most) bytes) → s ≡ sheet.Whole k
+      → asked.Changes (held .user + 4) (held .«user_tags») k ≡ askedOf most f bytes
+  unfolding askedOf askedBy heldOf userTags
+  asked-changes most bytes s k h i = rw (opens .0, ← h, i, opens .1)
+
+-- changes that are asked for: the file opens and the sheet is whole
+changes-asked : (f : List ℕ) (s : Sheet) (at n k r : ℕ) → askedBy r f s ≡ asked.Changes at n k
+    → (r ≡ 0) × (s ≡ sheet.Whole k) × (userOffset f + 4 ≡ at) × (length (userTags f) ≡ n)
+unfolding askedBy
+changes-asked f (sheet.Whole j) at n k zero e = (refl, ap sheet.Whole cc, cc, cc)
+changes-asked f (sheet.Broken p) at n k zero e = let z : _≡_ {A = ℕ} 0 1 = cc in absurd (omega arith)
+changes-asked f s at n k (suc r) e = let z : _≡_ {A = ℕ} 0 1 = cc in absurd (omega arith)
+
+-- a refusal: the file's, or the sheet's
+pub refused-asked : (f : List ℕ) (s : Sheet) (q : Refusal) (r : ℕ) {G : Type 0} → askedBy r f s ≡ asked.Refused q
+    → ((n : ℕ) → r ≡ suc n → q ≡ placed (suc n) (openingPlace (suc n) f) → G)
+    → ((p : ℕ) → r ≡ 0 → s ≡ sheet.Broken p → q ≡ placed 10 p → G) → G
+unfolding askedBy
+refused-asked f (sheet.Whole j) q zero e unopened malformed = let z : _≡_ {A = ℕ} 0 1 = cc in absurd (omega arith)
+refused-asked f (sheet.Broken p) q zero e unopened malformed = malformed p refl refl cc
+refused-asked f s q (suc n) e unopened malformed = unopened n refl cc
 
 -- ── What was asked for is legal ──
 
-pub record Stands (f bytes : List ℕ) (at n k : ℕ) : Type 0 where
-  pub accepted : lookRefusal f bytes ≡ 0
+-- of a sheet by the reader of what was seen
+pub record Asks {S : Type 0} (p : Reader S) (f bytes : List ℕ) (at n k : ℕ) : Type 0 where
+  pub opens : refusal f ≡ 0
   pub legal : Legal f at n bytes k
   pub tags : tagsAt f at n ≡ userTags f
-  pub changes : changesAt bytes 1 k ≡ changesOf bytes
-  pub count : length (changesOf bytes) ≡ k
+  pub changes : List (ChangeOf S)
+  pub size : ℕ
+  pub exact : exactly (sheetWith p) bytes ≡ good changes size
+  pub count : length changes ≡ k
+  pub taken : ℕ
+  pub read : times k (changeWith p) (drop 1 bytes) ≡ good changes taken
 
-accepted-stands : (f bytes : List ℕ) → lookRefusal f bytes ≡ 0 → Stands f bytes (userOffset f + 4) (length (userTags f)) (length (changesOf bytes))
-accepted-stands f bytes z =
-    let (o, h) = look-accepted f bytes .0 (look-number f bytes ∙ z) in
+pub asks : {S : Type 0} (p : Reader S) → LeadsEntry p → (f bytes : List ℕ) (at n k : ℕ)
+    → askedBy (refusal f) f (sheetOf (exactly (sheetWith p) bytes)) ≡ asked.Changes at n k → Asks p f bytes at n k
+asks p leads f bytes at n k e =
+    let (o, w, x, y) = changes-asked f (sheetOf (exactly (sheetWith p) bytes)) at n k (refusal f) e in
+    let (cs, m, g, c) = sheet-is-good (exactly (sheetWith p) bytes) k w in
     let (there, few, tags, apart, size, read, end) = user-stands f o in
-    let (most, changes, differ) = sheet-stands bytes h in
-    record {
-      accepted = z;
+    let (most, differ, taken, rows) = changes-stand p leads bytes cs m g in
+    rw (← x, ← y, ← c) (record {
+      opens = o;
       legal =
           record {
             tags = few;
@@ -204,36 +201,50 @@ accepted-stands f bytes z =
             differ = differ;
           };
       tags = tags;
-      changes = changes;
+      changes = cs;
+      size = m;
+      exact = g;
       count = refl;
+      taken = taken;
+      read = rows;
+    })
+
+pub asked-legal : (most : ℕ) (f bytes : List ℕ) (a : Asked) (at n k : ℕ) → a ≡ askedOf most f bytes → a ≡ asked.Changes at n k → Legal f at n bytes k
+unfolding askedOf sheetUpTo
+asked-legal most f bytes a at n k e g = asks (entryUpTo most) (up-to-leads most) f bytes at n k (sym e ∙ g) .legal
+
+-- ── What look and commit begin with ──
+
+pub record Stands (f bytes : List ℕ) (at n k : ℕ) : Type 0 where
+  pub accepted : lookRefusal f bytes ≡ 0
+  pub tags : tagsAt f at n ≡ userTags f
+  pub changes : changesAt bytes 1 k ≡ changesOf bytes
+  pub count : length (changesOf bytes) ≡ k
+
+pub stands : (f bytes : List ℕ) (a : Asked) (at n k : ℕ) → a ≡ askedOf 1 f bytes → a ≡ asked.Changes at n k → Stands f bytes at n k
+unfolding askedOf sheetUpTo entryUpTo entryPart sheet changesOf valueOr
+stands f bytes a at n k e g =
+    let w = asks entryPart (up-to-leads 1) f bytes at n k (sym e ∙ g) in
+    let x = w .exact in
+    record {
+      accepted = sym (look-number f bytes) ∙ look-accepted f bytes .1 (w .opens, rw x);
+      tags = w .tags;
+      changes = rw x (changes-are bytes 1 k (w .taken) (w .changes) (w .read));
+      count = rw x (w .count);
     }
 
-at-numbers : (f bytes : List ℕ) (at n k : ℕ) → userOffset f + 4 ≡ at → length (userTags f) ≡ n → length (changesOf bytes) ≡ k
-    → Stands f bytes (userOffset f + 4) (length (userTags f)) (length (changesOf bytes)) → Stands f bytes at n k
-at-numbers f bytes at n k x y w s = rw (← x, ← y, ← w) s
-
-changes-asked : (f bytes : List ℕ) (at n k r : ℕ) → askedBy r f bytes ≡ asked.Changes at n k
-    → (r ≡ 0) × (userOffset f + 4 ≡ at) × (length (userTags f) ≡ n) × (length (changesOf bytes) ≡ k)
-unfolding askedBy
-changes-asked f bytes at n k zero e = (refl, cc, cc, cc)
-changes-asked f bytes at n k (suc r) e = let z : _≡_ {A = ℕ} 0 1 = cc in absurd (omega arith)
-
-pub stands : (f bytes : List ℕ) (a : Asked) (at n k : ℕ) → a ≡ askedOf f bytes → a ≡ asked.Changes at n k → Stands f bytes at n k
-unfolding askedOf
-stands f bytes a at n k e g =
-    let (z, x, y, w) = changes-asked f bytes at n k (lookRefusal f bytes) (sym e ∙ g) in
-    at-numbers f bytes at n k x y w (accepted-stands f bytes z)
-
-pub asked-legal : (f bytes : List ℕ) (a : Asked) (at n k : ℕ) → a ≡ askedOf f bytes → a ≡ asked.Changes at n k → Legal f at n bytes k
-asked-legal f bytes a at n k e g = stands f bytes a at n k e g .legal
+-- opening has no 10
+opening-place : (f bytes : List ℕ) (n : ℕ) → refusal f ≡ n → lookPlace n f bytes ≡ openingPlace n f
+unfolding refusal openingLines frontLines without lookPlace
+opening-place f bytes n e = rw (ne-eqb n 10 (λ z. lines-not (openingLines f) 10 refl (λ o. omega arith) (e ∙ z)))
 
 -- a refusal is look's
-pub asked-refused : (f bytes : List ℕ) (a : Asked) (q : Refusal) → a ≡ askedOf f bytes → a ≡ asked.Refused q
+pub asked-refused : (f bytes : List ℕ) (a : Asked) (q : Refusal) → a ≡ askedOf 1 f bytes → a ≡ asked.Refused q
     → (n : ℕ) × (lookRefusal f bytes ≡ suc n) × (q ≡ placed (suc n) (lookPlace (suc n) f bytes))
-unfolding askedOf askedBy
-asked-refused f bytes a q e g = go (lookRefusal f bytes) refl (sym e ∙ g)
-  where
-    go : (r : ℕ) → lookRefusal f bytes ≡ r → askedBy r f bytes ≡ asked.Refused q
-        → (n : ℕ) × (lookRefusal f bytes ≡ suc n) × (q ≡ placed (suc n) (lookPlace (suc n) f bytes))
-    go zero h i = let z : _≡_ {A = ℕ} 0 1 = cc in absurd (omega arith)
-    go (suc n) h i = (n, h, cc)
+unfolding askedOf sheetUpTo entryUpTo entryPart sheet lookRefusal lookLines lookPlace refusal
+asked-refused f bytes a q e g =
+    refused-asked f (sheetOf (exactly sheet bytes)) q (refusal f) (sym e ∙ g)
+    (λ n o i. (n, lines-first (openingLines f) _ n o, i ∙ ap (placed (suc n)) (sym (opening-place f bytes (suc n) o))))
+    (λ p o w i.
+    let (b, c) = sheet-is-bad (exactly sheet bytes) p w in
+    (9, opening-pass f _ (opens-passes f o) ∙ line-holds 10 _ _ b, i ∙ ap (placed 10) (sym c)))

@@ -11,7 +11,7 @@ use lib.Pow.{pow-mono}
 use lib.Count.{trailingZeros, under}
 use borrow.Author.Tests.{lt-ltb, le-ltb}
 use Rattle.layout.specs.Recording.{Tag}
-use Rattle.layout.specs.Saving.{Change, conflicts, someConflict, conflictPlace, bits}
+use Rattle.layout.specs.Saving.{Change, conflicts, some, lowest, someConflict, conflictPlace, bits}
 use Rattle.layout.proofs.Looked.{halved, lowest-is, bits-some, bits-few}
 
 module _ (ts : List Tag) where
@@ -23,7 +23,7 @@ module _ (ts : List Tag) where
 
   -- the lowest bit is that of the lowest place
   lowest-bit : (d : ℕ) (cs : List Change) → length cs ≤ d → someConflict ts cs ≡ true → trailingZeros d (bits (map (conflicts ts) cs)) ≡ conflictPlace ts cs
-  unfolding trailingZeros bits someConflict conflictPlace
+  unfolding trailingZeros bits some lowest
   lowest-bit d [] h e = let z : _≡_ {A = ℕ} 0 1 = cc in absurd (omega arith)
   lowest-bit zero (c ∷ cs) h e = absurd (omega arith)
   lowest-bit (suc d) (c ∷ cs) h e = go (conflicts ts c) (bits (map (conflicts ts) cs)) (lowest-bit d cs (omega arith)) e

@@ -3,11 +3,15 @@ use Prim.Native.Nat.{ℕ, zero, suc, _+_}
 use mathlib.Core.Bool.{cond}
 use mathlib.Core.List.{List, map}
 use lib.ListN.{length}
-use Rattle.layout.specs.Opening.{userOffset}
+use Rattle.layout.specs.Reading.{exactly}
+use Rattle.layout.specs.Opening.{refusal, openingPlace, userOffset}
 use Rattle.layout.specs.Recorder.{filled}
-use Rattle.layout.specs.Saving.{changesOf, conflicts, someConflict, conflictPlace, userTags, lookRefusal, lookPlace, Look, look, bits, Commit, commit}
+use Rattle.layout.specs.Saving.{conflicts, someConflict, conflictPlace, userTags, Look, look, bits, Commit, commit}
 use Rattle.layout.specs.Saving as Layout
+use Rattle.sheet.specs.Sheet.{sheetUpTo, sheetOf}
 use Rattle.sheet.specs.Rows.{tagsAt, changesAt}
+use Rattle.sheet.specs.declared.Sheet.{Sheet}
+use Rattle.sheet.specs.declared.Sheet.the-variants as sheet
 use Rattle.apply.specs.Applied.{Applying, appliedTo}
 use Rattle.apply.specs.declared.Applied.{Applied}
 use Rattle.apply.specs.declared.Applied.the-variants as applied
@@ -19,15 +23,17 @@ use Rattle.saving.specs.declared.Looked.the-variants as looked
 use Rattle.saving.specs.declared.Committed.{Committed}
 use Rattle.saving.specs.declared.Committed.the-variants as committed
 
--- ── What both begin with ──
+-- ── What all begin with ──
 
--- the tags of the user table, behind its number, and the changes of the sheet; or look's number and its place
-unfoldable pub askedBy : (refused : ℕ) → (f sheet : List ℕ) → Asked
-askedBy zero f bytes = asked.Changes (userOffset f + 4) (length (userTags f)) (length (changesOf bytes))
-askedBy (suc n) f bytes = asked.Refused (placed (suc n) (lookPlace (suc n) f bytes))
+-- the tags of the user table, behind its number, and the changes of the sheet; or the number and its place
+unfoldable pub askedBy : (refused : ℕ) → (f : List ℕ) → Sheet → Asked
+askedBy zero f (sheet.Whole k) = asked.Changes (userOffset f + 4) (length (userTags f)) k
+askedBy zero f (sheet.Broken p) = asked.Refused (placed 10 p)
+askedBy (suc n) f s = asked.Refused (placed (suc n) (openingPlace (suc n) f))
 
-unfoldable pub askedOf : (f sheet : List ℕ) → Asked
-askedOf f bytes = askedBy (lookRefusal f bytes) f bytes
+-- of a sheet in which the kinds of what was seen go up to `most`
+unfoldable pub askedOf : (most : ℕ) → (f sheet : List ℕ) → Asked
+askedOf most f bytes = askedBy (refusal f) f (sheetOf (exactly (sheetUpTo most) bytes))
 
 -- ── To look ──
 

@@ -10,8 +10,9 @@ ghost use lib.ListN.{length};
 ghost use Rattle.saving.specs.Answers.{askedOf, setIn, lookOf, outcome, answerOf, committedIn, commitOf};
 ghost use Rattle.saving.specs.Begun.{Legal, Begun};
 
-// What a sheet asks of a file: so many changes of the `tags` tags that stand from `at` on.
-enum Asked {
+// What a sheet asks of a file: so many changes of the `tags` tags that stand from `at` on; or the refusal, whose place is in the file for 3, 4 and 7 and in
+// the sheet for 10.
+pub enum Asked {
     Changes {
         at: usize,
         tags: usize,
@@ -20,8 +21,7 @@ enum Asked {
     Refused(Refusal),
 }
 
-// What look answers: the number of changes, and the set of those that conflict, the first one's bit lowest; or the refusal, whose place is in the file for 3,
-// 4 and 7 and in the sheet for 10.
+// What look answers: the number of changes, and the set of those that conflict, the first one's bit lowest; or the refusal.
 pub enum Looked {
     Changes(usize, u64),
     Refused(Refusal),
@@ -33,15 +33,15 @@ pub enum Committed {
     Refused(Refusal),
 }
 
-// What look and commit begin with: 1 to 7, 10.
-fn asked_of(file: &[u8], sheet: &[u8]) -> Asked
-    ensures { λ r. ⌜ r ≡ askedOf (now (file .entry)) (now (sheet .entry)) ⌝ }
+// What look and commit begin with: 1 to 7, 10. The kinds of what was seen go up to `most`.
+pub fn asked_of(file: &[u8], sheet: &[u8], most: usize) -> Asked
+    ensures { λ r. ⌜ r ≡ askedOf most (now (file .entry)) (now (sheet .entry)) ⌝ }
 {
     let opening = opening::open(file);
     let Opening::Opened(held) = opening else {
         return Asked::Refused(opening::open_refusal(opening));
     };
-    match sheet::changes_of(sheet) {
+    match sheet::changes_of(sheet, most) {
         Sheet::Whole(changes) => Asked::Changes {
             at: held.user + 4,
             tags: held.user_tags,
@@ -81,7 +81,7 @@ fn conflicts(table: &[u8], at: usize, n: usize, sheet: &[u8], changes: usize) ->
 pub fn look(file: &[u8], sheet: &[u8]) -> Looked
     ensures { λ r. ⌜ r ≡ lookOf (now (file .entry)) (now (sheet .entry)) ⌝ }
 {
-    match asked_of(file, sheet) {
+    match asked_of(file, sheet, sheet::MOST_SEEN) {
         Asked::Changes { at, tags, changes } => {
             Looked::Changes(changes, conflicts(file, at, tags, sheet, changes))
         }
@@ -148,7 +148,7 @@ fn commit_changes(
 pub fn commit(file: &[u8], sheet: &[u8], out: &mut [u8]) -> Committed
     ensures { λ r. ⌜ outcome r (now (out .exit)) ≡ commitOf (now (file .entry)) (now (sheet .entry)) (now (out .entry)) ⌝ }
 {
-    match asked_of(file, sheet) {
+    match asked_of(file, sheet, sheet::MOST_SEEN) {
         Asked::Changes { at, tags, changes } => {
             commit_changes(file, at, tags, sheet, changes, out)
         }

@@ -1,5 +1,6 @@
 // The vectors of saving: runs those that its arguments name, and prints a line for each.
 // tests/VECTORS.md says what a vector holds and how its line reads.
+use converting::Converted;
 use refusal::Refusal;
 use saving::Committed;
 use saving::Looked;
@@ -16,6 +17,8 @@ use vector::sweep::turn_length;
 use vector::sweep::turns;
 
 const COMMIT: u8 = b'm';
+
+const CONVERT: u8 = b'v';
 
 const LOOK: u8 = b'l';
 
@@ -45,7 +48,28 @@ fn committed(file: &[u8], sheet: &[u8], out: &mut [u8]) {
     with_check(b" out ", out);
 }
 
-// A look and a commit have the same fields, of which the room is commit's alone.
+fn new_sheet(converted: Converted) {
+    match converted {
+        Converted::Sheet(length) => with(b"converted ", length as u64),
+        Converted::Refused(refusal) => refused(refusal),
+    }
+}
+
+fn converted(file: &[u8], sheet: &[u8], out: &mut [u8]) {
+    new_sheet(converting::convert(file, sheet, out));
+    with_check(b" out ", out);
+}
+
+// A conversion or a commit: both write what they answer.
+fn written(kind: u8, file: &[u8], sheet: &[u8], out: &mut [u8]) {
+    if kind == CONVERT {
+        converted(file, sheet, out);
+        return;
+    }
+    committed(file, sheet, out);
+}
+
+// A look, a commit and a conversion have the same fields, of which a look does not use the room.
 fn call(kind: u8, fields: &[u8]) {
     if fields.len() < 4 {
         no_vector();
@@ -65,7 +89,7 @@ fn call(kind: u8, fields: &[u8]) {
     let mut space = lent(0x5A);
     let out: &mut [u8] = &mut space;
     if room <= out.len() {
-        committed(&given[length..], &given[..length], &mut out[..room]);
+        written(kind, &given[length..], &given[..length], &mut out[..room]);
     }
 }
 
@@ -87,6 +111,13 @@ fn refusal_of(committed: Committed) -> Refusal {
     Refusal::NONE
 }
 
+fn refusal_of_conversion(converted: Converted) -> Refusal {
+    if let Converted::Refused(refusal) = converted {
+        return refusal;
+    }
+    Refusal::NONE
+}
+
 // A look, then a commit.
 fn both(file: &[u8], sheet: &[u8], before: Tally) -> Tally {
     let mut out = [0; 512];
@@ -95,12 +126,20 @@ fn both(file: &[u8], sheet: &[u8], before: Tally) -> Tally {
     vector::sweep::tried(looked, refusal_of(committed))
 }
 
+// Behind them a conversion, with an output of its own.
+fn all(file: &[u8], sheet: &[u8], before: Tally) -> Tally {
+    let mut out = [0; 512];
+    let committed = both(file, sheet, before);
+    let converted = converting::convert(file, sheet, &mut out);
+    vector::sweep::tried(committed, refusal_of_conversion(converted))
+}
+
 // A sweep changes the sheet or the file, and leaves the other as it is.
 fn tried(kind: u8, bytes: &[u8], other: &[u8], before: Tally) -> Tally {
     if kind == SWEEP_OF_SHEET {
-        return both(other, bytes, before);
+        return all(other, bytes, before);
     }
-    both(bytes, other, before)
+    all(bytes, other, before)
 }
 
 // Each turn of a sweep.
@@ -156,7 +195,7 @@ fn answer(vector: &[u8]) {
     }
     let fields = &vector[1..];
     match vector[0] {
-        COMMIT | LOOK => call(vector[0], fields),
+        COMMIT | CONVERT | LOOK => call(vector[0], fields),
         SWEEP_OF_FILE | SWEEP_OF_SHEET => swept(vector[0], fields),
         _ => no_vector(),
     }

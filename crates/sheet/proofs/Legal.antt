@@ -2,23 +2,22 @@
 -- Assumes nothing.
 use Prim.Native.Nat.{ℕ, zero, suc, _+_, _≤_}
 use native.Mathlib.Omega.{arith}
-use mathlib.Core.Path.{_≡_, refl, ap, sym, _∙_}
+use mathlib.Core.Path.{_≡_, ap, sym, _∙_}
 use mathlib.Core.Bool.{Bool, true, false, cond}
 use mathlib.Core.List.{List, [], _∷_}
 use lib.ListN.{length, take, drop, getD}
-use lib.Dec.{eqb, ltb}
-use borrow.Author.Tests.{eqb-true, lt-ltb, le-ltb}
+use lib.Dec.{eqb}
 use Rattle.number.specs.Number.{numberOf}
 use Rattle.layout.specs.Recording.{Tag, shortString, within}
 use Rattle.layout.specs.Reading.{Reader, good, onward, _then_, give, times, number, string, tagName, tagValue, tag, valueOr}
-use Rattle.layout.specs.Saving.{Entry, Seen, Change, absent, holds, saw, nobodyLooked, change, entryOf, seenOf, kind, seenPart, newPart, malformed}
+use Rattle.layout.specs.Saving.{Entry, Change, absent, holds, changeWith, entryOf, kind, entryPart}
 use Rattle.layout.proofs.Readers.{number-good}
-use Rattle.rows.specs.Rows.{entry, rowName}
+use Rattle.rows.specs.Rows.{entry, entryUpTo, rowName}
 use Rattle.rows.specs.declared.Row.{Row}
 use Rattle.rows.specs.declared.Row.the-variants as row
 use Rattle.strings.proofs.Named.{name-keeps, value-keeps}
 use Rattle.parts.proofs.Taken.{then-parts, give-parts, only-parts}
-use Rattle.names.proofs.Readers.{tag-row, change-row, kind-leads, seen-leads}
+use Rattle.names.proofs.Readers.{tag-row, change-row, up-to-leads}
 use Rattle.tables.proofs.Places.{string-taken}
 use Rattle.parts.proofs.Times.{times-parts}
 use Rattle.sheet.specs.Rows.{rows, rowWith, textEntry, textIn, entryIn, entryBehind, newIn, tagWithName, changeWithName, tagsAt, changesAt}
@@ -79,54 +78,25 @@ kind-byte most u k a e = go u (number-good 1 u k a (only-parts (within 0 most) (
 abbrev byKind : ℕ → List ℕ → Entry
 byKind kind t = cond (eqb kind 1) (textIn t) absent
 
-entry-of-kind : (kind b : ℕ) (t : List ℕ) (en : Entry) → entryOf kind t ≡ good en b → (byKind kind t ≡ en) × (kind ≤ 1)
-unfolding entryOf malformed give textIn textEntry
-entry-of-kind kind b t en e = go (eqb kind 0) (eqb kind 1) refl refl e
+entry-of-kind : (kind b : ℕ) (t : List ℕ) (en : Entry) → entryOf kind t ≡ good en b → byKind kind t ≡ en
+unfolding entryOf give textIn textEntry
+entry-of-kind kind b t en e = go (eqb kind 1) e
   where
-    go : (p q : Bool) → eqb kind 0 ≡ p → eqb kind 1 ≡ q → cond p (give absent)
-        (cond q (tagValue then λ v. give (holds v)) malformed) t ≡ good en b → (cond q (textEntry (string t)) absent ≡ en) × (kind ≤ 1)
-    go true true f g h = let z : _≡_ {A = ℕ} 0 1 = sym (eqb-true kind 0 f) ∙ eqb-true kind 1 g in absurd (omega arith)
-    go true false f g h = let z : kind ≡ 0 = eqb-true kind 0 f in (cc, omega arith)
-    go false true f g h =
-        let z : kind ≡ 1 = eqb-true kind 1 g in
-        give-parts tagValue holds t en b h (λ v i o. (rw (value-keeps .text t v b i) (sym o), omega arith))
-    go false false f g h = let z : _≡_ {A = ℕ} 0 1 = cc in absurd (omega arith)
+    go : (q : Bool) → cond q (tagValue then λ v. give (holds v)) (give absent) t ≡ good en b → cond q (textEntry (string t)) absent ≡ en
+    go true h = give-parts tagValue holds t en b h (λ v i o. rw (value-keeps .text t v b i) (sym o))
+    go false h = cc
 
-seen-of-kind : (kind b : ℕ) (t : List ℕ) (s : Seen) → seenOf kind t ≡ good s b → cond (ltb 1 kind) nobodyLooked (saw (byKind kind t)) ≡ s
-unfolding seenOf give
-seen-of-kind kind b t s e = go (eqb kind 2) refl e
-  where
-    go : (p : Bool) → eqb kind 2 ≡ p → cond p (give nobodyLooked) (entryOf kind then λ e. give (saw e)) t ≡ good s b
-        → cond (ltb 1 kind) nobodyLooked (saw (byKind kind t)) ≡ s
-    go true f h = let z : kind ≡ 2 = eqb-true kind 2 f in rw (lt-ltb 1 kind (omega arith)) (cc)
-    go false f h =
-        give-parts (entryOf kind) saw t s b h (λ en i o.
-        let (p, q) = entry-of-kind kind b t en i in
-        rw (le-ltb 1 kind q, p) (sym o))
-
-entry-reads : (u : List ℕ) (en : Entry) (d : ℕ) → newPart u ≡ good en d → entryIn u ≡ en
-unfolding entryIn newPart
-entry-reads u en d e =
-    then-parts (kind 1) entryOf u en d e (λ k a b f g h.
-    let (p, q) = kind-byte 1 u k a f in
-    rw (p) (ap (λ (z : ℕ). byKind k (drop z u)) (sym q) ∙ entry-of-kind k b (drop a u) en g .0))
-
-seen-reads : (u : List ℕ) (s : Seen) (d : ℕ) → seenPart u ≡ good s d → cond (ltb 1 (getD u 0 0)) nobodyLooked (saw (entryIn u)) ≡ s
-unfolding entryIn seenPart
-seen-reads u s d e =
-    then-parts (kind 2) seenOf u s d e (λ k a b f g h.
-    let (p, q) = kind-byte 2 u k a f in
-    rw (p) (ap (λ (z : ℕ). cond (ltb 1 k) nobodyLooked (saw (byKind k (drop z u)))) (sym q) ∙ seen-of-kind k b (drop a u) s g))
+pub entry-reads : (most : ℕ) (u : List ℕ) (en : Entry) (d : ℕ) → entryUpTo most u ≡ good en d → entryIn u ≡ en
+unfolding entryIn entryUpTo
+entry-reads most u en d e =
+    then-parts (kind most) entryOf u en d e (λ k a b f g h.
+    let (p, q) = kind-byte most u k a f in
+    rw (p) (ap (λ (z : ℕ). byKind k (drop z u)) (sym q) ∙ entry-of-kind k b (drop a u) en g))
 
 -- ── A change ──
 
--- what was seen is an entry, as the bytes lead
-seen-entry : (u : List ℕ) (s : Seen) (d : ℕ) → seenPart u ≡ good s d → (r : List ℕ) × (entry u ≡ good r d)
-unfolding seenPart
-seen-entry = kind-leads seenOf seen-leads 2
-
-change-same : (t v r : List ℕ) (a c : ℕ) (s : Seen) (en : Entry) (x : Change) → string t ≡ good v a → entry (drop a t) ≡ good r c
-    → cond (ltb 1 (getD (drop a t) 0 0)) nobodyLooked (saw (entryIn (drop a t))) ≡ s → entryIn (drop c (drop a t)) ≡ en
+change-same : (t v r : List ℕ) (a c : ℕ) (s en : Entry) (x : Change) → string t ≡ good v a → entry (drop a t) ≡ good r c
+    → entryIn (drop a t) ≡ s → entryIn (drop c (drop a t)) ≡ en
     → x ≡ record { name = v; seen = s; new = en } → changeWithName (x .name) (drop (1 + length (x .name)) t) ≡ x
 unfolding changeWithName newIn entryBehind shortString
 change-same t v r a c s en x e f g h o =
@@ -134,20 +104,20 @@ change-same t v r a c s en x e f g h o =
     let d : 1 + length v ≡ a = omega arith in
     rw (o, d, f, g, h)
 
-pub change-follows : Follows change (rowWith row.Change changeWithName)
-unfolding change
+pub change-follows : Follows (changeWith entryPart) (rowWith row.Change changeWithName)
+unfolding changeWith entryPart entryUpTo
 change-follows t x n e =
-    row-follows row.Change changeWithName (x .name) t x n (change-row t x n e)
-    (then-parts tagName (λ name. seenPart then λ s. newPart then λ e. give (record { name = name; seen = s; new = e })) t x n e (λ v a b f g h.
-    then-parts seenPart (λ s. newPart then λ e. give (record { name = v; seen = s; new = e })) (drop a t) x b g (λ s c d i j k.
-    give-parts newPart (λ e. record { name = v; seen = s; new = e }) (drop c (drop a t)) x d j (λ en l o.
-    let (r, p) = seen-entry (drop a t) s c i in
-    change-same t v r a c s en x (name-keeps .text t v a f) p (seen-reads (drop a t) s c i) (entry-reads (drop c (drop a t)) en d l) o))))
+    row-follows row.Change changeWithName (x .name) t x n (change-row entryPart (up-to-leads 1) t x n e)
+    (then-parts tagName (λ name. entryPart then λ s. entryPart then λ e. give (record { name = name; seen = s; new = e })) t x n e (λ v a b f g h.
+    then-parts entryPart (λ s. entryPart then λ e. give (record { name = v; seen = s; new = e })) (drop a t) x b g (λ s c d i j k.
+    give-parts entryPart (λ e. record { name = v; seen = s; new = e }) (drop c (drop a t)) x d j (λ en l o.
+    let (r, p) = up-to-leads 1 (drop a t) s c i in
+    change-same t v r a c s en x (name-keeps .text t v a f) p (entry-reads 1 (drop a t) s c i) (entry-reads 1 (drop c (drop a t)) en d l) o))))
 
 -- ── A legal table and a sheet ──
 
 pub tags-are : (s : List ℕ) (at n m : ℕ) (ts : List Tag) → times n tag (drop at s) ≡ good ts m → tagsAt s at n ≡ ts
 tags-are s at n m ts e = rows-times tag (rowWith row.Tag tagWithName) tag-follows n (drop at s) ts m e
 
-pub changes-are : (s : List ℕ) (at n m : ℕ) (cs : List Change) → times n change (drop at s) ≡ good cs m → changesAt s at n ≡ cs
-changes-are s at n m cs e = rows-times change (rowWith row.Change changeWithName) change-follows n (drop at s) cs m e
+pub changes-are : (s : List ℕ) (at n m : ℕ) (cs : List Change) → times n (changeWith entryPart) (drop at s) ≡ good cs m → changesAt s at n ≡ cs
+changes-are s at n m cs e = rows-times (changeWith entryPart) (rowWith row.Change changeWithName) change-follows n (drop at s) cs m e

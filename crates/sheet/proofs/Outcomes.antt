@@ -12,6 +12,7 @@ use Rattle.outcome.specs.Outcome.{Determines, agree}
 use Rattle.sheet.proofs.changes_of
 use Rattle.sheet.proofs.entry_value
 use Rattle.sheet.proofs.new_value
+use Rattle.sheet.proofs.held_value
 
 module _ {M : Type 1} (𝓤 : URA M) (H : Heap 𝓤) (A : Atoms 𝓤) (mem : Memory → SProp 𝓤) (run : Routine → Fun 𝓤) where
   pub changes-of-one : Determines 𝓤 «changes_of».ended («changes_of».clauses 𝓤 H A mem run)
@@ -22,3 +23,6 @@ module _ {M : Type 1} (𝓤 : URA M) (H : Heap 𝓤) (A : Atoms 𝓤) (mem : Mem
 
   pub new-value-one : Determines 𝓤 «new_value».ended («new_value».clauses 𝓤 H A mem run)
   new-value-one κs a g x y v w = agree 𝓤 (λ p q. (p ∙ sym q, refl))
+
+  pub held-value-one : Determines 𝓤 «held_value».ended («held_value».clauses 𝓤 H A mem run)
+  held-value-one κs a g x y v w = agree 𝓤 (λ p q. (p ∙ sym q, refl))

@@ -29,9 +29,10 @@ use Rattle.rows.specs.declared.RowPlace.the-variants as rowPlace
 use Rattle.strings.proofs.Laws.{string-parts, textOf-broken, part-length}
 use Rattle.rows.proofs.Laws.{row-parts, row-broken}
 use Rattle.parts.proofs.Taken.{then-parts, give-parts}
+use Rattle.names.proofs.Laws.{row-name-place}
 use Rattle.tables.proofs.Places.{string-taken}
-use Rattle.sheet.specs.Rows.{rowWith, textEntry, textIn, entryIn, entryBehind, newIn, tagWithName, made, tagHolds}
-use Rattle.sheet.specs.Values.{textValue, entryValue, valueBehind, newValue, valueIn, Stands, Finds}
+use Rattle.sheet.specs.Rows.{rowWith, textEntry, textIn, entryIn, entryBehind, newIn, tagWithName, made, tagHolds, tagEntry}
+use Rattle.sheet.specs.Values.{textValue, entryValue, valueBehind, newValue, valueOfRow, rowValue, heldValue, valueIn, Stands, Finds}
 use Rattle.sheet.specs.declared.Value.{Value}
 use Rattle.sheet.specs.declared.Value.the-variants as value
 
@@ -184,6 +185,37 @@ pub tag-row-end : (s : List ℕ) (at len end : ℕ) (r : RowPlace) → r ≡ row
     → at + 1 + len + 1 ≤ end
 tag-row-end s at len end r e f = tag-row-parts s at len end (sym e ∙ f) .0
 
+-- what a tag holds is the value of its row
+pub held-finds : (s : List ℕ) (tag : ℕ) (v : Value) → v ≡ heldValue s tag → Finds s v (tagEntry s tag)
+unfolding heldValue rowValue valueOfRow tagEntry valueIn Stands
+held-finds s tag v e = rw e (go (eqb tag 0))
+  where
+    found : (r : RowPlace) → rowOf tag (rowName row.Tag (drop tag s)) ≡ r → Finds s (valueOfRow tag r) (tagHolds (rowWith row.Tag tagWithName (drop tag s)))
+    found (rowPlace.Whole len end) h = tag-row-value s tag len end (rowPlace.Whole len end) (sym h) refl
+    found rowPlace.Broken h = tag-row-broken s tag rowPlace.Broken (sym h) refl
+
+    go : (b : Bool) → Finds s (cond b value.Nothing (valueOfRow tag (rowOf tag (rowName row.Tag (drop tag s)))))
+        (cond b absent (tagHolds (rowWith row.Tag tagWithName (drop tag s))))
+    go true = record { found = refl; there = refl }
+    go false = found (rowOf tag (rowName row.Tag (drop tag s))) refl
+
+pub row-value-broken : (s : List ℕ) (at : ℕ) (r : RowPlace) → r ≡ rowOf at (rowName row.Tag (drop at s)) → r ≡ rowPlace.Broken → value.Nothing ≡ rowValue s at
+unfolding rowValue valueOfRow
+row-value-broken s at r e f = rw (← e, f)
+
+pub row-value-there : (s : List ℕ) (at len end : ℕ) (r : RowPlace) → r ≡ rowOf at (rowName row.Tag (drop at s)) → r ≡ rowPlace.Whole len end
+    → value.At (at + 1 + len) (end - (at + 1 + len + 1)) ≡ rowValue s at
+unfolding rowValue valueOfRow
+row-value-there s at len end r e f = rw (← e, f)
+
+pub held-none : (s : List ℕ) (tag : ℕ) → tag ≡ 0 → value.Nothing ≡ heldValue s tag
+unfolding heldValue
+held-none s tag e = rw e
+
+pub held-there : (s : List ℕ) (tag : ℕ) (v : Value) → (tag ≡ 0 → ⊥) → v ≡ rowValue s tag → v ≡ heldValue s tag
+unfolding heldValue
+held-there s tag v h e = rw (ne-eqb tag 0 h) e
+
 pub row-fits-2 : (k : Row) (s : List ℕ) (at len end : ℕ) (r : RowPlace) → length s < 2 ^ 64 → r ≡ rowOf at (rowName k (drop at s))
     → r ≡ rowPlace.Whole len end → Fits w64 (at + 1 + len)
 row-fits-2 k s at len end r h e f = let l = row-parts k s at len end (sym e ∙ f) .0 in record { fits = omega arith }
@@ -192,4 +224,20 @@ pub tag-fits-3 : (s : List ℕ) (at len end : ℕ) (r : RowPlace) → length s <
     → r ≡ rowPlace.Whole len end → Fits w64 (at + 1 + len + 1)
 tag-fits-3 s at len end r h e f = let (a, b, c) = tag-row-parts s at len end (sym e ∙ f) in record { fits = omega arith }
 
-pub ruleset laws = (needs, entry-past, entry-text-broken, entry-text, entry-none, new-broken, new-there)
+pub ruleset laws = (
+  needs,
+  entry-past,
+  entry-text-broken,
+  entry-text,
+  entry-none,
+  new-broken,
+  new-there,
+  row-fits-2,
+  tag-row-end,
+  tag-fits-3,
+  row-name-place,
+  row-value-broken,
+  row-value-there,
+  held-none,
+  held-there,
+)

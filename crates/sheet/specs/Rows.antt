@@ -3,10 +3,10 @@ use Prim.Native.Nat.{ℕ, zero, suc, _+_}
 use mathlib.Core.Bool.{cond}
 use mathlib.Core.List.{List, [], _∷_}
 use lib.ListN.{length, drop, getD}
-use lib.Dec.{eqb, ltb}
+use lib.Dec.{eqb}
 use Rattle.layout.specs.Recording.{Tag}
 use Rattle.layout.specs.Reading.{Parsed, bad, good, Reader, onward, string, valueOr}
-use Rattle.layout.specs.Saving.{Entry, absent, holds, saw, nobodyLooked, Change}
+use Rattle.layout.specs.Saving.{Entry, absent, holds, Change}
 use Rattle.rows.specs.Rows.{entry, rowName}
 use Rattle.rows.specs.declared.Row.{Row}
 use Rattle.rows.specs.declared.Row.the-variants as row
@@ -44,8 +44,7 @@ unfoldable pub tagWithName : List ℕ → List ℕ → Tag
 tagWithName name t = record { name = name; value = valueOr [] (string t) }
 
 unfoldable pub changeWithName : List ℕ → List ℕ → Change
-changeWithName name t =
-    record { name = name; seen = cond (ltb 1 (getD t 0 0)) nobodyLooked (saw (entryIn t)); new = newIn t }
+changeWithName name t = record { name = name; seen = entryIn t; new = newIn t }
 
 -- the n tags that stand from a place on
 abbrev pub tagsAt : List ℕ → (at n : ℕ) → List Tag
@@ -68,6 +67,10 @@ tagHolds = made (λ t. holds (t .value)) absent
 
 abbrev pub changeMakes : Parsed Change → Entry
 changeMakes = made (λ c. c .new) absent
+
+-- what the tag at a place holds; nothing for place 0, where none stands
+unfoldable pub tagEntry : (table : List ℕ) → (tag : ℕ) → Entry
+tagEntry table tag = cond (eqb tag 0) absent (tagHolds (rowWith row.Tag tagWithName (drop tag table)))
 
 -- ── Rows with a place beside each ──
 

@@ -1,5 +1,5 @@
 -- The value that an entry names, by its place in the bytes.
-use Prim.Native.Nat.{ℕ, _+_}
+use Prim.Native.Nat.{ℕ, _+_, _-_}
 use mathlib.Core.Path.{_≡_}
 use mathlib.Core.Bool.{cond}
 use mathlib.Core.List.{List}
@@ -13,7 +13,10 @@ use Rattle.strings.specs.declared.Text.the-variants as text
 use Rattle.parts.specs.Parts.{endOf}
 use Rattle.parts.specs.declared.Place.{Place}
 use Rattle.parts.specs.declared.Place.the-variants as place
-use Rattle.rows.specs.Rows.{entry}
+use Rattle.rows.specs.Rows.{entry, rowName, rowOf}
+use Rattle.rows.specs.declared.Row.the-variants as row
+use Rattle.rows.specs.declared.RowPlace.{RowPlace}
+use Rattle.rows.specs.declared.RowPlace.the-variants as rowPlace
 use Rattle.sheet.specs.declared.Value.{Value}
 use Rattle.sheet.specs.declared.Value.the-variants as value
 
@@ -33,6 +36,17 @@ valueBehind s place.Broken = value.Nothing
 
 unfoldable pub newValue : List ℕ → (seen : ℕ) → Value
 newValue s seen = valueBehind s (endOf seen (entry (drop seen s)))
+
+-- the value of the tag whose row stands at a place
+unfoldable pub valueOfRow : (place : ℕ) → RowPlace → Value
+valueOfRow place (rowPlace.Whole len end) = value.At (place + 1 + len) (end - (place + 1 + len + 1))
+valueOfRow place rowPlace.Broken = value.Nothing
+
+unfoldable pub rowValue : List ℕ → (place : ℕ) → Value
+rowValue s place = valueOfRow place (rowOf place (rowName row.Tag (drop place s)))
+
+unfoldable pub heldValue : List ℕ → (tag : ℕ) → Value
+heldValue s tag = cond (eqb tag 0) value.Nothing (rowValue s tag)
 
 -- ── What it says ──
 

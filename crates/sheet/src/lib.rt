@@ -1,15 +1,22 @@
-// A change sheet: how many changes it has, and the value that an entry of one names.
+// A change sheet: how many changes it has; the value that an entry of one names, and the one that a tag has.
 use header::Header;
 use parts::Place;
 use rows::Row;
+use rows::RowPlace;
 use strings::Text;
 ghost use mathlib.Core.Path.{_≡_};
 ghost use lib.ListN.{drop};
 ghost use Rattle.layout.specs.Reading.{times, exactly};
-ghost use Rattle.layout.specs.Saving.{entryOf, seenPart, newPart, change, sheet};
+ghost use Rattle.layout.specs.Saving.{entryOf};
+ghost use Rattle.rows.specs.Rows.{entryUpTo};
 ghost use Rattle.parts.specs.Parts.{endOf};
-ghost use Rattle.sheet.specs.Sheet.{sheetEndOf, sheetOf};
-ghost use Rattle.sheet.specs.Values.{entryValue, newValue};
+ghost use Rattle.sheet.specs.Sheet.{changeUpTo, sheetUpTo, sheetEndOf, sheetOf};
+ghost use Rattle.sheet.specs.Values.{entryValue, newValue, rowValue, heldValue};
+
+// The greatest kind of what was seen: in a sheet, and in one from before "2 nobody looked" was withdrawn.
+pub const MOST_SEEN: usize = 1;
+
+pub const MOST_SEEN_BEFORE: usize = 2;
 
 // A change sheet: its number of changes; or where its first fault is.
 pub enum Sheet {
@@ -27,9 +34,6 @@ pub enum Value {
 fn kind_end(s: &[u8], at: usize, kind: u8) -> Place
     ensures { λ r. ⌜ r ≡ endOf at (entryOf kind (drop at (now (s .entry)))) ⌝ }
 {
-    if kind == 0 {
-        return Place::End(at);
-    }
     if kind == 1 {
         let value = strings::tag_value(s, at);
         let Text::Whole(n) = value else {
@@ -37,55 +41,46 @@ fn kind_end(s: &[u8], at: usize, kind: u8) -> Place
         };
         return Place::End(at + 1 + n);
     }
-    Place::Broken
+    Place::End(at)
 }
 
-// A seen entry: an entry, or "2 nobody looked".
-fn seen_end(s: &[u8], at: usize) -> Place
-    ensures { λ r. ⌜ r ≡ endOf at (seenPart (drop at (now (s .entry)))) ⌝ }
+// An entry, whose kind goes up to `most`.
+fn entry_end(s: &[u8], at: usize, most: usize) -> Place
+    ensures { λ r. ⌜ r ≡ endOf at (entryUpTo most (drop at (now (s .entry)))) ⌝ }
 {
     if s.len() <= at {
         return Place::Broken;
     }
     let kind = s[at];
-    if kind == 2 {
-        return Place::End(at + 1);
+    if most < kind as usize {
+        return Place::Broken;
     }
     kind_end(s, at + 1, kind)
 }
 
-fn new_end(s: &[u8], at: usize) -> Place
-    ensures { λ r. ⌜ r ≡ endOf at (newPart (drop at (now (s .entry)))) ⌝ }
-{
-    if s.len() <= at {
-        return Place::Broken;
-    }
-    kind_end(s, at + 1, s[at])
-}
-
 // "per change a name; a seen kind ..; a new kind .."
-fn change_end(s: &[u8], at: usize) -> Place
-    ensures { λ r. ⌜ r ≡ endOf at (change (drop at (now (s .entry)))) ⌝ }
+fn change_end(s: &[u8], at: usize, most: usize) -> Place
+    ensures { λ r. ⌜ r ≡ endOf at (changeUpTo most (drop at (now (s .entry)))) ⌝ }
 {
     let name = strings::tag_name(s, at);
     let Text::Whole(n) = name else {
         return Place::Broken;
     };
-    let seen = seen_end(s, at + 1 + n);
+    let seen = entry_end(s, at + 1 + n, most);
     let Place::End(next) = seen else {
         return Place::Broken;
     };
-    new_end(s, next)
+    entry_end(s, next, 1)
 }
 
 // Where n changes end.
-fn changes_end(s: &[u8], at: usize, n: usize) -> Place
-    ensures { λ r. ⌜ r ≡ endOf at (times n change (drop at (now (s .entry)))) ⌝ }
+fn changes_end(s: &[u8], at: usize, n: usize, most: usize) -> Place
+    ensures { λ r. ⌜ r ≡ endOf at (times n (changeUpTo most) (drop at (now (s .entry)))) ⌝ }
 {
     let mut place = at;
     let mut left = n;
     while 0 < left {
-        let found = change_end(s, place);
+        let found = change_end(s, place, most);
         let Place::End(next) = found else {
             return Place::Broken;
         };
@@ -102,8 +97,8 @@ enum SheetEnd {
 }
 
 // "UInt8 number of changes, 0 to 64 ..; no name comes twice"
-fn sheet_end(s: &[u8]) -> SheetEnd
-    ensures { λ r. ⌜ r ≡ sheetEndOf (sheet (now (s .entry))) ⌝ }
+fn sheet_end(s: &[u8], most: usize) -> SheetEnd
+    ensures { λ r. ⌜ r ≡ sheetEndOf (sheetUpTo most (now (s .entry))) ⌝ }
 {
     if s.len() < 1 {
         return SheetEnd::Broken;
@@ -113,7 +108,7 @@ fn sheet_end(s: &[u8]) -> SheetEnd
     if Header::MOST_CHANGES < n {
         return SheetEnd::Broken;
     }
-    let changes = changes_end(s, 1, n);
+    let changes = changes_end(s, 1, n, most);
     let Place::End(end) = changes else {
         return SheetEnd::Broken;
     };
@@ -124,11 +119,11 @@ fn sheet_end(s: &[u8]) -> SheetEnd
     }
 }
 
-// The same, and "nothing follows the last change". A sheet that is refused is walked once more, for its first fault.
-pub fn changes_of(s: &[u8]) -> Sheet
-    ensures { λ r. ⌜ r ≡ sheetOf (exactly sheet (now (s .entry))) ⌝ }
+// The same, and "nothing follows the last change"; kinds of what was seen go up to `most`. A sheet that is refused is walked once more, for its first fault.
+pub fn changes_of(s: &[u8], most: usize) -> Sheet
+    ensures { λ r. ⌜ r ≡ sheetOf (exactly (sheetUpTo most) (now (s .entry))) ⌝ }
 {
-    match sheet_end(s) {
+    match sheet_end(s, most) {
         SheetEnd::Whole(n, end) => {
             if end == s.len() {
                 Sheet::Whole(n)
@@ -136,7 +131,7 @@ pub fn changes_of(s: &[u8]) -> Sheet
                 Sheet::Broken(end)
             }
         }
-        SheetEnd::Broken => Sheet::Broken(faults::first_fault(s, 0, Row::Change, 0)),
+        SheetEnd::Broken => Sheet::Broken(faults::first_fault(s, 0, Row::Change, most)),
     }
 }
 
@@ -166,4 +161,25 @@ pub fn new_value(s: &[u8], seen: usize) -> Value
         return Value::Nothing;
     };
     entry_value(s, at)
+}
+
+// The value of the tag at a place.
+fn row_value(table: &[u8], place: usize) -> Value
+    ensures { λ r. ⌜ r ≡ rowValue (now (table .entry)) place ⌝ }
+{
+    let row = rows::row_at(table, place, Row::Tag);
+    let RowPlace::Whole(len, end) = row else {
+        return Value::Nothing;
+    };
+    Value::At(place + 1 + len, end - (place + 1 + len + 1))
+}
+
+// What the tag at a place holds; nothing for place 0, where none stands.
+pub fn held_value(table: &[u8], tag: usize) -> Value
+    ensures { λ r. ⌜ r ≡ heldValue (now (table .entry)) tag ⌝ }
+{
+    if tag == 0 {
+        return Value::Nothing;
+    }
+    row_value(table, tag)
 }

@@ -12,6 +12,9 @@ returns c = search laws
 shared-slice-read-kind : tie.Need-shared-slice-read-kind
 shared-slice-read-kind c = search needs
 
+cast-if2 : tie.Need-cast-if2
+cast-if2 c = search laws
+
 returns-2 : tie.Need-returns-2
 returns-2 c = search laws
 
@@ -36,6 +39,7 @@ entry-at-spec =
     (tie.spec
     returns
     shared-slice-read-kind
+    cast-if2
     returns-2
     add-value-at
     value-at-requires

@@ -30,8 +30,8 @@ changes-of-requires c κs = search needs
 enum-known-changes : tie.Need-enum-known-changes
 enum-known-changes c = search needs
 
-add-t10 : tie.Need-add-t10
-add-t10 c = search laws
+add-t11 : tie.Need-add-t11
+add-t11 c = search laws
 
 enum-known-place : tie.Need-enum-known-place
 enum-known-place c = search needs
@@ -56,7 +56,7 @@ asked-of-spec =
     returns
     changes-of-requires
     enum-known-changes
-    add-t10
+    add-t11
     enum-known-place
     at-requires
     returns-2

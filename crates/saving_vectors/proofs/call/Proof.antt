@@ -6,7 +6,7 @@ use Rattle.saving_vectors.proofs.call.Reads as reads
 use Rattle.saving_vectors.proofs.call.Lts as lts
 use Rattle.number.proofs.read.Reads as read-reads
 use Rattle.saving.proofs.look.Reads as look-reads
-use Rattle.saving_vectors.proofs.committed.Reads as committed-reads
+use Rattle.saving_vectors.proofs.written.Reads as written-reads
 use Rattle.saving_vectors.proofs.conflicts.Reads as conflicts-reads
 use Rattle.vector.proofs.lend.lent.Reads as lent-reads
 use Rattle.vector.proofs.print.no_vector.Reads as no-vector-reads
@@ -65,23 +65,23 @@ lent-requires c κs = search needs
 slice-aggregate-out : tie.Need-slice-aggregate-out
 slice-aggregate-out c = search needs
 
-sub-committed : tie.Need-sub-committed
-sub-committed c = search needs
+sub-written : tie.Need-sub-written
+sub-written c = search needs
 
-part-committed-start : tie.Need-part-committed-start
-part-committed-start c = search needs
+part-written-start : tie.Need-part-written-start
+part-written-start c = search needs
 
-part-committed-end : tie.Need-part-committed-end
-part-committed-end c = search needs
+part-written-end : tie.Need-part-written-end
+part-written-end c = search needs
 
-slice-aggregate-committed : tie.Need-slice-aggregate-committed
-slice-aggregate-committed c = search laws
+slice-aggregate-written : tie.Need-slice-aggregate-written
+slice-aggregate-written c = search laws
 
-slice-aggregate-committed-2 : tie.Need-slice-aggregate-committed-2
-slice-aggregate-committed-2 c = search laws
+slice-aggregate-written-2 : tie.Need-slice-aggregate-written-2
+slice-aggregate-written-2 c = search laws
 
-committed-requires : tie.Need-committed-requires
-committed-requires c κs = search needs
+written-requires : tie.Need-written-requires
+written-requires c κs = search needs
 
 returns-4 : tie.Need-returns-4
 returns-4 c = search needs
@@ -111,11 +111,11 @@ call-spec =
     returns-3
     lent-requires
     slice-aggregate-out
-    sub-committed
-    part-committed-start
-    part-committed-end
-    slice-aggregate-committed
-    slice-aggregate-committed-2
-    committed-requires
+    sub-written
+    part-written-start
+    part-written-end
+    slice-aggregate-written
+    slice-aggregate-written-2
+    written-requires
     returns-4
     returns-5)

@@ -4,8 +4,7 @@ use Rattle.sheet.proofs.change_end.Statement.{statement}
 use Rattle.sheet.proofs.change_end.Tie as tie
 use Rattle.sheet.proofs.change_end.Reads as reads
 use Rattle.sheet.proofs.change_end.Lts as lts
-use Rattle.sheet.proofs.new_end.Reads as new-end-reads
-use Rattle.sheet.proofs.seen_end.Reads as seen-end-reads
+use Rattle.sheet.proofs.entry_end.Reads as entry-end-reads
 use Rattle.strings.proofs.tag_name.Reads as tag-name-reads
 
 tag-name-requires : tie.Need-tag-name-requires
@@ -20,14 +19,14 @@ enum-told c = search needs
 returns : tie.Need-returns
 returns c = search laws
 
-add-seen-end : tie.Need-add-seen-end
-add-seen-end c = search laws
+add-entry-end : tie.Need-add-entry-end
+add-entry-end c = search laws
 
-add-seen-end-2 : tie.Need-add-seen-end-2
-add-seen-end-2 c = search laws
+add-entry-end-2 : tie.Need-add-entry-end-2
+add-entry-end-2 c = search laws
 
-seen-end-requires : tie.Need-seen-end-requires
-seen-end-requires c κs = search needs
+entry-end-requires : tie.Need-entry-end-requires
+entry-end-requires c κs = search needs
 
 enum-known-seen : tie.Need-enum-known-seen
 enum-known-seen c = search needs
@@ -38,8 +37,8 @@ enum-told-2 c = search needs
 returns-2 : tie.Need-returns-2
 returns-2 c = search laws
 
-new-end-requires : tie.Need-new-end-requires
-new-end-requires c κs = search needs
+entry-end-requires-2 : tie.Need-entry-end-requires-2
+entry-end-requires-2 c κs = search needs
 
 returns-3 : tie.Need-returns-3
 returns-3 c = search laws
@@ -52,11 +51,11 @@ change-end-spec =
     enum-known-name
     enum-told
     returns
-    add-seen-end
-    add-seen-end-2
-    seen-end-requires
+    add-entry-end
+    add-entry-end-2
+    entry-end-requires
     enum-known-seen
     enum-told-2
     returns-2
-    new-end-requires
+    entry-end-requires-2
     returns-3)

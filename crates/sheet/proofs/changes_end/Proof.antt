@@ -2,8 +2,8 @@ use borrow.Author.Needs.{needs}
 use mathlib.Core.Path.{_≡_}
 use lib.ListN.{drop}
 use Rattle.layout.specs.Reading.{times}
-use Rattle.layout.specs.Saving.{change}
 use Rattle.parts.specs.Parts.{endOf}
+use Rattle.sheet.specs.Sheet.{changeUpTo}
 use Rattle.sheet.proofs.Sheets.{laws}
 use Rattle.sheet.proofs.changes_end.Statement.{statement}
 use Rattle.sheet.proofs.changes_end.Tie as tie
@@ -12,10 +12,10 @@ use Rattle.sheet.proofs.changes_end.Lts as lts
 use Rattle.sheet.proofs.change_end.Reads as change-end-reads
 
 abbrev Inv-loop : tie.InvT-loop
-Inv-loop s at n place₀ left₀ place left = endOf place (times left change (drop place s)) ≡ endOf at (times n change (drop at s))
+Inv-loop s at n most place₀ left₀ place left = endOf place (times left (changeUpTo most) (drop place s)) ≡ endOf at (times n (changeUpTo most) (drop at s))
 
 abbrev μ-loop : tie.MeasureT-loop
-μ-loop s at n place₀ left₀ place left = left
+μ-loop s at n most place₀ left₀ place left = left
 
 loop-holds : tie.Need-loop-holds Inv-loop μ-loop
 loop-holds c = search needs

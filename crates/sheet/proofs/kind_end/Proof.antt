@@ -6,9 +6,6 @@ use Rattle.sheet.proofs.kind_end.Reads as reads
 use Rattle.sheet.proofs.kind_end.Lts as lts
 use Rattle.strings.proofs.tag_value.Reads as tag-value-reads
 
-returns : tie.Need-returns
-returns c = search laws
-
 tag-value-requires : tie.Need-tag-value-requires
 tag-value-requires c κs = search needs
 
@@ -18,8 +15,8 @@ enum-known-value c = search needs
 enum-told : tie.Need-enum-told
 enum-told c = search needs
 
-returns-2 : tie.Need-returns-2
-returns-2 c = search laws
+returns : tie.Need-returns
+returns c = search laws
 
 add-t7 : tie.Need-add-t7
 add-t7 c = search laws
@@ -27,22 +24,21 @@ add-t7 c = search laws
 add-t8 : tie.Need-add-t8
 add-t8 c = search laws
 
+returns-2 : tie.Need-returns-2
+returns-2 c = search laws
+
 returns-3 : tie.Need-returns-3
 returns-3 c = search laws
-
-returns-4 : tie.Need-returns-4
-returns-4 c = search laws
 
 pub kind-end-spec : {M : Type 1} → statement M
 kind-end-spec =
     tie.close
     (tie.spec
-    returns
     tag-value-requires
     enum-known-value
     enum-told
-    returns-2
+    returns
     add-t7
     add-t8
-    returns-3
-    returns-4)
+    returns-2
+    returns-3)
