@@ -14,8 +14,8 @@
  *   - `refused` is the number of the refusal, or 0; refused, all members behind `place` are 0, but for a recorder's state;
  *   - `place` is what the number carries beside it, and 0 for all others:
  *       3, 4, 7, 10: the position of the first fault under that number, reading front to back. It counts bytes from 0
- *           in the file: 3, 4 and 7 of fstf_open, fstf_frame, fstf_part, fstf_look and fstf_commit, 3 and 4 of fstf_repair;
- *           in the sheet: 10 of fstf_look and fstf_commit;
+ *           in the file: 3, 4 and 7 of fstf_open, fstf_frame, fstf_part, fstf_look, fstf_commit and fstf_convert, 3 and 4 of fstf_repair;
+ *           in the sheet: 10 of fstf_look, fstf_commit and fstf_convert;
  *           in the set-up list: 10 and 3 of fstf_begin;
  *           in the table that is lent: 4 of fstf_begin, 7 of fstf_tag_at, fstf_tag_named and fstf_first_tag;
  *       11: the lowest change of the sheet, from 0, that conflicts: its seen entry is not the table's.
@@ -27,12 +27,14 @@
  * The time of a call grows with the frames, the tags and the bytes of tables that it is given, and not with the bytes of sections that it only passes over.
  * Whoever chooses the names in a file can make opening it take longer than usual names of the same number and lengths would: at most 20 times, 17 in the
  * slowest file that was found. Where the file is refused it is read once more, for the place: that took up to 37 times as long as a usual file that opens.
- * Who chooses a sheet as well can make a look or a commit take some 40 times as long, 0.7 ms. These are measured (docs/PERFORMANCE.md), not proved. As compiled, a
- * call needs at most 70,000 bytes of stack.
+ * Who chooses a sheet as well can make a look, a commit or a convert take some 40 times as long, 0.7 ms. These are measured (docs/PERFORMANCE.md), not
+ * proved. As compiled, a call needs at most 70,000 bytes of stack.
  * Where a frame or a piece stands in the file is `start`. Headers without FSTF_VERSION called that `place`: a program written for one of them still compiles,
  * and would store every piece at 0. Write `start` there. Before 0.3.0, `place` was 0 for 3, 4, 7 and 10.
  * Before 0.4.0, fstf_commit was called fstf_save, its answer FstfSaved and its room FSTF_SAVE_ROOM; these names are gone. What the call takes and answers
  * has not changed: a program written for 0.3.0 writes the new names, and may call fstf_look ahead of it.
+ * Before 0.5.0, a change could say by seen kind 2 that nobody had looked, and was made whatever the file said. A sheet with one is refused 10 now: write what
+ * was seen, and take old sheets that still wait in a queue through fstf_convert. All else is as it was.
  */
 #ifndef FSTF_H
 #define FSTF_H
@@ -92,9 +94,9 @@ static inline const char *fstf_refusal_name(uint64_t refused) {
 }
 
 /* ── Version ── of this header and of the library that belongs to it. */
-#define FSTF_VERSION "0.4.0"
+#define FSTF_VERSION "0.5.0"
 #define FSTF_VERSION_MAJOR 0
-#define FSTF_VERSION_MINOR 4
+#define FSTF_VERSION_MINOR 5
 #define FSTF_VERSION_PATCH 0
 
 /* ── Places and limits of the format ── Numbers in a file have their low byte first. */
@@ -119,6 +121,7 @@ enum {
 };
 #define FSTF_LONGEST_SPAN UINT64_C(4294967295) /* milliseconds from the first frame to any other */
 #define FSTF_LARGEST_FILE (UINT64_C(1) << 40)  /* bytes of a recording, its user table at its largest */
+#define FSTF_LARGEST_SHEET UINT64_C(49281)     /* bytes of a sheet: 1, and for each of 64 changes a name, a kind and a value twice, all at their longest */
 
 /* ── Room ── how many bytes of `out`, and of `notes`, are enough whatever the call is given. */
 #define FSTF_BEGIN_ROOM(setup_length, system_length) (UINT64_C(81) + (setup_length) + (system_length))
@@ -131,6 +134,9 @@ enum {
     (UINT64_C(8) + UINT64_C(16) * ((file_length) / 20 < FSTF_MOST_FRAMES ? (file_length) / 20 : FSTF_MOST_FRAMES))
 /* A commit's table: no longer than the old table, from `user` to the file's end, and the sheet together. FSTF_LARGEST_TABLE bytes are always enough. */
 #define FSTF_COMMIT_ROOM(table_length, sheet_length) (UINT64_C(0) + (table_length) + (sheet_length))
+/* A converted sheet: for each change of which nobody looked, at most 64, a length and 255 bytes more than the old one. FSTF_LARGEST_SHEET bytes are always
+ * enough too. */
+#define FSTF_CONVERT_ROOM(sheet_length) (UINT64_C(0) + (sheet_length) + UINT64_C(16384))
 
 /* ── When to flush ── What is said of cuts below holds for storage that keeps the order of writes. A disk or a card behind a cache may store a later
  * write first. There, flush (fsync and the like) three times:
@@ -256,8 +262,9 @@ typedef struct {
 FstfRepaired fstf_repair(const uint8_t *file, size_t file_length, uint8_t *out, size_t out_length);
 
 /* ── Saving tags ── in two calls: a look, for a form to show what conflicts, and a commit. Both take a file and a change sheet: the number of changes in a
- * byte, at most 64; for each a name; what was seen (0 absent, 1 and a value, 2 nobody looked); what is new (0 absent, 1 and a value). A change conflicts
- * where the user table has something else under its name than was seen, and agrees where it has the same, or where nobody looked.
+ * byte, at most 64; for each a name; what was seen (0 absent, 1 and a value); what is new (0 absent, 1 and a value). A change conflicts where the user table
+ * has something else under its name than was seen, and agrees where it has the same. Kind 2, which old sheets have for what was seen where nobody looked, is
+ * refused 10 at that byte: convert such a sheet with fstf_convert against the file that it was prepared against.
  *
  * A look says of each change whether it agrees or conflicts. Refused 1 to 7, 10. The place of 3, 4 and 7 counts from the start of the file, that of 10 from
  * the start of the sheet. */
@@ -285,6 +292,24 @@ typedef struct {
 } FstfCommitted;
 
 FstfCommitted fstf_commit(const uint8_t *file, size_t file_length, const uint8_t *sheet, size_t sheet_length, uint8_t *out, size_t out_length);
+
+/* ── Old sheets ── from before 0.5.0 could say by seen kind 2 that nobody had looked. A convert takes one, and the file that it was prepared against, and
+ * hands out the same sheet with each kind 2 filled in from that file's user table: 0 where it has no tag of that name, 1 and the value where it has. All
+ * other bytes stay, and a sheet without kind 2 comes back as it is. Committed to that same file, in any room, the new sheet gives what the old one gave
+ * before 0.5.0, be it a table or a refusal. Committed to a file that another member has changed since, it is refused 11 where the old one would have written
+ * over the change. Do not convert against that later file: the sheet would say that its member saw what nobody did.
+ *
+ * Refused 1 to 7, 10, 9. The place of 3, 4 and 7 counts from the start of the file. 10 is for whatever breaks the rules of a sheet, but for kind 2; its place
+ * counts from the start of `sheet`, as that of a commit does. 11 and 17 are for the commit to find. The length is known before a byte is written: where it is
+ * refused, nothing was. FSTF_CONVERT_ROOM(sheet_length) bytes of `out` always suffice, and so do FSTF_LARGEST_SHEET. A call without room, `out` null and
+ * `out_length` 0, is refused 9 exactly where room is all that it lacks. */
+typedef struct {
+    uint64_t refused;
+    uint64_t place;
+    uint64_t length; /* how many bytes of `out` are the new sheet */
+} FstfConverted;
+
+FstfConverted fstf_convert(const uint8_t *file, size_t file_length, const uint8_t *sheet, size_t sheet_length, uint8_t *out, size_t out_length);
 
 /* ── Tags of a table ── `table` is exactly a table, as it stands in a file: else refused 7. The place counts from the start of `table`. */
 typedef struct {

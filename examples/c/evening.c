@@ -1,4 +1,4 @@
-/* An evening at the box: record a file, lose its end, repair it, tag it as two members with the same form, and find one bad character.
+/* An evening at the box: record a file, lose its end, repair it, tag it as two members with the same form, convert an old sheet, and find one bad character.
  *
  * evening DIRECTORY: the files stay in the directory. Every step is checked; the program ends with 1 where one is not as it should be. */
 #define _POSIX_C_SOURCE 200809L
@@ -244,9 +244,8 @@ static FstfLooked look(const char *path, const Change *changes, int count, const
 }
 
 /* The file is read anew, since somebody may have committed behind the look. */
-static FstfCommitted commit(const char *path, const Change *changes, int count) {
-    uint8_t sheet[SHEET_ROOM];
-    size_t length, sheet_length = make_sheet(sheet, changes, count);
+static FstfCommitted commit_sheet(const char *path, const uint8_t *sheet, size_t sheet_length) {
+    size_t length;
     uint8_t *file = read_whole(path, &length);
     FstfOpened opened = fstf_open(file, length);
     taken(opened.refused, opened.place, path);
@@ -259,6 +258,11 @@ static FstfCommitted commit(const char *path, const Change *changes, int count) 
     free(table);
     free(file);
     return committed;
+}
+
+static FstfCommitted commit(const char *path, const Change *changes, int count) {
+    uint8_t sheet[SHEET_ROOM];
+    return commit_sheet(path, sheet, make_sheet(sheet, changes, count));
 }
 
 /* Two members have the same form open, and Aino is the first to send it. */
@@ -284,6 +288,45 @@ static void tag_as_two_members(const char *path) {
     committed = commit(path, veli, 2);
     taken(committed.refused, committed.place, "Veli commits");
     printf("Veli commits\n");
+}
+
+/* ── Old sheets ── */
+
+/* A sheet from before 0.5.0 has waited in a queue since it was prepared against this file. It says of both tags, by kind 2, that nobody looked. */
+static void convert_an_old_sheet(const char *path) {
+    static const uint8_t old[] = {
+        2,
+        4, 'S', 'I', 'T', 'E', 2, 1, 4, 'O', 'u', 'l', 'u',
+        4, 'M', 'O', 'O', 'N', 2, 1, 3, 'n', 'e', 'w',
+    };
+    /* SITE is Inari in the file, and there is no tag MOON */
+    static const uint8_t expected[] = {
+        2,
+        4, 'S', 'I', 'T', 'E', 1, 5, 'I', 'n', 'a', 'r', 'i', 1, 4, 'O', 'u', 'l', 'u',
+        4, 'M', 'O', 'O', 'N', 0, 1, 3, 'n', 'e', 'w',
+    };
+    uint8_t sheet[FSTF_CONVERT_ROOM(sizeof old)];
+    size_t length;
+    uint8_t *file = read_whole(path, &length);
+
+    FstfCommitted committed = commit_sheet(path, old, sizeof old);
+    tell(committed.refused, committed.place, "an old sheet");
+    check(committed.refused == FSTF_SHEET && old[committed.place] == 2, "the place is that of the first kind 2");
+    FstfConverted asked = fstf_convert(file, length, old, sizeof old, NULL, 0);
+    check(asked.refused == FSTF_NO_ROOM, "without room it is refused 9: room is all that it lacks");
+
+    FstfConverted converted = fstf_convert(file, length, old, sizeof old, sheet, sizeof sheet);
+    taken(converted.refused, converted.place, "convert");
+    printf("  converted: %u bytes for %u\n", (unsigned)converted.length, (unsigned)sizeof old);
+    check(converted.length == sizeof expected && memcmp(sheet, expected, sizeof expected) == 0, "filled in from the file, all else as it was");
+    committed = commit_sheet(path, sheet, converted.length);
+    taken(committed.refused, committed.place, "the converted sheet");
+    printf("  committed\n");
+    /* what was prepared against the file as it was is told of the change; before 0.5.0 it would have been written over */
+    committed = commit_sheet(path, sheet, converted.length);
+    tell(committed.refused, committed.place, "the same once more");
+    check(committed.refused == FSTF_CONFLICT && committed.place == 0, "SITE is not what it was any more");
+    free(file);
 }
 
 /* A value that no tag may have: a look is refused, as a commit would be, at the tab's place in the sheet. */
@@ -340,6 +383,7 @@ int main(int count, char **arguments) {
     list("cut.fstf", FRAMES - 1);
 
     tag_as_two_members("cut.fstf");
+    convert_an_old_sheet("cut.fstf");
     find_one_character_of_a_sheet("cut.fstf");
     list("cut.fstf", FRAMES - 1);
     find_one_character("cut.fstf");
@@ -350,7 +394,7 @@ int main(int count, char **arguments) {
     check(damaged >= 0, "the file is there");
     write_at(damaged, FSTF_COUNT_PLACE, &bit, 1);
     check(close(damaged) == 0, "the damage is done");
-    check(repair("cut.fstf", "cut.fstf.old2", FSTF_INDEX) == 2, "two tags were there");
+    check(repair("cut.fstf", "cut.fstf.old2", FSTF_INDEX) == 3, "three tags were there");
     list("cut.fstf", FRAMES - 1);
     printf("All is as it should be.\n");
     return 0;

@@ -8,8 +8,8 @@
 #![allow(unsafe_code)]
 
 use crate::raw::{
-    self, FstfCommitted, FstfCursor, FstfFrame, FstfLooked, FstfOpened, FstfPart, FstfRecorder, FstfRepaired, FstfTag,
-    FstfTaken,
+    self, FstfCommitted, FstfConverted, FstfCursor, FstfFrame, FstfLooked, FstfOpened, FstfPart, FstfRecorder,
+    FstfRepaired, FstfTag, FstfTaken,
 };
 
 /// Opens a file: what it holds, in numbers. Refused 1 to 7; the place of 3, 4 and 7 counts in the file.
@@ -124,6 +124,13 @@ pub fn look(file: &[u8], sheet: &[u8]) -> FstfLooked {
 pub fn commit(file: &[u8], sheet: &[u8], out: &mut [u8]) -> FstfCommitted {
     // SAFETY: as in `repair`.
     unsafe { raw::fstf_commit(file.as_ptr(), file.len(), sheet.as_ptr(), sheet.len(), out.as_mut_ptr(), out.len()) }
+}
+
+/// Fills in what nobody had looked at, from the file that an old sheet was prepared against: the same sheet in `out`, without seen kind 2. Refused as
+/// [`look`], but not for that kind; then 9. `convert_room` of the crate says how many bytes of `out` are always enough.
+pub fn convert(file: &[u8], sheet: &[u8], out: &mut [u8]) -> FstfConverted {
+    // SAFETY: as in `repair`.
+    unsafe { raw::fstf_convert(file.as_ptr(), file.len(), sheet.as_ptr(), sheet.len(), out.as_mut_ptr(), out.len()) }
 }
 
 /// A tag by its number, of bytes that are exactly a tag table. Refused 7; its place counts in the table.

@@ -1,11 +1,12 @@
-//! Files on disk: open them, look at sheets, commit tags and repair so that a crash leaves the old file or the new one, whole.
+//! Files on disk: open them, look at sheets, commit tags and repair so that a crash leaves the old file or the new one, whole; and convert old sheets.
 //!
 //! The new file is written beside the old one under the name `.NAME.new`, made durable, and renamed over it. As long as that file is there nobody
 //! else commits or repairs ([`Error::Busy`]): it is made before the old file is read, so that of two members who commit at the same moment one is told,
 //! and a change that was committed a moment ago is seen. A crash can leave it behind: [`clear_stale`] removes it when nobody has written to it for as
 //! long as you say. It holds nothing that the old file does not.
 //!
-//! To open and to look only reads: it makes no file, waits for nobody, and meets the old file or the new one.
+//! To open and to look only reads: it makes no file, waits for nobody, and meets the old file or the new one. To convert reads the recording and the old
+//! sheet in the same way; the new sheet is a new file, which is written as `.NAME.new` too, and gets its name when it is whole.
 //!
 //! A file is read into memory once, for the library to open it. What a new file keeps of the old one is copied by the kernel, which on file systems
 //! that can share blocks copies nothing. The new file has the old one's permissions, and belongs to the member who committed.
@@ -16,6 +17,7 @@ use std::io::{self, ErrorKind, Read, Seek, SeekFrom, Write};
 use std::path::{Path, PathBuf};
 use std::time::Duration;
 
+use crate::convert::{Converted, LARGEST_SHEET};
 use crate::look::Look;
 use crate::recorder::FileRecorder;
 use crate::recording::OwnedRecording;
@@ -85,6 +87,37 @@ pub fn commit<P: AsRef<Path>>(path: P, sheet: &Sheet) -> Result<(), Error> {
     .map(|_| ())
 }
 
+/// Converts an old sheet on disk against the recording that it was prepared against, and stores the new sheet under a name that nothing has yet. Refused
+/// as [`crate::convert()`]. The recording and the old sheet stay as they are; so does a file that has the new name already, and that is an error. The new
+/// sheet has the old one's permissions.
+///
+/// A storage error says which of the three files it is about. Of a refusal, [`crate::Refusal::position`] says whether the fault is in the recording or in
+/// the sheet.
+///
+/// ```no_run
+/// # fn send() -> Result<(), suljanko::Error> {
+/// use suljanko::files;
+///
+/// let converted = files::convert("prepared-against.fstf", "queue/17", "queue/17.converted")?;
+/// println!("{converted}"); // 2 of 3 changes filled in
+/// files::commit("night.fstf", converted.sheet())?;
+/// # Ok(())
+/// # }
+/// ```
+pub fn convert<P, Q, R>(recording: P, old: Q, new: R) -> Result<Converted, Error>
+where
+    P: AsRef<Path>,
+    Q: AsRef<Path>,
+    R: AsRef<Path>,
+{
+    let (recording, old, new) = (recording.as_ref(), old.as_ref(), new.as_ref());
+    let (sheet, permissions) = about(old, read_sheet(old))?;
+    let file = about(recording, File::open(recording).map_err(Error::Storage).and_then(|file| read(&file)))?;
+    let converted = crate::convert(&file, &sheet)?;
+    about(new, store(new, converted.bytes(), permissions))?;
+    Ok(converted)
+}
+
 /// What a repair of a file did.
 #[derive(Debug, Clone, PartialEq, Eq)]
 #[non_exhaustive]
@@ -120,12 +153,16 @@ pub fn repair_if_needed<P: AsRef<Path>>(path: P) -> Result<Option<Repaired>, Err
 }
 
 /// Removes the `.NAME.new` that a crash left behind, if nobody has written to it for so long. Answers whether there was one; where it is younger,
-/// somebody may be committing or repairing still ([`Error::Busy`]).
+/// somebody may be committing, repairing or converting still ([`Error::Busy`]). Of a conversion, the path is that of the new sheet, which is not there yet.
 ///
 /// Writing a recording of many GiB takes minutes, and making it durable takes some in which nothing is written: an hour is a good age. One whose
 /// new file was removed too early is told so, and has changed nothing.
 pub fn clear_stale<P: AsRef<Path>>(path: P, age: Duration) -> Result<bool, Error> {
-    let beside = beside(&fs::canonicalize(path)?)?;
+    let path = match fs::canonicalize(&path) {
+        Err(error) if error.kind() == ErrorKind::NotFound => to_be(path.as_ref())?,
+        there => there?,
+    };
+    let beside = beside(&path)?;
     let met = match fs::symlink_metadata(&beside) {
         Ok(met) => met,
         Err(error) if error.kind() == ErrorKind::NotFound => return Ok(false),
@@ -183,6 +220,50 @@ fn replace<T>(
     }
 }
 
+/// Stores bytes under a name that nothing has yet: under that of the new file first, and durable before they get their own.
+fn store(path: &Path, bytes: &[u8], permissions: fs::Permissions) -> Result<(), Error> {
+    let path = to_be(path)?;
+    let beside = beside(&path)?;
+    let mut new = create(&beside)?;
+    let stored = new.set_permissions(permissions).and_then(|()| new.write_all(bytes)).and_then(|()| new.sync_all());
+    let named = stored.map_err(Error::Storage).and_then(|()| name_it(&new, &beside, &path));
+    // it has its own name, or is of no use
+    if is_at(&new, &beside) {
+        let _ = fs::remove_file(&beside);
+    }
+    named?;
+    sync_directory(&path)
+}
+
+/// Gives the new file its name, unless something has it.
+fn name_it(new: &File, beside: &Path, path: &Path) -> Result<(), Error> {
+    if !is_at(new, beside) {
+        // it was cleared as stale, and what is there, if anything, is somebody else's
+        return Err(Error::Busy { lock: beside.to_path_buf() });
+    }
+    match second_name(beside, path) {
+        Err(Error::Storage(error)) if error.kind() == ErrorKind::AlreadyExists => {
+            let taken = "the name is taken. What has it was left as it is: move it away, or choose another name";
+            Err(Error::Storage(io::Error::new(ErrorKind::AlreadyExists, taken)))
+        }
+        named => named,
+    }
+}
+
+/// The path of a file that need not be there, its directory through links.
+fn to_be(path: &Path) -> Result<PathBuf, Error> {
+    let directory = path.parent().filter(|directory| !directory.as_os_str().is_empty());
+    Ok(fs::canonicalize(directory.unwrap_or_else(|| Path::new(".")))?.join(name(path)?))
+}
+
+/// Says of a storage error which file it is about.
+fn about<T>(path: &Path, result: Result<T, Error>) -> Result<T, Error> {
+    result.map_err(|error| match error {
+        Error::Storage(error) => Error::Storage(io::Error::new(error.kind(), format!("{}: {error}", path.display()))),
+        other => other,
+    })
+}
+
 /// `.NAME.new` in the same directory, so that renaming does not copy.
 fn beside(path: &Path) -> Result<PathBuf, Error> {
     let mut beside = OsString::from(".");
@@ -231,6 +312,14 @@ fn read(mut file: &File) -> Result<Vec<u8>, Error> {
     bytes.try_reserve_exact(length).map_err(|_| no_memory())?;
     file.read_to_end(&mut bytes)?;
     Ok(bytes)
+}
+
+/// The bytes of a sheet, and its file's permissions. Of a longer file than a sheet can be, one byte too many is enough: no first fault stands behind it.
+fn read_sheet(path: &Path) -> Result<(Vec<u8>, fs::Permissions), Error> {
+    let file = File::open(path)?;
+    let mut bytes = Vec::new();
+    (&file).take(LARGEST_SHEET as u64 + 1).read_to_end(&mut bytes)?;
+    Ok((bytes, file.metadata()?.permissions()))
 }
 
 /// Copies so many bytes from file to file, from where each stands. Between two files the kernel does it.

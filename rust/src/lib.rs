@@ -8,6 +8,7 @@
 //! - [`Recorder`] and [`FileRecorder`]: frames as they come, in pieces that a crash cannot spoil.
 //! - [`repair()`]: what was stored whole of a recording that was cut off.
 //! - [`Sheet`]: changes of tags, each with what its member saw; [`look()`] shows which of them conflict with the file, and [`commit()`] makes them.
+//! - [`convert()`]: sheets from before 0.5.0 that say of a tag that nobody looked, filled in from the file that they were prepared against.
 //! - [`files`]: the same on disk, where a crash leaves the old file or the new one.
 //! - [`calls`]: the library's calls over plain slices, for programs that lend their own buffers.
 //!
@@ -20,6 +21,7 @@
 
 pub mod calls;
 mod commit;
+mod convert;
 mod date;
 pub mod files;
 mod form;
@@ -33,6 +35,7 @@ mod repair;
 mod sheet;
 
 pub use commit::{commit, Committed};
+pub use convert::{convert, convert_room, Converted, LARGEST_SHEET};
 pub use date::Date;
 pub use form::{set_up_list, tag_table};
 pub use look::{look, Look, LookedChange};

@@ -35,7 +35,7 @@ pub struct LookedChange<'s> {
     pub now: Option<String>,
     /// What it is to be: this value, or none where it is to be removed.
     pub new: Option<&'s str>,
-    /// Whether it conflicts: its member looked, and the file says something else now.
+    /// Whether it conflicts: the file says something else now than its member saw.
     pub conflicts: bool,
 }
 
@@ -123,7 +123,6 @@ impl fmt::Display for LookedChange<'_> {
         match self.seen {
             Seen::Absent => f.write_str("seen no such tag")?,
             Seen::Value(value) => write!(f, "seen {value:?}")?,
-            Seen::NobodyLooked => f.write_str("nobody looked")?,
         }
         match &self.now {
             Some(value) => write!(f, ", the file says {value:?}")?,

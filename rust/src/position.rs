@@ -17,6 +17,8 @@ pub enum Lent {
     File,
     /// The change sheet.
     Sheet,
+    /// The old sheet that is to be converted.
+    OldSheet,
     /// The set-up list that a recording is begun with.
     SetUp,
     /// A tag table that was lent by itself: the system table that a recording is begun with, or the one whose tags are asked for.
@@ -28,6 +30,7 @@ impl fmt::Display for Lent {
         f.write_str(match self {
             Lent::File => "file",
             Lent::Sheet => "sheet",
+            Lent::OldSheet => "old sheet",
             Lent::SetUp => "set-up list",
             Lent::Table => "table",
         })
@@ -121,6 +124,17 @@ pub struct Spot<'b> {
     pub cut_off: bool,
 }
 
+impl Spot<'_> {
+    /// Whether the fault is seen kind 2, by which a sheet from before 0.5.0 says that nobody looked: [`convert()`](crate::convert()) takes it.
+    #[must_use]
+    pub fn nobody_looked(&self) -> bool {
+        self.part == SpotPart::SeenKind && self.byte == Some(NOBODY_LOOKED)
+    }
+}
+
+/// The seen kind that was withdrawn.
+pub(crate) const NOBODY_LOOKED: u8 = 2;
+
 impl fmt::Display for Spot<'_> {
     fn fmt(&self, f: &mut fmt::Formatter<'_>) -> fmt::Result {
         let rows = self.rows;
@@ -149,6 +163,9 @@ impl fmt::Display for Spot<'_> {
         match (self.byte, self.first) {
             (None, _) => f.write_str(", where the bytes have ended"),
             (_, Some(first)) => write!(f, ", which {rows} {first} has too"),
+            _ if self.nobody_looked() => f.write_str(
+                ", byte 0x02: nobody looked, as an old sheet may say. Convert it, with the file that it was prepared against",
+            ),
             _ if self.cut_off && !self.part.is_string() => f.write_str(", which is cut off"),
             (Some(byte), None) => write!(f, ", byte 0x{byte:02X}"),
         }
@@ -216,7 +233,7 @@ impl Refusal {
             (Lent::File, Reason::SystemTable) => stands(lent, &SYSTEM_TABLE, offset(lent, SYSTEM_PLACE)?, at),
             (Lent::File, Reason::UserTable) => stands(lent, &USER_TABLE, offset(lent, USER_PLACE)?, at),
             (Lent::File, _) => None,
-            (Lent::Sheet, _) => in_sheet(lent, at),
+            (Lent::Sheet | Lent::OldSheet, _) => in_sheet(lent, at),
             (Lent::SetUp, _) => stands(lent, &SET_UP, 0, at),
             (Lent::Table, _) => stands(lent, &TABLE, 0, at),
         }

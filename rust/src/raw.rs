@@ -164,6 +164,18 @@ pub struct FstfCommitted {
     pub length: u64,
 }
 
+/// What a convert answers; refused, all members behind `place` are 0.
+#[repr(C)]
+#[derive(Debug, Clone, Copy, PartialEq, Eq)]
+pub struct FstfConverted {
+    /// The refusal, or 0.
+    pub refused: u64,
+    /// What the refusal's number carries, or 0.
+    pub place: u64,
+    /// How many bytes of `out` are the new sheet.
+    pub length: u64,
+}
+
 /// A tag of a table, by places in the table.
 #[repr(C)]
 #[derive(Debug, Clone, Copy, PartialEq, Eq)]
@@ -276,6 +288,16 @@ extern "C" {
         out: *mut u8,
         out_length: usize,
     ) -> FstfCommitted;
+
+    /// Fills in what an old sheet did not look at. Refused 1 to 7, 10, 9.
+    pub fn fstf_convert(
+        file: *const u8,
+        file_length: usize,
+        sheet: *const u8,
+        sheet_length: usize,
+        out: *mut u8,
+        out_length: usize,
+    ) -> FstfConverted;
 
     /// A tag of a table by its number. Refused 7.
     pub fn fstf_tag_at(table: *const u8, table_length: usize, number: u64) -> FstfTag;

@@ -7,7 +7,8 @@ use std::path::PathBuf;
 
 use crate::position::{Grouped, Lent, Position};
 use crate::raw::{
-    FstfCommitted, FstfCursor, FstfFrame, FstfLooked, FstfOpened, FstfPart, FstfRepaired, FstfTag, FstfTaken,
+    FstfCommitted, FstfConverted, FstfCursor, FstfFrame, FstfLooked, FstfOpened, FstfPart, FstfRepaired, FstfTag,
+    FstfTaken,
 };
 
 /// Why a call was refused, a case for each number of document 01.
@@ -32,7 +33,8 @@ pub enum Reason {
     NoSuchItem,
     /// 9: a lent output is shorter than the answer.
     NoRoom,
-    /// 10: a change sheet or a set-up list is malformed. Its place is the first fault's, in the sheet or in the list.
+    /// 10: a change sheet or a set-up list is malformed. Its place is the first fault's, in the sheet or in the list. A sheet from before 0.5.0 that says
+    /// that nobody looked is for [`crate::convert()`]; [`crate::Spot::nobody_looked`] tells it from the others.
     Sheet,
     /// 11: the file says otherwise than a member saw. Its place is the lowest change of the sheet, from 0, that conflicts; [`crate::look()`] shows them
     /// all.
@@ -76,6 +78,13 @@ const REASONS: [Reason; 17] = [
     Reason::Whole,
     Reason::TableFull,
 ];
+
+/// The advice of 10 where more is known than its number.
+const MALFORMED_LIST: &str = "The set-up list ends too early or too late: the first fault is at this place.";
+const MALFORMED_OLD_SHEET: &str =
+    "It is no sheet, not even an old one: the first fault is at this place. Make it anew.";
+const NOBODY_LOOKED: &str =
+    "It says that nobody looked, as sheets could before 0.5.0: convert it, with the file that it was prepared against.";
 
 /// What a position counts.
 const BYTE: &str = "byte";
@@ -133,14 +142,18 @@ pub struct Refusal {
     reason: Reason,
     place: Option<u64>,
     lent: Option<Lent>,
+    /// Whether it is known to be about seen kind 2.
+    nobody_looked: bool,
 }
 
 impl Refusal {
     /// There is no memory for what a call is to be lent.
-    pub(crate) const NO_ROOM: Refusal = Refusal { reason: Reason::NoRoom, place: None, lent: None };
+    pub(crate) const NO_ROOM: Refusal =
+        Refusal { reason: Reason::NoRoom, place: None, lent: None, nobody_looked: false };
 
     /// No bytes are a sheet.
-    pub(crate) const NO_SHEET: Refusal = Refusal { reason: Reason::Sheet, place: Some(0), lent: Some(Lent::Sheet) };
+    pub(crate) const NO_SHEET: Refusal =
+        Refusal { reason: Reason::Sheet, place: Some(0), lent: Some(Lent::Sheet), nobody_looked: false };
 
     /// The refusal of this number and place, or none for 0: for who has the two numbers only.
     ///
@@ -150,12 +163,17 @@ impl Refusal {
     pub fn of(number: u64, place: u64) -> Option<Refusal> {
         let before = number.checked_sub(1)?;
         let reason = REASONS.get(before as usize).copied().unwrap_or(Reason::Unknown { number });
-        Some(Refusal { reason, place: reason.counted().map(|_| place), lent: None })
+        Some(Refusal { reason, place: reason.counted().map(|_| place), lent: None, nobody_looked: false })
     }
 
     /// The same, where its place, if it is one of a byte, counts in these bytes.
     fn counted_in(self, lent: Lent) -> Refusal {
         Refusal { lent: (self.reason.counted() == Some(BYTE)).then_some(lent), ..self }
+    }
+
+    /// The same, with what the refused sheet tells: whether it is an old one, of which its advice speaks then.
+    pub(crate) fn of_sheet(self, sheet: &[u8]) -> Refusal {
+        Refusal { nobody_looked: self.spot(sheet).map_or(false, |spot| spot.nobody_looked()), ..self }
     }
 
     /// Which one it is.
@@ -188,10 +206,15 @@ impl Refusal {
         self.reason.row().1
     }
 
-    /// What it means and what to do, in a sentence.
+    /// What it means and what to do, in a sentence or two.
     #[must_use]
     pub fn advice(&self) -> &'static str {
-        self.reason.row().2
+        match (self.reason, self.lent) {
+            (Reason::Sheet, Some(Lent::SetUp)) => MALFORMED_LIST,
+            (Reason::Sheet, Some(Lent::OldSheet)) => MALFORMED_OLD_SHEET,
+            (Reason::Sheet, _) if self.nobody_looked => NOBODY_LOOKED,
+            _ => self.reason.row().2,
+        }
     }
 }
 
@@ -214,6 +237,14 @@ impl StdError for Refusal {}
 fn file_or_sheet(reason: Reason) -> Lent {
     match reason {
         Reason::Sheet => Lent::Sheet,
+        _ => Lent::File,
+    }
+}
+
+/// To convert.
+fn file_or_old_sheet(reason: Reason) -> Lent {
+    match reason {
+        Reason::Sheet => Lent::OldSheet,
         _ => Lent::File,
     }
 }
@@ -251,6 +282,7 @@ refusals! {
     FstfRepaired: file_or_sheet,
     FstfLooked: file_or_sheet,
     FstfCommitted: file_or_sheet,
+    FstfConverted: file_or_old_sheet,
     FstfTaken: set_up_or_table,
     FstfTag: table,
     FstfCursor: table,
@@ -269,7 +301,7 @@ pub enum Error {
     Refused(Refusal),
     /// The storage failed.
     Storage(io::Error),
-    /// Somebody is committing to this file or repairing it at this moment, or was interrupted in it; see [`crate::files`].
+    /// Somebody is committing to this file, repairing it or writing it at this moment, or was interrupted in it; see [`crate::files`].
     Busy {
         /// The file that stands for it.
         lock: PathBuf,
@@ -294,7 +326,8 @@ impl fmt::Display for Error {
             Error::Storage(error) => write!(f, "storage: {error}"),
             Error::Busy { lock } => {
                 let lock = lock.display();
-                write!(f, "busy: {lock} is there. If nobody is committing or repairing, delete it and try again.")
+                let nobody = "If nobody is committing, repairing or converting";
+                write!(f, "busy: {lock} is there. {nobody}, delete it and try again.")
             }
         }
     }

@@ -20,18 +20,11 @@ const SMALLEST: [u8; 56] = *b"FSTF\x01\0\0\0\0\
     \x01\x01A\x2C\0\0\0\0\0\0\0\
     \0\0\0\0\0\0\0\0\0\0\0\0";
 
-/// What a member knows of a tag before a change.
-#[derive(Debug, Clone, PartialEq, Eq)]
-enum Known {
-    /// There was no such tag, or it had this value.
-    Entry(Option<String>),
-    NobodyLooked,
-}
-
+/// A change: a name, and a value, or that there is no such tag, before it and after it.
 #[derive(Debug, Clone, PartialEq, Eq)]
 struct Row {
     name: String,
-    seen: Known,
+    seen: Option<String>,
     new: Option<String>,
 }
 
@@ -42,8 +35,6 @@ pub enum Seen<'s> {
     Absent,
     /// The tag had this value.
     Value(&'s str),
-    /// Nobody looked.
-    NobodyLooked,
 }
 
 /// A change of a sheet, see [`Sheet::changes`].
@@ -57,17 +48,20 @@ pub struct SheetChange<'s> {
     pub new: Option<&'s str>,
 }
 
-/// A change sheet: changes of user tags, each with what its member saw, or openly that nobody looked.
+/// A change sheet: changes of user tags, each with what its member saw.
 ///
 /// [`look()`](crate::look()) compares all that was seen with the file, and shows which changes conflict. [`commit()`](crate::commit()) does the same
 /// first, and is refused 11 where one conflicts: nobody's change is lost without a word.
+///
+/// No change can be made unseen. Who wants a tag to have a value whatever it has now looks first, says what was seen, and where the commit is refused 11
+/// looks again. Sheets that were made before 0.5.0, and say of a tag that nobody looked, are for [`convert()`](crate::convert()).
 ///
 /// ```no_run
 /// # fn tag(file: &[u8]) -> Result<(), suljanko::Refusal> {
 /// let recording = suljanko::Recording::open(file)?;
 /// let mut sheet = suljanko::Sheet::new();
 /// sheet.change("SITE").seen(recording.user_tag("SITE")).set("Kuusamo");
-/// sheet.change("NOTE").nobody_looked().remove();
+/// sheet.change("NOTE").seen(recording.user_tag("NOTE")).remove();
 /// let look = suljanko::look(file, &sheet)?;
 /// if look.all_agree() {
 ///     let committed = suljanko::commit(file, &sheet)?;
@@ -125,10 +119,11 @@ impl Sheet {
     }
 
     /// A sheet of bytes in the form of document 01, as [`Sheet::to_vec`] gives them. Refused 10; the library says whether they are a sheet, and where
-    /// not. [`Refusal::spot`] of the bytes tells the change and the character.
+    /// not. [`Refusal::spot`] of the bytes tells the change and the character. Of an old sheet, for [`convert()`](crate::convert()), the refusal's advice
+    /// says so, and [`Spot::nobody_looked`] does.
     pub fn from_bytes(bytes: &[u8]) -> Result<Sheet, Refusal> {
         // the smallest recording opens, so that there is no other refusal than 10
-        accepted(calls::look(&SMALLEST, bytes).refusal())?;
+        accepted(calls::look(&SMALLEST, bytes).refusal().map(|refusal| refusal.of_sheet(bytes)))?;
         rows_of(bytes).map(|rows| Sheet { rows }).ok_or(Refusal::NO_SHEET)
     }
 
@@ -136,11 +131,7 @@ impl Sheet {
     pub fn changes(&self) -> impl ExactSizeIterator<Item = SheetChange<'_>> + DoubleEndedIterator + Clone {
         self.rows.iter().map(|row| SheetChange {
             name: &row.name,
-            seen: match &row.seen {
-                Known::Entry(None) => Seen::Absent,
-                Known::Entry(Some(value)) => Seen::Value(value),
-                Known::NobodyLooked => Seen::NobodyLooked,
-            },
+            seen: row.seen.as_deref().map_or(Seen::Absent, Seen::Value),
             new: row.new.as_deref(),
         })
     }
@@ -245,10 +236,7 @@ impl Sheet {
         let mut form = vec![u8::try_from(self.rows.len()).ok()?];
         for row in &self.rows {
             short_string(&mut form, &row.name)?;
-            match &row.seen {
-                Known::Entry(value) => entry(&mut form, value.as_deref())?,
-                Known::NobodyLooked => form.push(2),
-            }
+            entry(&mut form, row.seen.as_deref())?;
             entry(&mut form, row.new.as_deref())?;
         }
         Some(form)
@@ -285,18 +273,12 @@ fn rows_of(mut bytes: &[u8]) -> Option<Vec<Row>> {
 }
 
 fn row(bytes: &mut &[u8]) -> Option<Row> {
-    let name = string(bytes)?;
-    let seen = match byte(bytes)? {
-        2 => Known::NobodyLooked,
-        kind => Known::Entry(value(kind, bytes)?),
-    };
-    let kind = byte(bytes)?;
-    Some(Row { name, seen, new: value(kind, bytes)? })
+    Some(Row { name: string(bytes)?, seen: value(bytes)?, new: value(bytes)? })
 }
 
-/// What follows a kind: nothing, or a value.
-fn value(kind: u8, bytes: &mut &[u8]) -> Option<Option<String>> {
-    match kind {
+/// A kind, and what follows it: nothing, or a value.
+fn value(bytes: &mut &[u8]) -> Option<Option<String>> {
+    match byte(bytes)? {
         0 => Some(None),
         1 => string(bytes).map(Some),
         _ => None,
@@ -414,14 +396,9 @@ pub struct Change<'s> {
 
 impl<'s> Change<'s> {
     /// The member looked, and saw this value, or that there was no such tag: as [`crate::Recording::user_tag`] answered then, or as
-    /// [`crate::LookedChange::now`] showed it.
+    /// [`crate::LookedChange::now`] showed it. Say what was seen, not what is likely: by this alone is told that another member changed the tag.
     pub fn seen(self, value: Option<&str>) -> SeenChange<'s> {
-        SeenChange { seen: Known::Entry(value.map(str::to_string)), sheet: self.sheet, name: self.name }
-    }
-
-    /// Nobody looked: the change is to be made whatever the file says.
-    pub fn nobody_looked(self) -> SeenChange<'s> {
-        SeenChange { seen: Known::NobodyLooked, sheet: self.sheet, name: self.name }
+        SeenChange { seen: value.map(str::to_string), sheet: self.sheet, name: self.name }
     }
 }
 
@@ -431,7 +408,7 @@ impl<'s> Change<'s> {
 pub struct SeenChange<'s> {
     sheet: &'s mut Sheet,
     name: String,
-    seen: Known,
+    seen: Option<String>,
 }
 
 impl SeenChange<'_> {

@@ -3,7 +3,10 @@
 mod common;
 
 use common::{recorded, tagged};
-use suljanko::{commit, look, repair, Reason, Recording, Sheet};
+use suljanko::{commit, convert, look, repair, Reason, Recording, Sheet};
+
+/// An old sheet: nobody looked, and T1 is to be `new`.
+const OLD: &[u8] = b"\x01\x02T1\x02\x01\x03new";
 
 /// A small generator (xorshift), so that the run is the same each time.
 struct Random(u64);
@@ -56,8 +59,6 @@ fn read_all(recording: Recording<'_>) {
 fn any_bytes_are_answered() {
     let samples = samples();
     let mut random = Random(0x5eed_0001);
-    let mut sheet = Sheet::new();
-    sheet.change("T1").nobody_looked().set("new");
     let (mut opened, mut repaired) = (0, 0);
     for number in 0..30_000 {
         let file = damage(&samples[number % 3], &mut random);
@@ -66,14 +67,18 @@ fn any_bytes_are_answered() {
                 opened += 1;
                 read_all(recording);
                 assert_eq!(repair(&file).unwrap_err().reason(), Reason::Whole);
+                let mut sheet = Sheet::new();
+                sheet.change("T1").seen(recording.user_tag("T1")).set("new");
+                assert_eq!(convert(&file, OLD).unwrap().bytes(), sheet.to_vec());
                 assert!(look(&file, &sheet).unwrap().all_agree());
                 let tagged = commit(&file, &sheet).unwrap().to_vec();
                 assert_eq!(Recording::open(&tagged).unwrap().user_tag("T1"), Some("new"));
             }
             Err(refusal) => {
                 assert!((1..=7).contains(&refusal.number()));
-                assert_eq!(look(&file, &sheet).unwrap_err(), refusal);
-                assert_eq!(commit(&file, &sheet).unwrap_err(), refusal);
+                assert_eq!(look(&file, &Sheet::new()).unwrap_err(), refusal);
+                assert_eq!(commit(&file, &Sheet::new()).unwrap_err(), refusal);
+                assert_eq!(convert(&file, OLD).unwrap_err(), refusal);
                 if let Ok(repair) = repair(&file) {
                     repaired += 1;
                     let file = repair.to_vec();

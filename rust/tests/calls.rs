@@ -3,7 +3,7 @@
 mod common;
 
 use common::{before_closing, WHOLE};
-use suljanko::raw::{self, FstfCursor, FstfLooked, FstfOpened, FstfRecorder};
+use suljanko::raw::{self, FstfConverted, FstfCursor, FstfLooked, FstfOpened, FstfRecorder};
 use suljanko::{calls, commit, Recording, Sheet};
 
 const NONE: &[u8] = &[];
@@ -21,6 +21,10 @@ fn empty_slices() {
     assert_eq!(calls::look(&WHOLE, NONE).refused, 10);
     assert_eq!(calls::commit(NONE, NONE, &mut []).refused, 1);
     assert_eq!(calls::commit(&WHOLE, NONE, &mut []).refused, 10);
+    assert_eq!(calls::convert(NONE, NONE, &mut []).refused, 1);
+    assert_eq!(calls::convert(&WHOLE, NONE, &mut []).refused, 10);
+    // the sheet without changes is one byte, and there is no room for it
+    assert_eq!(calls::convert(&WHOLE, &[0], &mut []).refused, 9);
     assert_eq!(calls::begin(calls::new(), NONE, NONE, &mut [], &mut []).refused, 10);
     assert_eq!(calls::tag_at(NONE, 0).refused, 7);
     assert_eq!(calls::tag_named(NONE, NONE).refused, 7);
@@ -98,6 +102,13 @@ fn refused_answers_hold_nothing_else() {
     let nothing = FstfLooked { refused: 7, place: 94, changes: 0, conflicts: 0 };
     assert_eq!(calls::look(&WHOLE[..97], &sheet), nothing);
     assert_eq!(calls::look(&WHOLE, &sheet[..5]), FstfLooked { refused: 10, place: 5, ..nothing });
+    // nor is a length, also where it was known
+    let mut out = [0x5A; 6];
+    let nothing = FstfConverted { refused: 9, place: 0, length: 0 };
+    assert_eq!(calls::convert(&WHOLE, &sheet, &mut out[..5]), nothing);
+    assert_eq!(calls::convert(&WHOLE, &sheet[..5], &mut out), FstfConverted { refused: 10, place: 5, ..nothing });
+    assert_eq!(calls::convert(&WHOLE[..97], &sheet, &mut out), FstfConverted { refused: 7, place: 94, ..nothing });
+    assert_eq!(out, [0x5A; 6]);
 }
 
 #[test]
@@ -241,7 +252,7 @@ fn outputs_of_every_length() {
 #[test]
 fn a_commit_fills_its_output_and_no_more() {
     let mut sheet = Sheet::new();
-    sheet.change("SITE").nobody_looked().set("A");
+    sheet.change("SITE").seen(None).set("A");
     let table = commit(&WHOLE, &sheet).unwrap().table().to_vec();
     for length in 0..table.len() + 3 {
         let mut out = vec![0x5A; length];

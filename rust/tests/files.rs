@@ -1,44 +1,13 @@
-//! Looking, committing and repairing on disk.
+//! Looking, committing, repairing and converting on disk.
 
 mod common;
 
 use std::fs;
-use std::path::{Path, PathBuf};
+use std::path::Path;
 use std::time::Duration;
 
-use common::{before_closing, WHOLE};
-use suljanko::{files, Error, Reason, Recording, Refusal, Sheet};
-
-/// A directory of its own for a test, which goes when the test is done.
-struct Place(PathBuf);
-
-impl Place {
-    fn new(name: &str) -> Place {
-        let path = std::env::temp_dir().join(format!("suljanko-{}-{name}", std::process::id()));
-        fs::create_dir_all(&path).unwrap();
-        Place(path)
-    }
-
-    fn file(&self, name: &str, bytes: &[u8]) -> PathBuf {
-        let path = self.0.join(name);
-        fs::write(&path, bytes).unwrap();
-        path
-    }
-
-    /// The names of what is in it, in order.
-    fn names(&self) -> Vec<String> {
-        let mut names: Vec<_> =
-            fs::read_dir(&self.0).unwrap().map(|entry| entry.unwrap().file_name().into_string().unwrap()).collect();
-        names.sort();
-        names
-    }
-}
-
-impl Drop for Place {
-    fn drop(&mut self) {
-        let _ = fs::remove_dir_all(&self.0);
-    }
-}
+use common::{before_closing, Place, WHOLE};
+use suljanko::{calls, files, Error, Reason, Recording, Refusal, Sheet, LARGEST_SHEET};
 
 fn site(seen: Option<&str>, new: &str) -> Sheet {
     let mut sheet = Sheet::new();
@@ -74,7 +43,7 @@ fn a_shorter_table_ends_the_file() {
     let path = place.file("night.fstf", &WHOLE);
     files::commit(&path, &site(None, "a long name of a place")).unwrap();
     let mut sheet = Sheet::new();
-    sheet.change("SITE").nobody_looked().remove();
+    sheet.change("SITE").seen(Some("a long name of a place")).remove();
     files::commit(&path, &sheet).unwrap();
     assert_eq!(fs::read(&path).unwrap(), WHOLE);
 }
@@ -332,6 +301,191 @@ fn files_that_are_not_there() {
     assert!(matches!(files::repair(place.0.join("no.fstf")).unwrap_err(), Error::Storage(_)));
     assert!(matches!(files::repair(&place.0).unwrap_err(), Error::Storage(_)));
     assert!(place.names().is_empty());
+}
+
+/// An old sheet: nobody looked, and SITE is to be Kuusamo.
+const OLD: &[u8] = b"\x01\x04SITE\x02\x01\x07Kuusamo";
+
+#[test]
+fn an_old_sheet_is_converted_and_committed() {
+    let place = Place::new("convert");
+    let path = place.file("night.fstf", &WHOLE);
+    let old = place.file("old", OLD);
+    let new = place.0.join("new");
+    let converted = files::convert(&path, &old, &new).unwrap();
+    assert_eq!((converted.sheet(), converted.filled_in()), (&site(None, "Kuusamo"), &[0][..]));
+    assert_eq!(converted.bytes(), site(None, "Kuusamo").to_vec());
+    assert_eq!(fs::read(&new).unwrap(), converted.bytes());
+    assert_eq!((fs::read(&path).unwrap(), fs::read(&old).unwrap()), (WHOLE.to_vec(), OLD.to_vec()));
+    assert_eq!(place.names(), ["new", "night.fstf", "old"]);
+    let sheet = Sheet::from_bytes(&fs::read(&new).unwrap()).unwrap();
+    files::commit(&path, &sheet).unwrap();
+    assert_eq!(user_tag(&path, "SITE").as_deref(), Some("Kuusamo"));
+    // against the file as it is now
+    files::convert(&path, &old, place.0.join("newer")).unwrap();
+    assert_eq!(fs::read(place.0.join("newer")).unwrap(), site(Some("Kuusamo"), "Kuusamo").to_vec());
+}
+
+#[test]
+fn no_sheet_is_overwritten() {
+    let place = Place::new("taken");
+    let path = place.file("night.fstf", &WHOLE);
+    let old = place.file("old", OLD);
+    let there = place.file("there", b"somebody's");
+    let link = place.0.join("link");
+    std::os::unix::fs::symlink(place.0.join("nowhere"), &link).unwrap();
+    for taken in [&there, &link, &old, &path, &place.0] {
+        let error = files::convert(&path, &old, taken).unwrap_err();
+        let said = format!("storage: {}: the name is taken. ", taken.display());
+        assert!(error.to_string().starts_with(&said), "{error}");
+        assert!(matches!(&error, Error::Storage(error) if error.kind() == std::io::ErrorKind::AlreadyExists));
+    }
+    assert_eq!((fs::read(&there).unwrap(), fs::read(&old).unwrap()), (b"somebody's".to_vec(), OLD.to_vec()));
+    assert_eq!(fs::read(&path).unwrap(), WHOLE);
+    assert_eq!(place.names(), ["link", "night.fstf", "old", "there"]);
+}
+
+#[test]
+fn what_is_refused_leaves_no_new_sheet() {
+    let place = Place::new("unconverted");
+    let path = place.file("night.fstf", &WHOLE);
+    let cut = place.file("cut.fstf", &WHOLE[..97]);
+    let old = place.file("old", OLD);
+    let broken = place.file("broken", &OLD[..OLD.len() - 1]);
+    let new = place.0.join("new");
+    let error = files::convert(&cut, &old, &new).unwrap_err();
+    assert!(error.to_string().starts_with("refused 7, user table at byte 94 of the file: "), "{error}");
+    // the recording is asked first
+    assert_eq!(files::convert(&cut, &broken, &new).unwrap_err().refusal(), error.refusal());
+    let error = files::convert(&path, &broken, &new).unwrap_err();
+    assert!(error.to_string().starts_with("refused 10, sheet at byte 15 of the old sheet: "), "{error}");
+    let spot = error.refusal().unwrap().spot(&OLD[..15]).unwrap().to_string();
+    assert_eq!(spot, r#"change 0, "SITE": character 6 of its new value, where the bytes have ended"#);
+    assert_eq!(place.names(), ["broken", "cut.fstf", "night.fstf", "old"]);
+}
+
+#[test]
+fn a_storage_error_says_which_file_it_is_about() {
+    let place = Place::new("which");
+    let path = place.file("night.fstf", &WHOLE);
+    let old = place.file("old", OLD);
+    let (new, none) = (place.0.join("new"), place.0.join("none"));
+    let far = none.join("new");
+    let calls = [
+        (&none, files::convert(&none, &old, &new)),
+        (&none, files::convert(&path, &none, &new)),
+        (&far, files::convert(&path, &old, &far)),
+        (&place.0, files::convert(&place.0, &old, &new)),
+        (&place.0, files::convert(&path, &place.0, &new)),
+    ];
+    for (about, answer) in calls {
+        let error = answer.unwrap_err();
+        assert!(matches!(error, Error::Storage(_)), "{error}");
+        assert!(error.to_string().starts_with(&format!("storage: {}: ", about.display())), "{error}");
+    }
+    assert_eq!(place.names(), ["night.fstf", "old"]);
+}
+
+#[test]
+fn a_new_sheet_has_the_old_ones_permissions_and_stands_where_links_lead() {
+    use std::os::unix::fs::PermissionsExt;
+    let place = Place::new("private");
+    let path = place.file("night.fstf", &WHOLE);
+    let old = place.file("old", OLD);
+    fs::create_dir(place.0.join("queue")).unwrap();
+    std::os::unix::fs::symlink(place.0.join("queue"), place.0.join("link")).unwrap();
+    for (number, mode) in [0o600, 0o640, 0o444].into_iter().enumerate() {
+        fs::set_permissions(&old, fs::Permissions::from_mode(mode)).unwrap();
+        let new = place.0.join("link").join(number.to_string());
+        let converted = files::convert(&path, &old, &new).unwrap();
+        let stored = place.0.join("queue").join(number.to_string());
+        assert_eq!(fs::read(&stored).unwrap(), converted.bytes());
+        assert_eq!(fs::metadata(&stored).unwrap().permissions().mode() & 0o777, mode);
+    }
+}
+
+#[test]
+fn somebody_is_converting() {
+    let place = Place::new("converting");
+    let path = place.file("night.fstf", &WHOLE);
+    let old = place.file("old", OLD);
+    let new = place.0.join("new");
+    let lock = place.file(".new.new", b"half a sh");
+    let error = files::convert(&path, &old, &new).unwrap_err();
+    assert!(matches!(&error, Error::Busy { lock } if lock.ends_with(".new.new")), "{error}");
+    assert!(error.to_string().contains("If nobody is committing, repairing or converting, delete it"), "{error}");
+    assert_eq!(fs::read(&lock).unwrap(), b"half a sh");
+    assert_eq!(place.names(), [".new.new", "night.fstf", "old"]);
+    // what a crash left is cleared by the name that the new sheet was to have
+    assert!(matches!(files::clear_stale(&new, Duration::from_secs(3600)).unwrap_err(), Error::Busy { .. }));
+    assert!(files::clear_stale(&new, Duration::ZERO).unwrap());
+    assert!(!files::clear_stale(&new, Duration::ZERO).unwrap());
+    assert!(matches!(files::clear_stale(place.0.join("no").join("new"), Duration::ZERO), Err(Error::Storage(_))));
+    files::convert(&path, &old, &new).unwrap();
+    assert_eq!(place.names(), ["new", "night.fstf", "old"]);
+}
+
+// One who reads while it is converted, as a crash would, meets no new sheet or the whole one; and of many who convert to one name, one has it.
+#[test]
+fn many_convert_to_one_name() {
+    let place = Place::new("one-name");
+    let path = place.file("night.fstf", &WHOLE);
+    let new = place.0.join("new");
+    let members: Vec<_> = (0..8)
+        .map(|member| {
+            let (path, new) = (path.clone(), new.clone());
+            let old = place.file(&format!("old{member}"), &[&OLD[..8], &[1, b'0' + member]].concat());
+            std::thread::spawn(move || loop {
+                match files::convert(&path, &old, &new) {
+                    Ok(converted) => return Some(converted.into_bytes()),
+                    Err(Error::Busy { .. }) => std::thread::yield_now(),
+                    Err(error) => {
+                        assert!(error.to_string().contains("the name is taken"), "{error}");
+                        return None;
+                    }
+                }
+            })
+        })
+        .collect();
+    while members.iter().any(|member| !member.is_finished()) {
+        if let Ok(met) = fs::read(&new) {
+            assert_eq!((met.len(), Sheet::from_bytes(&met).unwrap().len()), (10, 1));
+        }
+    }
+    let won: Vec<_> = members.into_iter().filter_map(|member| member.join().unwrap()).collect();
+    assert_eq!(won.len(), 1);
+    assert_eq!(fs::read(&new).unwrap(), won[0]);
+    assert_eq!(place.names().len(), 10);
+}
+
+#[test]
+fn a_file_that_is_too_long_for_a_sheet_is_refused_where_its_first_fault_is() {
+    let place = Place::new("too-long");
+    let path = place.file("night.fstf", &WHOLE);
+    // 64 changes with the longest strings, as long as a sheet can be, and much behind them
+    let mut sheet = Sheet::new();
+    let long = "x".repeat(255);
+    for number in 0..64 {
+        sheet.change(&format!("{number:~>255}")).seen(Some(&long)).set(&long);
+    }
+    let largest = sheet.to_vec();
+    assert_eq!(largest.len(), LARGEST_SHEET);
+    let whole = files::convert(&path, place.file("whole", &largest), place.0.join("new")).unwrap();
+    assert!(whole.bytes() == largest);
+    let behind = [largest, vec![0; 100_000]].concat();
+    let mut damaged = behind.clone();
+    damaged[LARGEST_SHEET - 1] = 9;
+    for (name, bytes, at) in [("behind", behind, LARGEST_SHEET), ("damaged", damaged, LARGEST_SHEET - 1)] {
+        assert_eq!(
+            calls::convert(&WHOLE, &bytes, &mut []).refusal().and_then(|refusal| refusal.place()),
+            Some(at as u64)
+        );
+        let error = files::convert(&path, place.file(name, &bytes), place.0.join("new")).unwrap_err();
+        assert_eq!(error.refusal(), calls::convert(&WHOLE, &bytes, &mut []).refusal());
+    }
+    // a recording in the place of a sheet
+    let error = files::convert(&path, &path, place.0.join("newer")).unwrap_err();
+    assert!(error.to_string().starts_with("refused 10, sheet at byte 0 of the old sheet: "), "{error}");
 }
 
 #[cfg(unix)]

@@ -39,7 +39,27 @@ fn places_and_limits_are_those_of_the_definitions() {
     assert!(definitions.contains("\nlargestUserOffset = 2 ^ 40 - largestTable\n"));
     assert!(defined("FSTF_LARGEST_FILE").starts_with("(UINT64_C(1) << 40) "));
     assert_eq!((constant("FSTF_LONGEST_NAME"), constant("FSTF_LONGEST_VALUE")), (255, 255));
+    // a count; for each change a name, and twice a kind and a value, each string behind its length
+    let change = 1 + constant("FSTF_LONGEST_NAME") + 2 * (1 + 1 + constant("FSTF_LONGEST_VALUE"));
+    let sheet = 1 + constant("FSTF_MOST_CHANGES") * change;
+    assert_eq!((sheet, suljanko::LARGEST_SHEET as u64), (49_281, sheet));
+    assert!(defined("FSTF_LARGEST_SHEET").starts_with(&format!("UINT64_C({sheet}) ")));
     assert_eq!(constant("FSTF_CLOSING_PIECES"), suljanko::CLOSING_PIECES as u64);
+}
+
+// a change of which nobody looked gets a length byte and a value
+#[test]
+fn a_converted_sheet_has_room() {
+    let more = constant("FSTF_MOST_CHANGES") * (1 + constant("FSTF_LONGEST_VALUE"));
+    let room = format!("(UINT64_C(0) + (sheet_length) + UINT64_C({more}))");
+    assert_eq!(defined("FSTF_CONVERT_ROOM(sheet_length)"), room);
+    for (length, enough) in [(0, 16_384), (1, 16_385), (32_896, 49_280), (32_897, 49_281)] {
+        assert_eq!((suljanko::convert_room(length), length as u64 + more), (enough, enough as u64));
+    }
+    // no sheet is longer, and a longer one than that is refused
+    for length in [32_898, 49_281, 1 << 40, usize::MAX] {
+        assert_eq!(suljanko::convert_room(length), suljanko::LARGEST_SHEET);
+    }
 }
 
 #[test]

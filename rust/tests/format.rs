@@ -3,7 +3,7 @@
 mod common;
 
 use common::WHOLE;
-use suljanko::{calls, commit, repair, Recorder, Recording, Refusal, Sheet};
+use suljanko::{calls, commit, convert, convert_room, repair, Recorder, Recording, Refusal, Sheet, LARGEST_SHEET};
 
 const FORMAT: &str = include_str!("../../docs/FORMAT.md");
 const WORKED: &[u8] = include_bytes!("../../examples/worked.fstf");
@@ -43,6 +43,7 @@ fn each_definition_that_it_names_is_there() {
         ("Recorder", include_str!("../../crates/layout/specs/Recorder.antt")),
         ("Repair", include_str!("../../crates/layout/specs/Repair.antt")),
         ("Saving", include_str!("../../crates/layout/specs/Saving.antt")),
+        ("OldSheets", include_str!("../../crates/layout/specs/OldSheets.antt")),
         ("Storage", include_str!("../../crates/layout/specs/Storage.antt")),
     ];
     let mut named = 0;
@@ -100,9 +101,30 @@ fn the_twelve_examples() {
     assert_eq!((answer(12), again.number()), ("11, place 0", 11));
 }
 
+/// The page in one line.
+fn plain() -> String {
+    FORMAT.split_whitespace().collect::<Vec<_>>().join(" ")
+}
+
+#[test]
+fn the_old_sheet_that_it_names() {
+    let part = FORMAT.split("\n## Old sheets\n").nth(1).unwrap().split("\n## ").next().unwrap();
+    let quoted = part.split('`').skip(1).step_by(2).filter(|quoted| quoted.starts_with("01 04 "));
+    let sheets: Vec<_> = quoted.map(hex).collect();
+    assert_eq!(sheets.len(), 3);
+    let against_worked = convert(WORKED, &sheets[0]).unwrap();
+    assert_eq!(against_worked.bytes(), sheets[1]);
+    assert_eq!(sheets[1], hex(rows("Twelve examples")[11][1].split('`').nth(1).unwrap()));
+    let file = commit(WORKED, against_worked.sheet()).unwrap().to_vec();
+    assert_eq!(convert(&file, &sheets[0]).unwrap().bytes(), sheets[2]);
+    assert_eq!((LARGEST_SHEET, convert_room(0)), (49_281, 16_384));
+    assert!(plain().contains("So a sheet has at most 49,281 bytes: "));
+    assert!(plain().contains("at most 16,384 bytes more than the old one, and as any sheet at most 49,281."));
+}
+
 #[test]
 fn the_positions_that_it_names() {
-    let plain = FORMAT.split_whitespace().collect::<Vec<_>>().join(" ");
+    let plain = plain();
     let says = |text: &str, refusal: Option<Refusal>, number: u64, place: u64| {
         assert!(plain.contains(text), "{text}");
         assert_eq!(
@@ -119,6 +141,13 @@ fn the_positions_that_it_names() {
         sheet("01 05 41 07"),
         10,
         3,
+    );
+    let nobody_looked = "01 04 53 49 54 45 02 01 01 41";
+    says(
+        &format!("`{nobody_looked}` says by its kind 2 that nobody looked, and is refused 10 at 6;"),
+        sheet(nobody_looked),
+        10,
+        6,
     );
     says("cut after 51 bytes has three bytes of the system table's count: 4 at 48.", opened(&WORKED[..51]), 4, 48);
     says("Cut after 97 it has three of the user table's: 7 at 94.", opened(&WORKED[..97]), 7, 94);

@@ -69,7 +69,7 @@ fn structs() {
             (name.to_string(), each(members, ',', from_rust))
         })
         .collect();
-    assert_eq!(in_header.len(), 10);
+    assert_eq!(in_header.len(), 11);
     assert_eq!(in_raw, in_header);
     // every answer has one head; the recorder's state is no answer
     for (name, members) in &in_header {
@@ -107,7 +107,7 @@ fn calls() {
             (name.to_string(), shape)
         })
         .collect();
-    assert_eq!(in_header.len(), 16);
+    assert_eq!(in_header.len(), 17);
     assert_eq!(in_raw, in_header);
 }
 

@@ -41,8 +41,8 @@ fn each_change_with_what_was_seen_and_what_the_file_says() {
     sheet.change("NEW").seen(None).set("");
     sheet.change("EMPTY").seen(None).set("now");
     sheet.change("GONE").seen(Some("")).remove();
-    sheet.change("OLD").nobody_looked().set("2026");
-    sheet.change("NEITHER").nobody_looked().remove();
+    sheet.change("OLD").seen(Some("1999")).set("2026");
+    sheet.change("NEITHER").seen(None).remove();
     let look = look(&file, &sheet).unwrap();
     // what it answers is its own and the sheet's
     drop(file);
@@ -52,8 +52,8 @@ fn each_change_with_what_was_seen_and_what_the_file_says() {
         (2, "NEW", Seen::Absent, None, Some(""), false),
         (3, "EMPTY", Seen::Absent, Some(""), Some("now"), true),
         (4, "GONE", Seen::Value(""), None, None, true),
-        (5, "OLD", Seen::NobodyLooked, Some("1999"), Some("2026"), false),
-        (6, "NEITHER", Seen::NobodyLooked, None, None, false),
+        (5, "OLD", Seen::Value("1999"), Some("1999"), Some("2026"), false),
+        (6, "NEITHER", Seen::Absent, None, None, false),
     ];
     assert!(look.changes().iter().map(told).eq(expected), "{look}");
     assert_eq!((places(&look), look.conflict_count(), look.all_agree()), (vec![0, 3, 4], 3, false));
@@ -65,8 +65,8 @@ fn each_change_with_what_was_seen_and_what_the_file_says() {
         r#"change 2, tag "NEW": seen no such tag, the file has no such tag, to be "": agrees"#,
         r#"change 3, tag "EMPTY": seen no such tag, the file says "", to be "now": conflicts"#,
         r#"change 4, tag "GONE": seen "", the file has no such tag, to be removed: conflicts"#,
-        r#"change 5, tag "OLD": nobody looked, the file says "1999", to be "2026": agrees"#,
-        r#"change 6, tag "NEITHER": nobody looked, the file has no such tag, to be removed: agrees"#,
+        r#"change 5, tag "OLD": seen "1999", the file says "1999", to be "2026": agrees"#,
+        r#"change 6, tag "NEITHER": seen no such tag, the file has no such tag, to be removed: agrees"#,
     ];
     assert_eq!(look.to_string(), lines.join("\n"));
     assert_eq!(look.changes()[4].to_string(), lines[5]);
@@ -101,11 +101,6 @@ fn absent_empty_and_other_values() {
                 assert_eq!(refused, if seen == now { None } else { Refusal::of(11, 0) });
             }
         }
-        let mut sheet = Sheet::new();
-        sheet.change("T").nobody_looked().set("new");
-        let look = look(&file, &sheet).unwrap();
-        assert_eq!((look.changes()[0].now.as_deref(), look.all_agree()), (now, true));
-        assert!(commit(&file, &sheet).is_ok());
     }
 }
 
@@ -180,9 +175,8 @@ fn a_commit_is_refused_11_where_a_look_shows_a_conflict_and_only_there() {
         for number in 0..below(5) {
             let name = format!("N{}", 2 * number);
             let change = match below(8) {
-                0 => sheet.change(&name).nobody_looked(),
-                1 => sheet.change(&name).seen(None),
-                2 => sheet.change(&name).seen(Some(values[below(3)])),
+                0 => sheet.change(&name).seen(None),
+                1 => sheet.change(&name).seen(Some(values[below(3)])),
                 // mostly what is there
                 _ => sheet.change(&name).seen(tags.iter().find(|tag| tag.0 == name).map(|tag| tag.1)),
             };

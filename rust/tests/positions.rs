@@ -4,8 +4,8 @@ mod common;
 
 use common::{before_closing, recorded, tagged, with, WHOLE};
 use suljanko::{
-    calls, commit, look, raw, repair, set_up_list, tag_table, Lent, Position, Reason, Recorder, Recording, Refusal,
-    Sheet, Spot, SpotPart,
+    calls, commit, convert, look, raw, repair, set_up_list, tag_table, Lent, Position, Reason, Recorder, Recording,
+    Refusal, Sheet, Spot, SpotPart,
 };
 
 fn opening(file: &[u8]) -> Refusal {
@@ -111,11 +111,14 @@ fn every_call_over_a_file_says_it() {
         calls::part_of(cut, opened, raw::FSTF_SECTION_NAME, 0, 0).refusal(),
         calls::look(cut, &[0]).refusal(),
         calls::commit(cut, &[0], &mut out).refusal(),
+        calls::convert(cut, &[0], &mut out).refusal(),
         look(cut, &Sheet::new()).err(),
         commit(cut, &Sheet::new()).err(),
+        convert(cut, &[0]).err(),
         // 7 is ahead of 10
         calls::look(cut, &[]).refusal(),
         calls::commit(cut, &[], &mut out).refusal(),
+        calls::convert(cut, &[], &mut out).refusal(),
     ];
     for refusal in refusals {
         stands(refusal.unwrap(), 7, Lent::File, 94);
@@ -124,6 +127,7 @@ fn every_call_over_a_file_says_it() {
         stands(calls::repair(file, &mut out).refusal().unwrap(), 4, Lent::File, 48);
         stands(calls::look(file, &[0]).refusal().unwrap(), 4, Lent::File, 48);
         stands(calls::commit(file, &[0], &mut out).refusal().unwrap(), 4, Lent::File, 48);
+        stands(calls::convert(file, &[0], &mut out).refusal().unwrap(), 4, Lent::File, 48);
     }
 }
 
@@ -160,15 +164,55 @@ fn sheets() {
         (&[1, 1, b'A', 0, 2], 4),
         (&[1, 1, b'A', 1], 4),
         (&[1, 1, b'A', 1, 2, b'x', 0x7F, 0], 6),
-        (&[1, 1, b'A', 2, 1, 3, b'x'], 7),
+        (&[1, 1, b'A', 0, 1, 3, b'x'], 7),
         (&[1, 1, b'A', 0, 0, 9, 9], 5),
     ];
     for (bytes, at) in rows {
         stands(of_sheet(bytes), 10, Lent::Sheet, at);
         let looked = calls::look(&WHOLE, bytes);
         let committed = calls::commit(&WHOLE, bytes, &mut []);
+        // none of them has a seen kind 2, so that they are no old sheets either
+        let converted = calls::convert(&WHOLE, bytes, &mut []);
         assert_eq!((looked.refused, looked.place), (10, at), "{bytes:?}");
         assert_eq!((committed.refused, committed.place), (10, at), "{bytes:?}");
+        assert_eq!((converted.refused, converted.place), (10, at), "{bytes:?}");
+    }
+}
+
+/// Seen kind 2 is refused where it stands, ahead of all that is behind it; to convert, it is none of the faults.
+#[test]
+fn sheets_that_nobody_looked_for() {
+    // the sheet, the place of the kind, and the place of what else is wrong with it, if anything is
+    let rows: [(&[u8], u64, Option<u64>); 8] = [
+        (&[1, 1, b'A', 2, 0], 3, None),
+        (&[1, 1, b'A', 2, 1, 1, b'x'], 3, None),
+        (&[2, 1, b'A', 0, 0, 1, b'B', 2, 0], 7, None),
+        (&[2, 1, b'A', 2, 0, 1, b'B', 2, 0], 3, None),
+        (&[1, 1, b'A', 2], 3, Some(4)),
+        (&[1, 1, b'A', 2, 2], 3, Some(4)),
+        (&[1, 1, b'A', 2, 1, 3, b'x'], 3, Some(7)),
+        (&[2, 1, b'A', 2, 0, 1, b'A', 2, 0, 7], 3, Some(5)),
+    ];
+    for (bytes, kind, other) in rows {
+        stands(of_sheet(bytes), 10, Lent::Sheet, kind);
+        let spot = of_sheet(bytes).spot(bytes).unwrap();
+        assert_eq!((spot.part, spot.byte, spot.nobody_looked()), (SpotPart::SeenKind, Some(2), true), "{bytes:?}");
+        assert!(of_sheet(bytes).to_string().contains(": It says that nobody looked, "), "{bytes:?}");
+        assert!(of_sheet(bytes).advice().contains(": convert it, with the file that it was prepared against."));
+        stands(calls::look(&WHOLE, bytes).refusal().unwrap(), 10, Lent::Sheet, kind);
+        stands(calls::commit(&WHOLE, bytes, &mut [0; 64]).refusal().unwrap(), 10, Lent::Sheet, kind);
+        let converted = calls::convert(&WHOLE, bytes, &mut [0; 64]).refusal();
+        assert_eq!(converted.and_then(|refusal| refusal.place()), other, "{bytes:?}");
+        if let Some(refusal) = converted {
+            stands(refusal, 10, Lent::OldSheet, other.unwrap());
+            assert!(!refusal.spot(bytes).unwrap().nobody_looked(), "{bytes:?}");
+        }
+    }
+    // a kind that never was one, and a 2 in another place, are told apart from it
+    for bytes in [&[1, 1, b'A', 3, 0][..], &[1, 1, b'A', 0, 2], &[1, 2, b'A', 2, 0, 0], &[1, 1, b'A', 1, 2, b'x', 2, 0]]
+    {
+        assert!(!of_sheet(bytes).spot(bytes).unwrap().nobody_looked(), "{bytes:?}");
+        assert_eq!(of_sheet(bytes).advice(), Refusal::of(10, 0).unwrap().advice());
     }
 }
 
@@ -255,6 +299,7 @@ fn how_it_is_shown() {
     shown(opening(&with(18, 4)), "refused 4, system table at byte 1,072 of the file");
     shown(opening(&with(33, 0)), "refused 3, sections at byte 33 of the file");
     shown(of_sheet(&[1, 5, b'A', 7]), "refused 10, sheet at byte 3 of the sheet");
+    shown(convert(&WHOLE, &[1, 5, b'A', 7]).unwrap_err(), "refused 10, sheet at byte 3 of the old sheet");
     shown(of_list(b"\x01\x05IMAGE\x05\x00abc"), "refused 10, sheet at byte 9 of the set-up list");
     shown(begun(&[1, 1, b'A', 0, 0], &[]), "refused 4, system table at byte 0 of the table");
     shown(of_table(&[]), "refused 7, user table at byte 0 of the table");
@@ -300,9 +345,15 @@ fn what_stands_there() {
     sheet(&[], "the number of changes, where the bytes have ended");
     sheet(&[1, 5, b'A', 7], r#"change 0, "A\x07": character 1 of its name, byte 0x07"#);
     sheet(&[1, 1, b'A', 3, 0], r#"change 0, "A": the kind of what was seen, byte 0x03"#);
+    let old = "nobody looked, as an old sheet may say. Convert it, with the file that it was prepared against";
+    sheet(&[1, 1, b'A', 2, 0], &format!(r#"change 0, "A": the kind of what was seen, byte 0x02: {old}"#));
     sheet(&[1, 1, b'A', 0], r#"change 0, "A": the kind of what is new, where the bytes have ended"#);
     sheet(&[1, 1, b'A', 1, 1, 9, 0], r#"change 0, "A": character 0 of the value that was seen, byte 0x09"#);
-    sheet(&[1, 1, b'A', 2, 1, 1, 9], r#"change 0, "A": character 0 of its new value, byte 0x09"#);
+    sheet(&[1, 1, b'A', 0, 1, 1, 9], r#"change 0, "A": character 0 of its new value, byte 0x09"#);
+    // the walk passes over the changes of which nobody looked
+    let old = [2, 1, b'A', 2, 0, 1, b'B', 2, 1, 1, 9];
+    let refusal = calls::convert(&WHOLE, &old, &mut []).refusal().unwrap();
+    said(refusal, &old, r#"change 1, "B": character 0 of its new value, byte 0x09"#);
     sheet(&[0, 1], "behind the last change, byte 0x01");
     let list = |list: &[u8], text: &str| said(of_list(list), list, text);
     list(b"\x01\x05IMAGE\x05\x00abc", r#"section 0, "IMAGE": its configuration, which is cut off"#);
@@ -417,6 +468,7 @@ fn every_position_is_in_its_bytes_and_leads_somewhere() {
         assert_eq!(repair(&changed).err() == Some(refusal), refusal.number() != 7, "{refusal}");
         assert_eq!(calls::look(&changed, &[0]).refusal(), Some(refusal));
         assert_eq!(calls::commit(&changed, &[0], &mut []).refusal(), Some(refusal));
+        assert_eq!(calls::convert(&changed, &[0], &mut []).refusal(), Some(refusal));
     }
     assert!(met[3] > 100 && met[4] > 100 && met[7] > 100, "{met:?}");
 }

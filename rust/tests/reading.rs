@@ -137,7 +137,7 @@ fn tables_keep_their_order() {
     sheet.change("NEW").seen(None).set("last");
     sheet.change("T1").seen(Some("V1")).set("");
     sheet.change("T0").seen(Some("V0")).remove();
-    sheet.change("GONE").nobody_looked().remove();
+    sheet.change("GONE").seen(None).remove();
     let file = commit(&file, &sheet).unwrap().to_vec();
     let recording = Recording::open(&file).unwrap();
     let tags: Vec<_> = recording.user_tags().map(|tag| (tag.name, tag.value)).collect();

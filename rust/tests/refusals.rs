@@ -43,7 +43,7 @@ fn no_room() -> Refusal {
 
 fn sheet_refused() -> Refusal {
     let mut sheet = Sheet::new();
-    sheet.change("").nobody_looked().remove();
+    sheet.change("").seen(None).remove();
     commit(&WHOLE, &sheet).unwrap_err()
 }
 
@@ -79,7 +79,7 @@ fn each_number_is_reached_and_has_its_name_and_advice() {
 fn a_conflict_says_where() {
     let mut sheet = Sheet::new();
     sheet.change("A").seen(None).set("1");
-    sheet.change("B").nobody_looked().set("2");
+    sheet.change("B").seen(None).set("2");
     sheet.change("C").seen(Some("3")).remove();
     let refusal = commit(&WHOLE, &sheet).unwrap_err();
     assert_eq!((refusal.reason(), refusal.place()), (Reason::Conflict, Some(2)));
@@ -182,17 +182,17 @@ fn sheets_that_are_none() {
     let mut sheets = Vec::new();
     for (name, value) in [("", "A"), ("é", "A"), ("A", "\n"), (long.as_str(), "A"), ("A", long.as_str())] {
         let mut sheet = Sheet::new();
-        sheet.change(name).nobody_looked().set(value);
+        sheet.change(name).seen(None).set(value);
         sheets.push(sheet);
     }
     let mut twice = Sheet::new();
-    twice.change("A").nobody_looked().set("1");
-    twice.change("A").nobody_looked().remove();
+    twice.change("A").seen(None).set("1");
+    twice.change("A").seen(None).remove();
     sheets.push(twice);
     for changes in [65, 255, 256, 257, 320] {
         let mut sheet = Sheet::new();
         for number in 0..changes {
-            sheet.change(&format!("T{number}")).nobody_looked().remove();
+            sheet.change(&format!("T{number}")).seen(None).remove();
         }
         assert_eq!(sheet.len(), changes);
         sheets.push(sheet);

@@ -62,7 +62,7 @@ fn each_fault_is_told_with_its_tag() {
 fn a_name_used_twice_is_told_each_time() {
     let mut sheet = Sheet::new();
     for name in ["SITE", "NOTE", "SITE", "site", "SITE"] {
-        sheet.change(name).nobody_looked().remove();
+        sheet.change(name).seen(None).remove();
     }
     let faults: Vec<_> = sheet.faults().iter().map(|fault| (fault.place, fault.name, fault.fault)).collect();
     assert_eq!(faults, [(2, "SITE", Fault::Twice { first: 0 }), (4, "SITE", Fault::Twice { first: 0 })]);
@@ -74,11 +74,11 @@ fn a_name_used_twice_is_told_each_time() {
 fn more_than_64_changes_are_told_once() {
     let mut sheet = Sheet::new();
     for number in 0..64 {
-        sheet.change(&format!("T{number}")).nobody_looked().remove();
+        sheet.change(&format!("T{number}")).seen(None).remove();
     }
     assert!(sheet.faults().is_empty() && !refused(&sheet));
     for number in 64..300 {
-        sheet.change(&format!("T{number}")).nobody_looked().remove();
+        sheet.change(&format!("T{number}")).seen(None).remove();
         let faults = sheet.faults();
         assert_eq!((faults.len(), faults[0].place, faults[0].name), (1, 64, "T64"));
         assert_eq!(faults[0].fault, Fault::TooMany { changes: number + 1 });
@@ -91,7 +91,7 @@ fn more_than_64_changes_are_told_once() {
 fn a_refusal_points_at_the_first_fault() {
     let mut sheet = Sheet::new();
     sheet.change("SITE").seen(Some("Inari")).set("Enontekiö");
-    sheet.change("").nobody_looked().remove();
+    sheet.change("").seen(None).remove();
     let refusal = commit(&WHOLE, &sheet).unwrap_err();
     // 1 and 4 letters, kind and 1 and 5 letters, kind and length, 8 letters: the first of the two bytes of the ö
     assert_eq!((refusal.number(), refusal.place()), (10, Some(1 + 5 + 7 + 2 + 8)));
@@ -105,7 +105,7 @@ fn a_refusal_points_at_the_first_fault() {
     assert_eq!(Sheet::from_bytes(&sheet.to_vec()), Err(refusal));
     // too many changes are told where the library tells them, ahead of the others
     for number in 0..70 {
-        sheet.change(&format!("T{number}")).nobody_looked().remove();
+        sheet.change(&format!("T{number}")).seen(None).remove();
     }
     assert_eq!(commit(&WHOLE, &sheet).unwrap_err().place(), Some(0));
     assert_eq!(pointed(&sheet).map(|fault| fault.fault), Some(Fault::TooMany { changes: 72 }));
@@ -136,11 +136,11 @@ fn a_sheet_without_a_form_is_led_to_its_first_fault() {
     let refusal = commit(&WHOLE, &sheet).unwrap_err();
     assert_eq!((refusal.number(), refusal.place(), sheet.to_vec().len()), (10, Some(0), 0));
     assert_eq!(pointed(&sheet).map(|fault| fault.fault), Some(Fault::TooLong { bytes: 256 }));
-    sheet.change("A").nobody_looked().set("\t");
+    sheet.change("A").seen(None).set("\t");
     assert_eq!(pointed(&sheet), sheet.faults().first().copied());
     // one that is ahead of it comes first
     let mut sheet = one("A", None, "\t");
-    sheet.change(&long).nobody_looked().remove();
+    sheet.change(&long).seen(None).remove();
     assert_eq!(pointed(&sheet).map(|fault| fault.fault), Some(Fault::Character { character: '\t', place: 0 }));
 }
 
@@ -170,7 +170,7 @@ fn faults_are_what_the_library_refuses() {
             let mut pick = || strings[if below(4) == 0 { below(strings.len()) } else { 1 + below(4) }].as_str();
             let (name, seen, new) = (pick(), pick(), pick());
             match below(3) {
-                0 => sheet.change(name).nobody_looked().set(new),
+                0 => sheet.change(name).seen(Some(seen)).set(new),
                 1 => sheet.change(name).seen(Some(seen)).remove(),
                 _ => sheet.change(name).seen(None).set(new),
             }
@@ -203,8 +203,8 @@ fn bytes_that_are_no_sheet() {
         assert_eq!(Sheet::from_bytes(&sheet[..length]).unwrap_err().number(), 10, "{length} bytes");
     }
     let longer = [&sheet[..], &[0]].concat();
-    let kinds = [&[1, 1, b'A', 3, 0][..], &[1, 1, b'A', 0, 2], &[1, 0, 0, 0], &[1, 1, 9, 0, 0], &longer];
-    for bytes in kinds {
+    let kinds = [[1, 1, b'A', 2, 0], [1, 1, b'A', 3, 0], [1, 1, b'A', 0, 2], [1, 1, 9, 0, 0]];
+    for bytes in kinds.iter().map(|bytes| &bytes[..]).chain([&[1, 0, 0, 0][..], &longer]) {
         assert_eq!(Sheet::from_bytes(bytes).unwrap_err().number(), 10, "{bytes:?}");
     }
 }
@@ -214,11 +214,11 @@ fn the_changes_one_by_one() {
     let mut sheet = Sheet::new();
     sheet.change("A").seen(None).set("1");
     sheet.change("B").seen(Some("2")).remove();
-    sheet.change("C").nobody_looked().set("");
+    sheet.change("C").seen(Some("")).set("");
     let changes = [
         SheetChange { name: "A", seen: Seen::Absent, new: Some("1") },
         SheetChange { name: "B", seen: Seen::Value("2"), new: None },
-        SheetChange { name: "C", seen: Seen::NobodyLooked, new: Some("") },
+        SheetChange { name: "C", seen: Seen::Value(""), new: Some("") },
     ];
     assert_eq!(sheet.changes().len(), 3);
     assert!(sheet.changes().eq(changes));

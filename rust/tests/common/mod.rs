@@ -1,7 +1,9 @@
-//! The file of document 01, and recordings of any shape made by the recorder.
+//! The file of document 01, recordings of any shape made by the recorder, and directories to put them in.
 #![allow(dead_code)]
 
+use std::fs;
 use std::io::Cursor;
+use std::path::PathBuf;
 
 use suljanko::{FileRecorder, Recorder, Sheet};
 
@@ -63,4 +65,35 @@ pub fn tagged(tags: usize) -> Vec<u8> {
         file = suljanko::commit(&file, &sheet).unwrap().to_vec();
     }
     file
+}
+
+/// A directory of its own for a test, which goes when the test is done.
+pub struct Place(pub PathBuf);
+
+impl Place {
+    pub fn new(name: &str) -> Place {
+        let path = std::env::temp_dir().join(format!("suljanko-{}-{name}", std::process::id()));
+        fs::create_dir_all(&path).unwrap();
+        Place(path)
+    }
+
+    pub fn file(&self, name: &str, bytes: &[u8]) -> PathBuf {
+        let path = self.0.join(name);
+        fs::write(&path, bytes).unwrap();
+        path
+    }
+
+    /// The names of what is in it, in order.
+    pub fn names(&self) -> Vec<String> {
+        let mut names: Vec<_> =
+            fs::read_dir(&self.0).unwrap().map(|entry| entry.unwrap().file_name().into_string().unwrap()).collect();
+        names.sort();
+        names
+    }
+}
+
+impl Drop for Place {
+    fn drop(&mut self) {
+        let _ = fs::remove_dir_all(&self.0);
+    }
 }
