@@ -42,10 +42,10 @@ pub(crate) fn user_table(bytes: &[u8], offset: usize) -> Refusal {
     refuse(refusal::USER_TABLE, read.err())
 }
 
-/// 10 in a change sheet.
+/// 10 in a change sheet whose seen kinds go up to the greatest.
 #[cold]
-pub(crate) fn sheet(sheet: &[u8]) -> Refusal {
-    let read = read_whole(sheet, 0, read_changes);
+pub(crate) fn sheet(sheet: &[u8], greatest_seen: u8) -> Refusal {
+    let read = read_whole(sheet, 0, |reader| read_changes(reader, greatest_seen));
     refuse(refusal::SHEET, read.err())
 }
 
@@ -144,7 +144,7 @@ impl<'a> Reader<'a> {
 }
 
 /// What `read` reads from a place on has to be all that is lent behind it.
-fn read_whole(bytes: &[u8], from: usize, read: fn(&mut Reader) -> Read<()>) -> Read<()> {
+fn read_whole(bytes: &[u8], from: usize, read: impl FnOnce(&mut Reader) -> Read<()>) -> Read<()> {
     let mut reader = Reader::new(bytes, from);
     read(&mut reader)?;
     reader.end()
@@ -176,12 +176,12 @@ fn read_table(reader: &mut Reader) -> Read<()> {
     Ok(())
 }
 
-fn read_changes(reader: &mut Reader) -> Read<()> {
+fn read_changes(reader: &mut Reader, greatest_seen: u8) -> Read<()> {
     let changes = reader.number_among(1, 0..=MAX_CHANGES as u64)?;
     let mut known = HashSet::new();
     for _ in 0..changes {
         new_name(reader, &mut known, is_text_byte)?;
-        read_entry(reader, 0..=2)?;
+        read_entry(reader, 0..=u64::from(greatest_seen))?;
         read_entry(reader, 0..=1)?;
     }
     Ok(())

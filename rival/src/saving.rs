@@ -1,5 +1,9 @@
 //! Saving tags: a change sheet against the file's user table. Look tells which
-//! changes conflict, commit makes the new table.
+//! changes conflict, commit makes the new table, convert makes a sheet of an old
+//! one.
+//!
+//! Request 111 withdrew seen kind 2, nobody looked. A sheet from before it may
+//! have that kind, and is called an old sheet here.
 
 use crate::faults;
 use crate::layout::{is_text, Cursor, Filler, Header};
@@ -21,7 +25,7 @@ pub struct Looked {
 /// Which changes of a sheet conflict with the file's user table.
 pub fn look(file: &[u8], sheet: &[u8]) -> Result<Looked, Refusal> {
     let mut names = TableNames::new();
-    let meeting = Meeting::open(file, sheet, &mut names)?;
+    let meeting = Meeting::open(file, sheet, GREATEST_SEEN, &mut names)?;
     let conflicts = meeting
         .changes
         .iter()
@@ -36,8 +40,39 @@ pub fn look(file: &[u8], sheet: &[u8]) -> Result<Looked, Refusal> {
 
 /// Fills the output with the new user table and hands back its length.
 pub fn commit(file: &[u8], sheet: &[u8], out: &mut [u8]) -> Result<u64, Refusal> {
+    commit_up_to(GREATEST_SEEN, file, sheet, out)
+}
+
+/// What commit did before request 111: what nobody looked at agrees with
+/// anything. It is kept for the comparison alone, which holds the commit of a
+/// converted sheet against it.
+pub fn commit_of_old_sheet(file: &[u8], sheet: &[u8], out: &mut [u8]) -> Result<u64, Refusal> {
+    commit_up_to(GREATEST_SEEN_OF_OLD, file, sheet, out)
+}
+
+/// Fills the output with a new sheet, and hands back its length: the old one in
+/// which the user table says what nobody looked at. It asks neither whether the
+/// sheet conflicts nor whether the table would be full.
+pub fn convert(file: &[u8], sheet: &[u8], out: &mut [u8]) -> Result<u64, Refusal> {
     let mut names = TableNames::new();
-    let meeting = Meeting::open(file, sheet, &mut names)?;
+    let meeting = Meeting::open(file, sheet, GREATEST_SEEN_OF_OLD, &mut names)?;
+    let conversion = Conversion::make(&meeting, sheet);
+    if out.len() < conversion.length {
+        return Err(refusal::NO_ROOM.into());
+    }
+    let length = conversion.length as u64;
+    conversion.write(sheet, out);
+    Ok(length)
+}
+
+fn commit_up_to(
+    greatest_seen: u8,
+    file: &[u8],
+    sheet: &[u8],
+    out: &mut [u8],
+) -> Result<u64, Refusal> {
+    let mut names = TableNames::new();
+    let meeting = Meeting::open(file, sheet, greatest_seen, &mut names)?;
     let plan = Plan::make(&meeting)?;
     if plan.tags > Header::MAX_TAGS {
         return Err(refusal::TABLE_FULL.into());
@@ -63,11 +98,13 @@ impl<'a> Meeting<'a> {
     fn open(
         file: &'a [u8],
         sheet: &'a [u8],
+        greatest_seen: u8,
         names: &'a mut TableNames,
     ) -> Result<Meeting<'a>, Refusal> {
         let front = front(file, names)?;
         let rest = rest(file, &front, names)?;
-        let changes = read_sheet(sheet).ok_or_else(|| faults::sheet(sheet))?;
+        let changes =
+            read_sheet(sheet, greatest_seen).ok_or_else(|| faults::sheet(sheet, greatest_seen))?;
         Ok(Meeting {
             table: &file[rest.user..],
             tags: rest.user_tags,
@@ -89,7 +126,7 @@ impl<'a> Meeting<'a> {
         match change.seen {
             Seen::Absent => found.is_some(),
             Seen::Value(seen) => found.map(|span| span.value_in(self.table)) != Some(seen),
-            Seen::NobodyLooked => false,
+            Seen::NobodyLooked(_) => false,
         }
     }
 }
@@ -169,6 +206,54 @@ impl<'a> Plan<'a> {
     }
 }
 
+/// What is filled into an old sheet, and the length that comes of it.
+struct Conversion<'a> {
+    /// Places of kind bytes that say nobody looked, in sheet order, and the
+    /// values that the table has for their changes; `None` where it has no tag.
+    filled: Vec<(usize, Option<&'a [u8]>)>,
+    length: usize,
+}
+
+impl<'a> Conversion<'a> {
+    fn make(meeting: &Meeting<'a>, sheet: &[u8]) -> Conversion<'a> {
+        let mut conversion = Conversion {
+            filled: Vec::with_capacity(meeting.changes.len()),
+            length: sheet.len(),
+        };
+        for change in &meeting.changes {
+            if let Seen::NobodyLooked(kind) = change.seen {
+                let found = meeting.find(change);
+                conversion.fill(kind, found.map(|span| span.value_in(meeting.table)));
+            }
+        }
+        conversion
+    }
+
+    /// The kind byte is replaced by another; a value comes with its length byte.
+    fn fill(&mut self, kind: usize, value: Option<&'a [u8]>) {
+        self.length += value.map_or(0, |value| 1 + value.len());
+        self.filled.push((kind, value));
+    }
+
+    /// What stands between two filled places is copied in one go.
+    fn write(self, sheet: &[u8], out: &mut [u8]) {
+        let mut filler = Filler::new(out);
+        let mut from = 0;
+        for (kind, value) in self.filled {
+            filler.put(&sheet[from..kind]);
+            match value {
+                Some(value) => {
+                    filler.put(&[SEEN_VALUE]);
+                    filler.put_short_string(value);
+                }
+                None => filler.put(&[SEEN_ABSENT]),
+            }
+            from = kind + 1;
+        }
+        filler.put(&sheet[from..]);
+    }
+}
+
 /// A tag's places in its table: of the tag, of its value's bytes, and its end.
 #[derive(Debug, Clone, Copy, PartialEq, Eq)]
 struct Span {
@@ -196,7 +281,8 @@ impl Span {
 enum Seen<'a> {
     Absent,
     Value(&'a [u8]),
-    NobodyLooked,
+    /// In an old sheet alone, with the place of the kind byte.
+    NobodyLooked(usize),
 }
 
 #[derive(Debug, Clone, Copy, PartialEq, Eq)]
@@ -208,8 +294,14 @@ struct Change<'a> {
 
 pub(crate) const MAX_CHANGES: usize = 64;
 
-/// `None` if the sheet is malformed.
-fn read_sheet(sheet: &[u8]) -> Option<Vec<Change<'_>>> {
+const SEEN_ABSENT: u8 = 0;
+const SEEN_VALUE: u8 = 1;
+const SEEN_NOBODY_LOOKED: u8 = 2;
+const GREATEST_SEEN: u8 = SEEN_VALUE;
+const GREATEST_SEEN_OF_OLD: u8 = SEEN_NOBODY_LOOKED;
+
+/// `None` if the sheet is malformed, or has a seen kind over the greatest.
+fn read_sheet(sheet: &[u8], greatest_seen: u8) -> Option<Vec<Change<'_>>> {
     let mut cursor = Cursor::new(sheet, 0);
     let count = usize::from(cursor.byte()?);
     if count > MAX_CHANGES {
@@ -224,10 +316,11 @@ fn read_sheet(sheet: &[u8]) -> Option<Vec<Change<'_>>> {
         if name.is_empty() || !is_text(name) || !names.insert(sheet, place) {
             return None;
         }
-        let seen = match cursor.byte()? {
-            0 => Seen::Absent,
-            1 => Seen::Value(text(&mut cursor)?),
-            2 => Seen::NobodyLooked,
+        let kind = cursor.at();
+        let seen = match cursor.byte().filter(|&kind| kind <= greatest_seen)? {
+            SEEN_ABSENT => Seen::Absent,
+            SEEN_VALUE => Seen::Value(text(&mut cursor)?),
+            SEEN_NOBODY_LOOKED => Seen::NobodyLooked(kind),
             _ => return None,
         };
         let new = match cursor.byte()? {

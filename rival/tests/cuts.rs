@@ -368,26 +368,38 @@ fn damaged_files_answer_as_the_plain_reading() {
 
 #[test]
 fn every_cut_of_a_sheet() {
-    let whole = sheet(&[
-        (b"A", &[1, 2, b'b', b'c'], &[0]),
-        (b"SITE", &[0], &[1, 0]),
-        (b"NOTE", &[2], &[1, 1, b'x']),
-    ]);
-    for cut in 0..whole.len() {
+    let whole = |seen: &[u8]| {
+        sheet(&[
+            (b"A", &[1, 2, b'b', b'c'], &[0]),
+            (b"SITE", &[0], &[1, 0]),
+            (b"NOTE", seen, &[1, 1, b'x']),
+        ])
+    };
+    let (new, old) = (whole(&[0]), whole(&[2]));
+    for cut in 0..new.len() {
         let mut out = [0xAA; 64];
-        let refused = commit(&WORKED, &whole[..cut], &mut out).unwrap_err();
+        let refused = commit(&WORKED, &new[..cut], &mut out).unwrap_err();
         assert_eq!(refused.number, 10, "{}", cut);
-        assert_eq!(look(&WORKED, &whole[..cut]), Err(refused));
+        assert_eq!(look(&WORKED, &new[..cut]), Err(refused));
+        // Cut there, the old sheet has the same fault.
+        let converted = convert(&WORKED, &old[..cut], &mut out);
+        assert_eq!(converted, Err(refused));
+        let committed = commit_of_old_sheet(&WORKED, &old[..cut], &mut out);
+        assert_eq!(committed, Err(refused));
         assert_eq!(out, [0xAA; 64]);
     }
-    assert_eq!(look(&WORKED, &whole).unwrap().conflicts, 0b001);
+    assert_eq!(look(&WORKED, &new).unwrap().conflicts, 0b001);
+    let mut out = [0xAA; 64];
+    let length = convert(&WORKED, &old, &mut out).unwrap() as usize;
+    assert_eq!(out[..length], new[..]);
 }
 
-/// Look and commit once more, over lists of tags.
+/// Look and commit once more, over lists of tags. Where nobody looked, the commit
+/// of before does what they say, and look and commit are refused.
 #[test]
 fn seeded_sheets_answer_as_lists_do() {
     let mut seeded = Seeded(0xC0FF_EE11_2233_4455);
-    let mut seen = [0u32; 4];
+    let mut seen = [0u32; 5];
     for _ in 0..20_000 {
         let name = |seeded: &mut Seeded| format!("N{}", seeded.below(12)).into_bytes();
         let value = |seeded: &mut Seeded| vec![b'v'; seeded.below(3) as usize];
@@ -404,6 +416,8 @@ fn seeded_sheets_answer_as_lists_do() {
         let mut added = Vec::new();
         let mut conflicts = 0;
         let mut twice = None;
+        let mut nobody = None;
+        let all_looked = seeded.below(2) == 0;
         for place in 0..seeded.below(7) {
             let name = name(&mut seeded);
             sheet[0] += 1;
@@ -422,7 +436,8 @@ fn seeded_sheets_answer_as_lists_do() {
                 1 => Some(value(&mut seeded)),
                 _ => old.clone(),
             };
-            if seeded.below(4) == 0 {
+            if !all_looked && seeded.below(4) == 0 {
+                nobody = nobody.or(Some(sheet.len() as u64));
                 sheet.push(2);
             } else {
                 match &claimed {
@@ -458,20 +473,28 @@ fn seeded_sheets_answer_as_lists_do() {
         let mut file = WORKED[..94].to_vec();
         file.extend(form(&tags));
         let mut out = [0xAA; 400];
-        let answer = commit(&file, &sheet, &mut out);
+        let answer = commit_of_old_sheet(&file, &sheet, &mut out);
+        let mut other = [0xAA; 400];
+        let committed = commit(&file, &sheet, &mut other);
         let looked = look(&file, &sheet);
-        if let Some(place) = twice {
+        if let Some(place) = twice.into_iter().chain(nobody).min() {
             assert_eq!(looked, Err(Refusal { number: 10, place }));
+            assert_eq!(committed, Err(Refusal { number: 10, place }));
+            assert_eq!(other, [0xAA; 400]);
+            seen[4] += u32::from(nobody.is_some());
+        } else {
+            let changes = u64::from(sheet[0]);
+            assert_eq!(looked, Ok(Looked { changes, conflicts }));
+            assert_eq!((committed, other), (answer, out));
+        }
+        if let Some(place) = twice {
             assert_eq!(answer, Err(Refusal { number: 10, place }));
             seen[0] += 1;
         } else if conflicts != 0 {
-            let changes = u64::from(sheet[0]);
-            assert_eq!(looked, Ok(Looked { changes, conflicts }));
             assert_eq!(answer, Err(conflict_at(lowest(conflicts))));
             seen[1] += 1;
             seen[2] += u32::from(conflicts.count_ones() > 1);
         } else {
-            assert_eq!(looked.unwrap().conflicts, 0);
             let expected = form(&after);
             assert_eq!(answer, Ok(expected.len() as u64));
             assert_eq!(out[..expected.len()], expected[..]);

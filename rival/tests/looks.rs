@@ -25,9 +25,7 @@ fn one(file: &[u8], name: &[u8], seen: &[u8]) -> u64 {
     let (changes, conflicts) = of_new(SOME_VALUE);
     assert_eq!(changes, 1);
     assert_eq!(of_new(ABSENT), (1, conflicts));
-    if seen != NOBODY_LOOKED {
-        assert_eq!(of_new(seen), (1, conflicts));
-    }
+    assert_eq!(of_new(seen), (1, conflicts));
     conflicts
 }
 
@@ -52,17 +50,25 @@ fn each_kind_of_seen_entry() {
 }
 
 #[test]
-fn what_nobody_looked_at_never_conflicts() {
+fn what_nobody_looked_at_is_refused_at_its_kind() {
     let file = with_table(&WORKED, &table(&[(b"A", b"1"), (b"B", b"")]));
+    let refused = |sheet: &[u8]| {
+        let refused = look(&file, sheet).unwrap_err();
+        assert_eq!(commit(&file, sheet, &mut [0; 64]), Err(refused));
+        (refused.number, refused.place)
+    };
     for name in [&b"A"[..], b"B", b"C"] {
-        assert_eq!(one(&file, name, NOBODY_LOOKED), 0);
+        for new in [ABSENT, SOME_VALUE] {
+            assert_eq!(refused(&sheet(&[(name, NOBODY_LOOKED, new)])), (10, 3));
+        }
     }
+    // The first of two, behind a change that conflicts, which is not told.
     let changes: [(&[u8], &[u8], &[u8]); 3] = [
-        (b"A", NOBODY_LOOKED, ABSENT),
         (b"B", ABSENT, ABSENT),
+        (b"A", NOBODY_LOOKED, ABSENT),
         (b"C", NOBODY_LOOKED, SOME_VALUE),
     ];
-    assert_eq!(looked(&file, &sheet(&changes)), (3, 0b010));
+    assert_eq!(refused(&sheet(&changes)), (10, 7));
 }
 
 #[test]

@@ -18,6 +18,8 @@ fn file_told(file: &[u8]) -> (u64, u64) {
     assert_eq!(told(part(file, Item::UserName(0))), opened);
     assert_eq!(told(look(file, &[9])), opened);
     assert_eq!(told(commit(file, &[9], &mut [])), opened);
+    assert_eq!(told(convert(file, &[9], &mut [])), opened);
+    assert_eq!(told(commit_of_old_sheet(file, &[9], &mut [])), opened);
     if opened.0 < 5 {
         assert_eq!(told(repair(file, &mut [])), opened);
     }
@@ -50,6 +52,20 @@ fn sheet_told(sheet: &[u8]) -> (u64, u64) {
     assert_eq!(told(commit(&WORKED, sheet, &mut [])), looked);
     looked
 }
+
+fn old_sheet_told(sheet: &[u8]) -> (u64, u64) {
+    let converted = told(convert(&WORKED, sheet, &mut []));
+    let committed = commit_of_old_sheet(&WORKED, sheet, &mut []);
+    assert_eq!(told(committed), converted);
+    converted
+}
+
+type SheetTold = fn(&[u8]) -> (u64, u64);
+
+/// What asks about a sheet, and the seen kinds without a value that are legal
+/// there.
+const SHEETS_TOLD: [(SheetTold, u8); 3] =
+    [(sheet_told, 0), (old_sheet_told, 0), (old_sheet_told, 2)];
 
 fn offset(file: &[u8], at: usize, offset: u64) -> Vec<u8> {
     with(file, at, &offset.to_le_bytes())
@@ -98,14 +114,16 @@ fn the_second_of_equal_names_that_is_met_first() {
     };
     assert_eq!(tags(b"ABBA"), (7, 4 + 2 * 4));
     assert_eq!(tags(b"ABCBAC"), (7, 4 + 3 * 4));
-    let sheet = |names: &[u8]| {
-        let changes = names.iter().flat_map(|&name| [1, name, 2, 0]);
-        let count = names.len() as u8;
-        let sheet: Vec<u8> = std::iter::once(count).chain(changes).collect();
-        sheet_told(&sheet)
-    };
-    assert_eq!(sheet(b"ABBA"), (10, 1 + 2 * 4));
-    assert_eq!(sheet(b"ABCBAC"), (10, 1 + 3 * 4));
+    for (sheet_told, seen) in SHEETS_TOLD {
+        let sheet = |names: &[u8]| {
+            let changes = names.iter().flat_map(|&name| [1, name, seen, 0]);
+            let count = names.len() as u8;
+            let sheet: Vec<u8> = std::iter::once(count).chain(changes).collect();
+            sheet_told(&sheet)
+        };
+        assert_eq!(sheet(b"ABBA"), (10, 1 + 2 * 4));
+        assert_eq!(sheet(b"ABCBAC"), (10, 1 + 3 * 4));
+    }
     let list = |names: &[u8]| {
         let sections: Vec<(&[u8], &[u8])> = names.chunks(1).map(|name| (name, &b"c"[..])).collect();
         list_told(&setup(&sections))
@@ -244,34 +262,61 @@ fn tables() {
 
 #[test]
 fn sheets() {
-    assert_eq!(sheet_told(&[]), (10, 0));
-    assert_eq!(sheet_told(&[65]), (10, 0));
-    assert_eq!(sheet_told(&[0, 0]), (10, 1));
-    let one = |bytes: &[u8]| sheet_told(&[&[1], bytes].concat());
-    assert_eq!(one(&[]), (10, 1));
-    assert_eq!(one(&[0, 2, 0]), (10, 1));
-    assert_eq!(one(&[1]), (10, 2));
-    assert_eq!(one(&[1, 31, 2, 0]), (10, 2));
-    // A kind that is missing, and one that there is not.
-    assert_eq!(one(&[1, b'A']), (10, 3));
-    assert_eq!(one(&[1, b'A', 3, 0]), (10, 3));
-    assert_eq!(one(&[1, b'A', 2]), (10, 4));
-    assert_eq!(one(&[1, b'A', 2, 2]), (10, 4));
-    // The value seen, and the new one.
-    assert_eq!(one(&[1, b'A', 1]), (10, 4));
-    assert_eq!(one(&[1, b'A', 1, 2, b'B']), (10, 6));
-    assert_eq!(one(&[1, b'A', 1, 1, 127, 0]), (10, 5));
-    assert_eq!(one(&[1, b'A', 1, 0]), (10, 5));
-    assert_eq!(one(&[1, b'A', 2, 1, 1, 127]), (10, 6));
-    assert_eq!(one(&[1, b'A', 2, 0, 9]), (10, 5));
-    // A name used twice ahead of a bad kind, and behind one.
-    let two = |bytes: &[u8]| sheet_told(&[&[2], bytes].concat());
-    assert_eq!(two(&[1, b'A', 2, 0, 1, b'A', 3, 0]), (10, 5));
-    assert_eq!(two(&[1, b'A', 3, 0, 1, b'A', 2, 0]), (10, 3));
-    assert_eq!(two(&[1, b'A', 2, 0]), (10, 5));
+    for (sheet_told, seen) in SHEETS_TOLD {
+        assert_eq!(sheet_told(&[]), (10, 0));
+        assert_eq!(sheet_told(&[65]), (10, 0));
+        assert_eq!(sheet_told(&[0, 0]), (10, 1));
+        let one = |bytes: &[u8]| sheet_told(&[&[1], bytes].concat());
+        assert_eq!(one(&[]), (10, 1));
+        assert_eq!(one(&[0, seen, 0]), (10, 1));
+        assert_eq!(one(&[1]), (10, 2));
+        assert_eq!(one(&[1, 31, seen, 0]), (10, 2));
+        // A kind that is missing, and one that there is not.
+        assert_eq!(one(&[1, b'A']), (10, 3));
+        assert_eq!(one(&[1, b'A', 3, 0]), (10, 3));
+        assert_eq!(one(&[1, b'A', 255, 0]), (10, 3));
+        assert_eq!(one(&[1, b'A', seen]), (10, 4));
+        assert_eq!(one(&[1, b'A', seen, 2]), (10, 4));
+        // The value seen, and the new one.
+        assert_eq!(one(&[1, b'A', 1]), (10, 4));
+        assert_eq!(one(&[1, b'A', 1, 2, b'B']), (10, 6));
+        assert_eq!(one(&[1, b'A', 1, 1, 127, 0]), (10, 5));
+        assert_eq!(one(&[1, b'A', 1, 0]), (10, 5));
+        assert_eq!(one(&[1, b'A', seen, 1, 1, 127]), (10, 6));
+        assert_eq!(one(&[1, b'A', seen, 0, 9]), (10, 5));
+        // A name used twice ahead of a bad kind, and behind one.
+        let two = |bytes: &[u8]| sheet_told(&[&[2], bytes].concat());
+        assert_eq!(two(&[1, b'A', seen, 0, 1, b'A', 3, 0]), (10, 5));
+        assert_eq!(two(&[1, b'A', 3, 0, 1, b'A', seen, 0]), (10, 3));
+        assert_eq!(two(&[1, b'A', seen, 0]), (10, 5));
+    }
     // What the file breaks is told first, with its own place.
-    assert_eq!(told(look(&WORKED[..97], &[65])), (7, 94));
-    assert_eq!(told(commit(&WORKED[..97], &[65], &mut [])), (7, 94));
+    for sheet in [&[65][..], &[1, 1, b'A', 2, 0]] {
+        let file = &WORKED[..97];
+        assert_eq!(told(look(file, sheet)), (7, 94));
+        assert_eq!(told(commit(file, sheet, &mut [])), (7, 94));
+        assert_eq!(told(convert(file, sheet, &mut [])), (7, 94));
+    }
+}
+
+/// From request 111 on it is a fault, but not in an old sheet.
+#[test]
+fn nobody_looked() {
+    assert_eq!(sheet_told(&[1, 1, b'A', 2, 0]), (10, 3));
+    assert_eq!(old_sheet_told(&[1, 1, b'A', 2, 0]), (9, 0));
+    // It ends the reading: what stands behind it is not asked about.
+    for behind in [&[][..], &[2], &[0, 9], &[1, 1, 127]] {
+        let sheet = [&[1, 1, b'A', 2], behind].concat();
+        assert_eq!(sheet_told(&sheet), (10, 3));
+    }
+    // The old sheet's own faults, behind the kind and ahead of it.
+    assert_eq!(old_sheet_told(&[1, 1, b'A', 2, 1, 1, 127]), (10, 6));
+    let twice = [3, 1, b'A', 0, 0, 1, b'A', 2, 0, 1, b'B', 2, 0];
+    assert_eq!(sheet_told(&twice), (10, 5));
+    assert_eq!(old_sheet_told(&twice), (10, 5));
+    let twice = [3, 1, b'A', 0, 0, 1, b'B', 2, 0, 1, b'A', 2, 0];
+    assert_eq!(sheet_told(&twice), (10, 7));
+    assert_eq!(old_sheet_told(&twice), (10, 9));
 }
 
 #[test]
@@ -310,12 +355,13 @@ fn other_numbers_carry_no_place() {
     assert_eq!(told(repair(&WORKED, &mut [])), (16, 0));
     assert_eq!(told(repair(&unclosed(), &mut [])), (9, 0));
     assert_eq!(told(commit(&WORKED, &[0], &mut [])), (9, 0));
+    assert_eq!(told(convert(&WORKED, &[0], &mut [])), (9, 0));
     assert_eq!(begin_told(&[1, 1, b'A', 0, 0], &[0; 4]), (9, 0));
     assert_eq!(told(close(State::new(), &[], &mut [])), (12, 0));
     let running = Recording::begin(&[1, 1, b'A', 0, 0], &[0; 4]).state;
     let added = add(running, 0, 0, &[0], &mut [], &mut []);
     assert_eq!(told(added), (14, 0));
     // 11 counts changes: the second of two, far into the sheet.
-    let sheet = [2, 3, b'A', b'B', b'C', 2, 0, 1, b'A', 1, 0, 0];
+    let sheet = [2, 3, b'A', b'B', b'C', 0, 0, 1, b'A', 1, 0, 0];
     assert_eq!(told(commit(&WORKED, &sheet, &mut [])), (11, 1));
 }

@@ -209,7 +209,7 @@ fn refused_9_leaves_everything() {
 
     let mut out = [0xBB; 64];
     assert_eq!(repair(&unclosed(), &mut out[..23]), Err(9));
-    let sheet = [1, 1, b'A', 2, 1, 0];
+    let sheet = [1, 1, b'A', 0, 1, 0];
     let refused = commit(&WORKED, &sheet, &mut out[..6]).unwrap_err();
     assert_eq!((refused.number, refused.place), (9, 0));
     assert_eq!(out, [0xBB; 64]);
@@ -222,17 +222,18 @@ fn refused_10() {
     assert_eq!(refused(&[]), Err(10));
     assert_eq!(refused(&[0]), Ok(4));
     assert_eq!(refused(&[0, 0]), Err(10));
-    assert_eq!(refused(&[1, 0, 2, 0]), Err(10));
-    assert_eq!(refused(&[1, 1, 31, 2, 0]), Err(10));
+    assert_eq!(refused(&[1, 0, 0, 0]), Err(10));
+    assert_eq!(refused(&[1, 1, 31, 0, 0]), Err(10));
+    assert_eq!(refused(&[1, 1, b'A', 2, 0]), Err(10));
     assert_eq!(refused(&[1, 1, b'A', 3, 0]), Err(10));
-    assert_eq!(refused(&[1, 1, b'A', 2, 2, 0]), Err(10));
-    assert_eq!(refused(&[1, 1, b'A', 2]), Err(10));
+    assert_eq!(refused(&[1, 1, b'A', 0, 2, 0]), Err(10));
+    assert_eq!(refused(&[1, 1, b'A', 0]), Err(10));
     assert_eq!(refused(&[1, 1, b'A', 1, 1, 127, 0]), Err(10));
-    assert_eq!(refused(&[1, 1, b'A', 2, 1, 1, 127]), Err(10));
-    assert_eq!(refused(&[2, 1, b'A', 2, 0, 1, b'A', 2, 0]), Err(10));
-    assert_eq!(refused(&[2, 1, b'A', 2, 0, 1, b'B', 2, 0]), Ok(4));
+    assert_eq!(refused(&[1, 1, b'A', 0, 1, 1, 127]), Err(10));
+    assert_eq!(refused(&[2, 1, b'A', 0, 0, 1, b'A', 0, 0]), Err(10));
+    assert_eq!(refused(&[2, 1, b'A', 0, 0, 1, b'B', 0, 0]), Ok(4));
     let many = |count: u8| {
-        let changes = (0..count).flat_map(|n| [1, 33 + n, 2, 1, 0]);
+        let changes = (0..count).flat_map(|n| [1, 33 + n, 0, 1, 0]);
         std::iter::once(count).chain(changes).collect::<Vec<u8>>()
     };
     assert_eq!(refused(&many(64)), Ok(4 + 64 * 3));
@@ -295,12 +296,10 @@ fn refused_17_counts_after_the_changes() {
     let mut out = vec![0; 8000];
     let refused = commit(&file, &[1, 1, b'A', 0, 1, 0], &mut []).unwrap_err();
     assert_eq!((refused.number, refused.place), (17, 0));
-    let sheet = [2, 1, b'A', 0, 1, 0, 1, b'7', 2, 0];
+    let sheet = [2, 1, b'A', 0, 1, 0, 1, b'7', 1, 1, b'v', 0];
     assert_eq!(commit(&file, &sheet, &mut out), Ok(length - 4 + 3));
-    assert_eq!(
-        commit(&file, &[1, 1, b'7', 2, 1, 0], &mut out),
-        Ok(length - 1)
-    );
+    let sheet = [1, 1, b'7', 1, 1, b'v', 1, 0];
+    assert_eq!(commit(&file, &sheet, &mut out), Ok(length - 1));
 }
 
 #[test]
@@ -316,8 +315,8 @@ fn a_commit_keeps_order() {
         1, b'Z', 0, 1, 1, b'z',
         1, b'D', 1, 1, b'4', 1, 2, b'd', b'd',
         1, b'Q', 0, 0,
-        1, b'B', 2, 0,
-        1, b'Y', 2, 1, 0,
+        1, b'B', 1, 1, b'2', 0,
+        1, b'Y', 0, 1, 0,
         1, b'A', 1, 1, b'1', 1, 0,
     ];
     let expected = table(&[

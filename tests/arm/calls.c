@@ -64,11 +64,18 @@ static void put_name(Made *made, uint64_t i) {
     put(made, '0' + i % 10, 1);
 }
 
+/* Its value, by its number as well, so that a sheet can say what a table has. */
+static void put_value(Made *made, uint64_t i) {
+    uint64_t length = i * 7 % 12;
+    put(made, length, 1);
+    for (uint64_t k = 0; k < length; k++) put(made, 32 + (31 * i + k) % 95, 1);
+}
+
 static void put_table(Made *made, uint64_t tags) {
     put(made, tags, 4);
     for (uint64_t i = 0; i < tags; i++) {
         put_name(made, i);
-        put_text(made, below(12));
+        put_value(made, i);
     }
 }
 
@@ -103,15 +110,25 @@ static void make_sections(Made *made) {
     }
 }
 
-/* Every second sheet is of one who did not look, so that some large ones do not conflict; the others conflict at many places. */
+/* What was seen of a tag: what the table has, so that some large sheets do not conflict; anything, so that others conflict at many places; or nobody looked,
+ * as in old sheets, which only the converter takes. */
+enum { LOOKED, GUESSED, NOBODY_LOOKED, SEEN_WAYS };
+
+static void put_seen(Made *made, uint64_t i, uint64_t way) {
+    uint64_t value = way == LOOKED ? i < tags : below(2);
+    put(made, way == NOBODY_LOOKED ? 2 : value, 1);
+    if (way == NOBODY_LOOKED || value == 0) return;
+    if (way == LOOKED) put_value(made, i);
+    else put_text(made, below(12));
+}
+
+/* Every second sheet is of one way alone; of the others every second has no entry of an old sheet. */
 static void make_sheet(Made *made) {
-    uint64_t changes = below(below(8) ? 4 : 65), from = below(4), looked = below(2);
+    uint64_t changes = below(below(8) ? 4 : 65), from = below(4), alone = below(2), way = below(SEEN_WAYS), ways = SEEN_WAYS - below(2);
     put(made, changes, 1);
     for (uint64_t c = 0; c < changes; c++) {
-        uint64_t seen = looked ? below(3) : 2;
         put_name(made, from + c);
-        put(made, seen, 1);
-        if (seen == 1) put_text(made, below(12));
+        put_seen(made, from + c, alone ? way : below(ways));
         if (below(4)) {
             put(made, 1, 1);
             put_text(made, below(30));

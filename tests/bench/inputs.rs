@@ -81,6 +81,11 @@ pub fn half_wrong_sheet_of<'a>(tags: impl IntoIterator<Item = &'a Tag>) -> Vec<u
     sheet_by(tags, |place| if place % 2 == 0 { b"\x01\x07a value" } else { b"\x01\x07a valuf" })
 }
 
+/// The same by one who did not look at all, as an old sheet has it.
+pub fn old_sheet_of<'a>(tags: impl IntoIterator<Item = &'a Tag>) -> Vec<u8> {
+    sheet_by(tags, |_| b"\x02")
+}
+
 /// What was seen of each tag goes by its place in the sheet.
 fn sheet_by<'a>(tags: impl IntoIterator<Item = &'a Tag>, seen: fn(usize) -> &'static [u8]) -> Vec<u8> {
     let mut sheet = vec![0];

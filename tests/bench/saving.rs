@@ -1,4 +1,4 @@
-//! Saving tags: look and commit.
+//! Saving tags: look and commit, and convert.
 
 use crate::build::Tag;
 use crate::calls;
@@ -31,6 +31,18 @@ pub fn committing(effort: &Effort, file: &[u8], sheet: &[u8]) -> Times {
     times
 }
 
+pub fn converting(effort: &Effort, file: &[u8], sheet: &[u8]) -> Times {
+    // What nobody looked at takes a length and 255 bytes more at most.
+    let mut out = vec![0; sheet.len() + 64 * 256];
+    let mut other = out.clone();
+    assert_eq!(calls::convert(file, sheet, &mut out).refused, 0);
+    let times = measure(effort, &mut || calls::convert(file, sheet, &mut out).length, &mut || {
+        rival::convert(file, sheet, &mut other).unwrap_or(0)
+    });
+    assert!(out == other, "the two sheets differ");
+    times
+}
+
 /// The last tag, and others at equal steps ahead of it: the library looks no further than the last tag that a sheet names.
 pub fn spread(tags: &[Tag], changes: usize) -> Vec<&Tag> {
     let mut named: Vec<_> = tags.iter().rev().step_by(tags.len() / changes).take(changes).collect();
@@ -50,5 +62,10 @@ pub fn rows(report: &mut Report) {
         let sheet = sheet_of(spread(&tags, changes));
         let times = &mut || committing(&FULL, &file, &sheet);
         report.row(&format!("a commit of {} to 1,000 tags", named), &["commit"], ROW, times);
+    }
+    for (changes, named) in [(1, "1 change"), (64, "64 changes")] {
+        let sheet = old_sheet_of(spread(&tags, changes));
+        let times = &mut || converting(&FULL, &file, &sheet);
+        report.row(&format!("a conversion of {} at 1,000 tags", named), &["convert"], ROW, times);
     }
 }

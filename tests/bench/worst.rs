@@ -177,6 +177,28 @@ fn committing_absent(names: &Names) -> Call {
     committing(names, sheet_of_absent(names))
 }
 
+fn converting_tags(names: &Names) -> Call {
+    let file = file_with(tags_of(names));
+    let sheet = old_sheet_of_tags(names);
+    let mut out = vec![0; 2 * sheet.len() + 64 * 256];
+    let mut other = out.clone();
+    let converted = calls::convert(&file, &sheet, &mut out);
+    assert_eq!(rival::convert(&file, &sheet, &mut other), Ok(converted.length));
+    assert!(out == other, "the two sheets differ");
+    Box::new(move || calls::convert(&file, &sheet, &mut out).length)
+}
+
+/// Each fifteenth tag is removed, and nobody looked.
+fn old_sheet_of_tags(names: &Names) -> Vec<u8> {
+    let mut sheet = vec![64];
+    for tag in tags_of(names).iter().step_by(15).take(64) {
+        sheet.push(tag.name.len() as u8);
+        sheet.extend_from_slice(&tag.name);
+        sheet.extend_from_slice(&[2, 0]);
+    }
+    sheet
+}
+
 /// Each fifteenth tag is changed.
 fn sheet_of_tags(names: &Names) -> Vec<u8> {
     sheet_of(tags_of(names).iter().step_by(15).take(64))
@@ -233,7 +255,7 @@ fn beside(report: &mut Report, what: &str, call: fn(&Names) -> Call, orders: &[N
     let ratio = slowest.as_secs_f64() / least.as_secs_f64();
     println!("| {} | {} | {} | {:.2} |", what, cells.join(" | "), shown(least), ratio);
     let limit = match what {
-        what if what.starts_with("a look") || what.starts_with("a commit") => WORST_SHEET,
+        what if ["a look", "a commit", "a conversion"].iter().any(|call| what.starts_with(call)) => WORST_SHEET,
         what if what.starts_with("refused") => WORST_REFUSED,
         _ => WORST,
     };
@@ -241,11 +263,12 @@ fn beside(report: &mut Report, what: &str, call: fn(&Names) -> Call, orders: &[N
 }
 
 /// What is done with sheets whose names are chosen as well.
-const SHEETS: [(&str, fn(&Names) -> Call); 4] = [
+const SHEETS: [(&str, fn(&Names) -> Call); 5] = [
     ("a look: 64 changes", looking_at_tags),
     ("a look: 64 absent", looking_at_absent),
     ("a commit: 64 changes", committing_tags),
     ("a commit: 64 absent", committing_absent),
+    ("a conversion: 64 changes", converting_tags),
 ];
 
 fn lines(report: &mut Report) {

@@ -27,10 +27,11 @@ use std::process::exit;
 
 type Case = fn(&mut Sides, &mut Random);
 
-const ONCE: [(&str, Case); 11] = [
+const ONCE: [(&str, Case); 12] = [
     ("each-byte", files::each_byte),
     ("large-sections", limits::large_sections),
     ("full-tables", limits::full_tables),
+    ("largest-sheets", limits::largest_sheets),
     ("large-configurations", limits::large_configurations),
     ("many-frames", limits::many_frames),
     ("long-recordings", limits::long_recordings),
@@ -42,7 +43,7 @@ const ONCE: [(&str, Case); 11] = [
 ];
 
 /// Each with how many cases it has at a turn: those of few inputs have many.
-const TURNS: [(&str, Case, u64); 30] = [
+const TURNS: [(&str, Case, u64); 31] = [
     ("legal", files::legal, 4),
     ("damaged", files::damaged, 4),
     ("numbers-nudged", files::numbers_nudged, 8),
@@ -63,6 +64,7 @@ const TURNS: [(&str, Case, u64); 30] = [
     ("setups", recorder::setups, 12),
     ("shapes", recorder::shapes, 12),
     ("sheets", tags::sheets, 6),
+    ("conversions", tags::conversions, 6),
     ("conflicts", tags::conflicts, 2),
     ("full-sheets", tags::full_sheets, 1),
     ("table-full", tags::table_full, 1),

@@ -10,7 +10,7 @@ use std::collections::HashSet;
 type Lend = fn(&mut Sides, &mut Random, &[u8]);
 
 /// The file's faults are told ahead of the sheet's, whichever this is.
-const SHEETS: [&[u8]; 3] = [&[0], &[1, 1, b'A', 2, 1, 0], &[1, 1, b'A', 7]];
+const SHEETS: [&[u8]; 4] = [&[0], &[1, 1, b'A', 0, 1, 0], &[1, 1, b'A', 2, 1, 0], &[1, 1, b'A', 7]];
 
 const LIST: [u8; 5] = [1, 1, b'I', 0, 0];
 
@@ -25,6 +25,7 @@ fn as_file(sides: &mut Sides, random: &mut Random, file: &[u8]) {
     let sheet = random.pick(&SHEETS);
     let looked = sides.look(file, sheet);
     sides.commit(file, sheet, looked, &[0x55; 300]);
+    sides.convert(file, sheet, looked, &[0x66; 300]);
 }
 
 /// Alone, as the system table of a recording that is begun, and in a file at either place.
@@ -61,7 +62,8 @@ fn as_sheet(sides: &mut Sides, _: &mut Random, sheet: &[u8]) {
     let file = with_user(&[1, 0, 0, 0, 1, b'A', 0]);
     let looked = sides.look(&file, sheet);
     let (committed, _) = sides.commit(&file, sheet, looked, &[0x77; 600]);
-    let inside = looked.place.max(committed.place) <= sheet.len() as u64;
+    let (converted, _) = sides.convert(&file, sheet, looked, &[0x99; 600]);
+    let inside = looked.place.max(committed.place).max(converted.place) <= sheet.len() as u64;
     sides.known(inside, "a place is in the sheet", sheet);
 }
 
@@ -115,12 +117,15 @@ fn fixed_tables() -> Vec<Vec<u8>> {
     tables.iter().map(|tags| table(tags).bytes).collect()
 }
 
+/// By ones who looked, and by ones who did not.
 fn fixed_sheets() -> Vec<Vec<u8>> {
     vec![
         vec![0],
+        vec![1, 1, b'A', 0, 0],
         vec![1, 1, b'A', 2, 0],
         vec![2, 1, b'A', 1, 1, b'x', 1, 0, 2, b'A', b'B', 0, 1, 1, b'y'],
-        vec![3, 1, b'A', 2, 0, 1, b'B', 1, 0, 0, 2, b'B', b'A', 0, 1, 2, b' ', b'~'],
+        vec![3, 1, b'A', 0, 0, 1, b'B', 1, 0, 0, 2, b'B', b'A', 0, 1, 2, b' ', b'~'],
+        vec![3, 1, b'A', 2, 0, 1, b'B', 1, 0, 0, 2, b'B', b'A', 2, 1, 2, b' ', b'~'],
     ]
 }
 
@@ -333,13 +338,17 @@ fn entry(random: &mut Random, sheet: &mut Written, kinds: u64) {
     }
 }
 
-fn sheet_of(random: &mut Random, names: &[Vec<u8>]) -> Written {
+/// Seen kinds that a sheet may have, and those of an old one.
+const SEEN_KINDS: u64 = 2;
+const SEEN_KINDS_OF_OLD: u64 = 3;
+
+fn sheet_of(random: &mut Random, names: &[Vec<u8>], seen_kinds: u64) -> Written {
     let mut sheet = Written::default();
     sheet.number(names.len() as u64, 1);
     for name in names {
         sheet.start();
         sheet.short(name);
-        entry(random, &mut sheet, 3);
+        entry(random, &mut sheet, seen_kinds);
         entry(random, &mut sheet, 2);
     }
     sheet
@@ -399,7 +408,8 @@ fn some(random: &mut Random) -> (Written, Lend) {
         4 => {
             let count = random.size(5);
             let names = different(random, count);
-            (sheet_of(random, &names), as_sheet)
+            let seen_kinds = random.pick(&[SEEN_KINDS, SEEN_KINDS_OF_OLD]);
+            (sheet_of(random, &names, seen_kinds), as_sheet)
         }
         _ => (setup(&few_sections(random)), as_list),
     }
@@ -506,13 +516,20 @@ fn twice_in_tables(sides: &mut Sides, random: &mut Random, names: &[Vec<u8>]) {
     }
 }
 
+/// In a sheet by ones who looked, and in an old one, of which convert tells.
 fn twice_in_sheets(sides: &mut Sides, random: &mut Random, names: &[Vec<u8>]) {
-    let sheet = sheet_of(random, &names[..names.len().min(64)]);
+    let names = &names[..names.len().min(64)];
     let file = worked().file().bytes;
-    let looked = sides.look(&file, &sheet.bytes);
-    sides.commit(&file, &sheet.bytes, looked, &[]);
-    let expected = second(&names[..names.len().min(64)], &sheet.starts);
-    sides.known(told(looked.refused, looked.place, 10, expected), TWICE, &sheet.bytes);
+    for seen_kinds in [SEEN_KINDS, SEEN_KINDS_OF_OLD] {
+        let sheet = sheet_of(random, names, seen_kinds);
+        let expected = second(names, &sheet.starts);
+        let looked = sides.look(&file, &sheet.bytes);
+        sides.commit(&file, &sheet.bytes, looked, &[]);
+        let (converted, _) = sides.convert(&file, &sheet.bytes, looked, &[]);
+        sides.known(told(converted.refused, converted.place, 10, expected), TWICE, &sheet.bytes);
+        let as_expected = told(looked.refused, looked.place, 10, expected);
+        sides.known(seen_kinds == SEEN_KINDS_OF_OLD || as_expected, TWICE, &sheet.bytes);
+    }
 }
 
 /// In a set-up list, and in the definitions of a file.

@@ -1,4 +1,4 @@
-//! Files, legal and not: opened, read, repaired, looked at with sheets and committed to.
+//! Files, legal and not: opened, read, repaired, looked at with sheets, committed to, and old sheets converted by them.
 
 use crate::build::*;
 use crate::random::Random;
@@ -49,7 +49,7 @@ fn glance(sides: &mut Sides, random: &mut Random, file: &[u8], user: &[Tag]) {
             sides.frame(file, opened, i);
         }
         1 => some_part(sides, random, file, opened),
-        _ => tags::some_commit(sides, random, file, user),
+        _ => tags::some_save(sides, random, file, user),
     }
 }
 
@@ -61,7 +61,7 @@ fn every_call(sides: &mut Sides, random: &mut Random, recording: &Recording, fil
         let i = random.near(opened.frames);
         sides.frame(file, opened, i);
         some_part(sides, random, file, opened);
-        tags::some_commit(sides, random, file, &recording.user);
+        tags::some_save(sides, random, file, &recording.user);
     }
 }
 

@@ -8,6 +8,7 @@ use crate::sides::Sides;
 
 const SECTION_LIMIT: usize = 16_777_216;
 const FRAME_LIMIT: usize = 1_000_000;
+const LARGEST_SHEET: usize = 1 + 64 * (256 + 257 + 257);
 
 /// A section of 16,777,216 bytes and of one more: added, and in files that are opened, read and repaired.
 pub fn large_sections(sides: &mut Sides, random: &mut Random) {
@@ -63,6 +64,35 @@ pub fn full_tables(sides: &mut Sides, random: &mut Random) {
             }
             files::repair(sides, random, &file);
             files::repair(sides, random, &recording.unclosed().bytes);
+        }
+    }
+}
+
+/// The largest sheets, by ones who looked and by ones who did not: 64 changes, with names and values of 255 bytes. Converted they are of equal length.
+pub fn largest_sheets(sides: &mut Sides, random: &mut Random) {
+    let longest = |first: u8| -> Vec<u8> { (0..255).map(|i| first + i % 40).collect() };
+    let value = longest(60);
+    let names: Vec<Vec<u8>> = (0..64).map(|i| [&[33 + i], &longest(50)[1..]].concat()).collect();
+    let user: Vec<Tag> = names.iter().map(|name| Tag { name: name.clone(), value: value.clone() }).collect();
+    let file = Recording { user, ..smallest() }.file().bytes;
+    for looked_at in [0, 1, 63, 64] {
+        let mut old = vec![64];
+        for (place, name) in names.iter().enumerate() {
+            let value = [&[1, 255], &value[..]].concat();
+            let seen: &[u8] = if place < looked_at { &value } else { &[2] };
+            old.extend([&[255], &name[..], seen, &value].concat());
+        }
+        let looked = sides.look(&file, &old);
+        for room in [LARGEST_SHEET, LARGEST_SHEET - 1, LARGEST_SHEET + 1, 0] {
+            let (converted, new) = sides.convert(&file, &old, looked, &random.bytes(room));
+            let answer = if room < LARGEST_SHEET { (9, 0) } else { (0, LARGEST_SHEET as u64) };
+            sides.known((converted.refused, converted.length) == answer, "the largest sheet has 49,281 bytes", &old);
+            if converted.refused == 0 {
+                let new = &new[..LARGEST_SHEET];
+                let looked = sides.look(&file, new);
+                let out = random.bytes(file.len() + old.len());
+                sides.commit_of_converted(&file, &old, new, looked, &out);
+            }
         }
     }
 }

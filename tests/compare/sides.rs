@@ -22,6 +22,7 @@ pub enum Call {
     Repair,
     Look,
     Commit,
+    Convert,
     TagAt,
     TagNamed,
     FirstTag,
@@ -32,7 +33,7 @@ pub enum Call {
 const NUMBERS: usize = 18;
 
 /// Each call with the numbers that must be met; 0 is acceptance. Repair's 15 needs a file of 2^40 bytes.
-const CALLS: [(&str, &[u64]); 16] = [
+const CALLS: [(&str, &[u64]); 17] = [
     ("fstf_new", &[0]),
     ("fstf_open", &[0, 1, 2, 3, 4, 5, 6, 7]),
     ("fstf_frame", &[0, 1, 2, 3, 4, 5, 6, 7, 8]),
@@ -45,12 +46,16 @@ const CALLS: [(&str, &[u64]); 16] = [
     ("fstf_repair", &[0, 1, 2, 3, 4, 16, 13, 9]),
     ("fstf_look", &[0, 1, 2, 3, 4, 5, 6, 7, 10]),
     ("fstf_commit", &[0, 1, 2, 3, 4, 5, 6, 7, 10, 11, 17, 9]),
+    ("fstf_convert", &[0, 1, 2, 3, 4, 5, 6, 7, 10, 9]),
     ("fstf_tag_at", &[0, 7]),
     ("fstf_tag_named", &[0, 7]),
     ("fstf_first_tag", &[0, 7]),
     // A refusal is passed through, whatever its number: those that the header does not have are counted as one.
     ("fstf_next_tag", &[0, 7, 11, NUMBERS as u64]),
 ];
+
+/// What the commit of a converted sheet must be seen to answer: its file and its sheet are legal.
+const AFTER_CONVERSION: [u64; 4] = [0, 11, 17, 9];
 
 /// The numbers that carry the place of a fault, which each call that has them must be seen to give.
 const PLACED: [u64; 4] = [3, 4, 7, 10];
@@ -73,6 +78,11 @@ pub struct Sides {
     conflicting: u64,
     /// Looks that showed more than one conflict.
     several_conflicts: u64,
+    /// Changes that a conversion filled in as absent and with a value, and sheets that came back as they were.
+    filled: [u64; 2],
+    unchanged: u64,
+    /// What the commits of converted sheets answered.
+    after_conversion: [u64; NUMBERS + 1],
 }
 
 /// Lent bytes: as given, and as each side left them.
@@ -95,6 +105,17 @@ impl Lent {
     fn kept_from(&self, answer: usize) -> bool {
         self.ours.get(answer..) == self.before.get(answer..)
     }
+}
+
+/// What is printed of an input with the bytes that were lent.
+fn with_lent(input: &dyn Fn() -> String, lent: &[&Lent]) -> String {
+    let mut all = input();
+    for bytes in lent {
+        all += &format!("\n  lent {}", shown(&bytes.before));
+        all += &format!("\n  left by the library {}", shown(&bytes.ours));
+        all += &format!("\n  left by the rival   {}", shown(&bytes.theirs));
+    }
+    all
 }
 
 /// What is printed of a byte string: short ones whole.
@@ -226,6 +247,49 @@ fn as_looked(looked: FstfLooked, committed: FstfCommitted) -> bool {
     [(0, 0), (17, 0), (9, 0)].contains(&answered)
 }
 
+/// The law of look and convert: what refuses a file for the one refuses it for the other, and a sheet that look takes comes back as it is. Where look finds
+/// a fault in the sheet, convert finds it there too, unless it is a kind that says nobody looked: that is filled in, if no fault is further on.
+fn as_looked_at(looked: FstfLooked, sheet: &[u8], converted: FstfConverted, out: &[u8]) -> bool {
+    let answered = (converted.refused, converted.place);
+    if looked.refused == 0 {
+        let same = out.get(..sheet.len()) == Some(sheet) && converted.length == sheet.len() as u64;
+        return if out.len() < sheet.len() { answered == (9, 0) } else { answered == (0, 0) && same };
+    }
+    if answered == (looked.refused, looked.place) {
+        return true;
+    }
+    let place = looked.place as usize;
+    if looked.refused != 10 || sheet.get(place) != Some(&2) {
+        return false;
+    }
+    match answered {
+        (10, further) => further > looked.place,
+        (0, 0) => out[..place] == sheet[..place] && out[place] < 2,
+        _ => answered == (9, 0),
+    }
+}
+
+/// The seen kinds of a sheet that both sides take.
+fn seen_kinds(sheet: &[u8]) -> Vec<u8> {
+    let mut kinds = Vec::new();
+    let mut at = 1;
+    for _ in 0..sheet[0] {
+        at += 1 + usize::from(sheet[at]);
+        kinds.push(sheet[at]);
+        for _seen_and_new in 0..2 {
+            at += if sheet[at] == 1 { 2 + usize::from(sheet[at + 1]) } else { 1 };
+        }
+    }
+    kinds
+}
+
+fn flat_committed(answer: Result<u64, Refusal>) -> FstfCommitted {
+    match answer {
+        Ok(length) => FstfCommitted { refused: 0, place: 0, length },
+        Err(Refusal { number, place }) => FstfCommitted { refused: number, place, length: 0 },
+    }
+}
+
 /// The refusal of an item that is not there, by the numbers of an opening.
 fn refused_by(numbers: FstfOpened) -> (u64, u64) {
     match numbers.refused {
@@ -247,6 +311,9 @@ impl Sides {
             places: HashSet::new(),
             conflicting: 0,
             several_conflicts: 0,
+            filled: [0; 2],
+            unchanged: 0,
+            after_conversion: [0; NUMBERS + 1],
         }
     }
 
@@ -258,9 +325,13 @@ impl Sides {
     fn settle(&mut self, call: Call, refused: u64, agree: bool, input: &dyn Fn() -> String, answers: [&dyn Debug; 2]) {
         self.inputs += 1;
         self.met[call as usize][(refused as usize).min(NUMBERS)] += 1;
-        if agree {
-            return;
+        if !agree {
+            self.differ(call, input, answers);
         }
+    }
+
+    /// Prints the input and both answers.
+    fn differ(&mut self, call: Call, input: &dyn Fn() -> String, answers: [&dyn Debug; 2]) {
         self.differences += 1;
         if self.differences > ENOUGH {
             return;
@@ -280,17 +351,8 @@ impl Sides {
         input: &dyn Fn() -> String,
         answers: [&dyn Debug; 2],
     ) {
-        let whole = || {
-            let mut all = input();
-            for bytes in lent {
-                all += &format!("\n  lent {}", shown(&bytes.before));
-                all += &format!("\n  left by the library {}", shown(&bytes.ours));
-                all += &format!("\n  left by the rival   {}", shown(&bytes.theirs));
-            }
-            all
-        };
         let same = lent.iter().all(|bytes| bytes.agree());
-        self.settle(call, refused, agree && same, &whole, answers);
+        self.settle(call, refused, agree && same, &|| with_lent(input, lent), answers);
     }
 
     /// What both sides could miss together: an answer that is known from how the bytes were made.
@@ -509,15 +571,66 @@ impl Sides {
     pub fn commit(&mut self, file: &[u8], sheet: &[u8], looked: FstfLooked, out: &[u8]) -> (FstfCommitted, Vec<u8>) {
         let mut out = Lent::new(out);
         let ours = ours::commit(file, sheet, &mut out.ours);
-        let theirs = match rival::commit(file, sheet, &mut out.theirs) {
-            Ok(length) => FstfCommitted { refused: 0, place: 0, length },
-            Err(Refusal { number, place }) => FstfCommitted { refused: number, place, length: 0 },
-        };
+        let theirs = flat_committed(rival::commit(file, sheet, &mut out.theirs));
         let agree = ours == theirs && as_looked(looked, ours) && out.kept_from(ours.length as usize);
         let input = || format!("file {}\n  sheet {}\n  {:?}", shown(file), shown(sheet), looked);
         self.settle_lent(Call::Commit, ours.refused, agree, &[&out], &input, [&ours, &theirs]);
         self.count_place(Call::Commit, ours.refused, ours.place);
         (ours, out.ours)
+    }
+
+    /// What the call answered, and the output. `looked` is what look answered to the same file and sheet, which convert has to bear out.
+    pub fn convert(&mut self, file: &[u8], sheet: &[u8], looked: FstfLooked, out: &[u8]) -> (FstfConverted, Vec<u8>) {
+        let mut out = Lent::new(out);
+        let ours = ours::convert(file, sheet, &mut out.ours);
+        let theirs = match rival::convert(file, sheet, &mut out.theirs) {
+            Ok(length) => FstfConverted { refused: 0, place: 0, length },
+            Err(Refusal { number, place }) => FstfConverted { refused: number, place, length: 0 },
+        };
+        let kept = out.kept_from(ours.length as usize);
+        let agree = ours == theirs && kept && out.agree() && as_looked_at(looked, sheet, ours, &out.ours);
+        let input = || format!("file {}\n  sheet {}\n  {:?}", shown(file), shown(sheet), looked);
+        self.settle_lent(Call::Convert, ours.refused, agree, &[&out], &input, [&ours, &theirs]);
+        self.count_place(Call::Convert, ours.refused, ours.place);
+        if agree && ours.refused == 0 {
+            self.count_filled(sheet, &out.ours[..ours.length as usize]);
+        }
+        (ours, out.ours)
+    }
+
+    /// Each kind that says nobody looked has become another, and every other is as it was.
+    fn count_filled(&mut self, old: &[u8], new: &[u8]) {
+        let (before, after) = (seen_kinds(old), seen_kinds(new));
+        self.unchanged += u64::from(old == new);
+        let mut filled = before.len() == after.len();
+        for (before, after) in before.into_iter().zip(after) {
+            match (before, after) {
+                (2, 0 | 1) => self.filled[usize::from(after)] += 1,
+                _ => filled &= before == after && after < 2,
+            }
+        }
+        self.known(filled, "a conversion replaces each kind 2 of what was seen, and no other", old);
+    }
+
+    /// The commit of a converted sheet on both sides. What the library answers is held against the rival's commit of the old sheet as well, as it was
+    /// before request #111: number, place, table and the bytes behind it.
+    pub fn commit_of_converted(
+        &mut self,
+        file: &[u8],
+        old: &[u8],
+        new: &[u8],
+        looked: FstfLooked,
+        out: &[u8],
+    ) -> FstfCommitted {
+        let (ours, left) = self.commit(file, new, looked, out);
+        let mut lent = Lent { ours: left, ..Lent::new(out) };
+        let theirs = flat_committed(rival::commit_of_old_sheet(file, old, &mut lent.theirs));
+        self.after_conversion[(ours.refused as usize).min(NUMBERS)] += 1;
+        if ours != theirs || !lent.agree() {
+            let input = || format!("file {}\n  old sheet {}\n  converted {}", shown(file), shown(old), shown(new));
+            self.differ(Call::Commit, &|| with_lent(&input, &[&lent]), [&ours, &theirs]);
+        }
+        ours
     }
 
     pub fn tag_at(&mut self, table: &[u8], number: u64) -> FstfTag {
@@ -597,6 +710,30 @@ impl Sides {
         (line, 1)
     }
 
+    /// What was met of conversions, and how much of it is lacking: both ways to fill in a kind, sheets that stay, and each answer of a commit.
+    fn report_of_conversions(&self) -> (String, usize) {
+        let [absent, value] = self.filled;
+        let mut counts = vec![
+            (", changes filled in as absent ".to_string(), absent),
+            (", with a value ".to_string(), value),
+            (", sheets unchanged ".to_string(), self.unchanged),
+        ];
+        for number in AFTER_CONVERSION {
+            let answer = if number == 0 { "accepted".to_string() } else { number.to_string() };
+            counts.push((format!(", then committed {}: ", answer), self.after_conversion[number as usize]));
+        }
+        let mut line = String::new();
+        let mut lacking = 0;
+        for (what, times) in counts {
+            line += &format!("{}{}", what, times);
+            if times == 0 {
+                line += " NEVER MET";
+                lacking += 1;
+            }
+        }
+        (line, lacking)
+    }
+
     /// Prints how often each number of each call was met, and at how many places; answers how many of its order were never met, or met outside it, or
     /// were met at no place.
     pub fn report(&self) -> usize {
@@ -640,6 +777,11 @@ impl Sides {
             if call == Call::Look as usize {
                 let (sets, never) = self.report_of_sets();
                 line += &sets;
+                lacking += never;
+            }
+            if call == Call::Convert as usize {
+                let (conversions, never) = self.report_of_conversions();
+                line += &conversions;
                 lacking += never;
             }
             println!("{}", line);

@@ -1,4 +1,4 @@
-//! Tables and sheets: look and commit, the tag browser, tags by their name, tags one after another.
+//! Tables and sheets: look, commit and convert, the tag browser, tags by their name, tags one after another.
 
 use crate::build::*;
 use crate::marks;
@@ -6,10 +6,11 @@ use crate::random::Random;
 use crate::raw::{FstfCursor, FstfLooked};
 use crate::sides::Sides;
 
-#[derive(Clone)]
+#[derive(Clone, PartialEq)]
 enum Seen {
     Absent,
     Value(Vec<u8>),
+    /// In old sheets only: convert takes it, look and commit do not.
     NobodyLooked,
 }
 
@@ -73,24 +74,37 @@ fn new_value(random: &mut Random) -> Option<Vec<u8>> {
     Some(text(random, length))
 }
 
-/// What the table says, nobody looked, or, one time in `wrong`, something else.
-fn seen(random: &mut Random, user: &[Tag], name: &[u8], wrong: u64) -> Seen {
-    let entry = user.iter().find(|tag| tag.name == name);
-    if random.one_in(3) {
-        return Seen::NobodyLooked;
+/// What the table says.
+fn right(user: &[Tag], name: &[u8]) -> Seen {
+    match user.iter().find(|tag| tag.name == name) {
+        None => Seen::Absent,
+        Some(tag) => Seen::Value(tag.value.clone()),
     }
-    let mistaken = random.one_in(wrong);
-    match (entry, mistaken) {
-        (None, false) => Seen::Absent,
-        (Some(tag), false) => Seen::Value(tag.value.clone()),
-        (None, true) => Seen::Value(if random.one_in(2) { Vec::new() } else { text(random, 2) }),
-        (Some(tag), true) => match random.below(4) {
+}
+
+/// What the table says or, one time in `wrong`, something else.
+fn seen(random: &mut Random, user: &[Tag], name: &[u8], wrong: u64) -> Seen {
+    match (right(user, name), random.one_in(wrong)) {
+        (Seen::Value(value), true) => match random.below(4) {
             0 => Seen::Absent,
-            1 => Seen::Value(text(random, tag.value.len())),
-            2 => Seen::Value(tag.value[..tag.value.len() / 2].to_vec()),
+            1 => Seen::Value(text(random, value.len())),
+            2 => Seen::Value(value[..value.len() / 2].to_vec()),
             _ => Seen::Value(Vec::new()),
         },
+        (_, true) => Seen::Value(if random.one_in(2) { Vec::new() } else { text(random, 2) }),
+        (right, false) => right,
     }
+}
+
+/// The sheet as an old one: one in so many of the entries that are right is of one who did not look. Converted, it has to come back as it was.
+fn not_looked(random: &mut Random, user: &[Tag], changes: &[Change], many: u64) -> Vec<Change> {
+    let mut old = changes.to_vec();
+    for change in &mut old {
+        if random.one_in(many) && change.seen == right(user, &change.name) {
+            change.seen = Seen::NobodyLooked;
+        }
+    }
+    old
 }
 
 fn changes(random: &mut Random, user: &[Tag], count: usize, wrong: u64) -> Vec<Change> {
@@ -116,7 +130,7 @@ fn malformed(random: &mut Random, mut changes: Vec<Change>) -> Vec<u8> {
         0 => return Vec::new(),
         1 if !changes.is_empty() => {
             let name = changes[at].name.clone();
-            changes.push(Change { name, seen: Seen::NobodyLooked, new: None });
+            changes.push(Change { name, seen: Seen::Absent, new: None });
         }
         2 if !changes.is_empty() => changes[at].name = Vec::new(),
         // The tags that names are taken from may be bent: then a name can be empty.
@@ -150,7 +164,7 @@ fn malformed(random: &mut Random, mut changes: Vec<Change>) -> Vec<u8> {
     sheet
 }
 
-fn some_sheet(random: &mut Random, user: &[Tag]) -> Vec<u8> {
+fn some_changes(random: &mut Random, user: &[Tag]) -> Vec<Change> {
     let count = match random.below(60) {
         0 => 64,
         1 => 65,
@@ -160,7 +174,16 @@ fn some_sheet(random: &mut Random, user: &[Tag]) -> Vec<u8> {
         _ => random.size(5),
     };
     let wrong = random.pick(&[2, 8, 1000]);
-    let changes = changes(random, user, count, wrong);
+    changes(random, user, count, wrong)
+}
+
+/// Every third is an old one.
+fn some_sheet(random: &mut Random, user: &[Tag]) -> Vec<u8> {
+    let mut changes = some_changes(random, user);
+    if random.one_in(3) {
+        let many = random.pick(&[1, 2, 5]);
+        changes = not_looked(random, user, &changes, many);
+    }
     if random.one_in(4) {
         return malformed(random, changes);
     }
@@ -183,10 +206,52 @@ fn commit(sides: &mut Sides, random: &mut Random, file: &[u8], sheet: &[u8]) -> 
     (looked, Some(left[..length].to_vec()))
 }
 
+/// A conversion with ample room and again around the answer's length. The new sheet is committed, with ample room and again around that answer's
+/// length, and each answer is held against what the old sheet gave.
+fn convert(sides: &mut Sides, random: &mut Random, file: &[u8], old: &[u8], looked: FstfLooked) -> Option<Vec<u8>> {
+    // What nobody looked at takes a length and 255 bytes more at most.
+    let changes = usize::from(old.first().copied().unwrap_or(0).min(64));
+    let out = random.bytes(old.len() + 256 * changes);
+    let (ample, left) = sides.convert(file, old, looked, &out);
+    let length = ample.length as usize;
+    let room = random.room(length);
+    let out = random.bytes(room);
+    sides.convert(file, old, looked, &out);
+    if ample.refused != 0 {
+        return None;
+    }
+    let new = left[..length].to_vec();
+    let looked = sides.look(file, &new);
+    let out = random.bytes(file.len() + old.len());
+    let committed = sides.commit_of_converted(file, old, &new, looked, &out);
+    let room = random.room(committed.length as usize);
+    let out = random.bytes(room);
+    sides.commit_of_converted(file, old, &new, looked, &out);
+    Some(new)
+}
+
+/// A sheet of any kind: looked at, committed and converted. The new table, where there is one.
+fn save(sides: &mut Sides, random: &mut Random, file: &[u8], sheet: &[u8]) -> Option<Vec<u8>> {
+    let (looked, table) = commit(sides, random, file, sheet);
+    convert(sides, random, file, sheet, looked);
+    table
+}
+
+/// The old sheets of one that is legal: each has to give it back, whatever it is about to conflict with.
+fn convert_back(sides: &mut Sides, random: &mut Random, file: &[u8], user: &[Tag], changes: &[Change]) {
+    let sheet = sheet_bytes(changes);
+    for many in [1, 3] {
+        let old = sheet_bytes(&not_looked(random, user, changes, many));
+        let looked = sides.look(file, &old);
+        let new = convert(sides, random, file, &old, looked);
+        sides.known(new.as_ref() == Some(&sheet), "what nobody looked at is filled in from the table", &old);
+    }
+}
+
 /// One sheet for a file whose user tags are, or were, these.
-pub fn some_commit(sides: &mut Sides, random: &mut Random, file: &[u8], user: &[Tag]) {
+pub fn some_save(sides: &mut Sides, random: &mut Random, file: &[u8], user: &[Tag]) {
     let sheet = some_sheet(random, user);
-    commit(sides, random, file, &sheet);
+    save(sides, random, file, &sheet);
 }
 
 /// Sheets for a legal file; what an accepted one gives is stored, opened, and committed to again with the same sheet.
@@ -198,12 +263,40 @@ pub fn sheets(sides: &mut Sides, random: &mut Random) {
     let before_user = number(&file, 25, 8) as usize;
     for _ in 0..6 {
         let sheet = some_sheet(random, &recording.user);
-        if let (_, Some(table)) = commit(sides, random, &file, &sheet) {
+        if let Some(table) = save(sides, random, &file, &sheet) {
             let mut stored = file[..before_user].to_vec();
             stored.extend_from_slice(&table);
             sides.open(&stored);
-            commit(sides, random, &stored, &sheet);
+            save(sides, random, &stored, &sheet);
         }
+    }
+}
+
+/// Old sheets for legal files of up to 1,000 tags: the sheets that they came from are known. Then some with bytes changed, of the sheet and of the file.
+pub fn conversions(sides: &mut Sides, random: &mut Random) {
+    let mut recording = if random.one_in(4) { recording(random) } else { smallest() };
+    let count = match random.below(60) {
+        0 => 1000,
+        1 => 900 + random.size(100),
+        2..=9 => random.size(120),
+        _ => random.size(12),
+    };
+    recording.user = tags(random, count);
+    let file = recording.file().bytes;
+    let mut changes = some_changes(random, &recording.user);
+    changes.truncate(64);
+    convert_back(sides, random, &file, &recording.user, &changes);
+    let many = random.pick(&[1, 2, 4]);
+    let old = sheet_bytes(&not_looked(random, &recording.user, &changes, many));
+    for _ in 0..3 {
+        let mut sheet = old.clone();
+        let at = random.size(sheet.len() - 1);
+        sheet[at] = if random.one_in(2) { random.size(4) as u8 } else { random.next() as u8 };
+        save(sides, random, &file, &sheet);
+        let mut damaged = file.clone();
+        let at = random.size(damaged.len() - 1);
+        damaged[at] = random.next() as u8;
+        save(sides, random, &damaged, &old);
     }
 }
 
@@ -238,10 +331,14 @@ fn wrong_at(random: &mut Random, user: &[Tag], right: &[Change], set: u64) -> Ve
 /// Changes that are right but at the places of a set, which look has to show, and the lowest of which commit is refused at.
 fn conflicting(sides: &mut Sides, random: &mut Random, recording: &Recording, right: &[Change], set: u64) {
     let file = recording.file().bytes;
-    let sheet = sheet_bytes(&wrong_at(random, &recording.user, right, set));
+    let changes = wrong_at(random, &recording.user, right, set);
+    let sheet = sheet_bytes(&changes);
     let (looked, _) = commit(sides, random, &file, &sheet);
     let shown = (looked.refused, looked.changes, looked.conflicts) == (0, right.len() as u64, set);
     sides.known(shown, "look shows each change that was made to conflict, and no other", &sheet);
+    if random.one_in(4) {
+        convert_back(sides, random, &file, &recording.user, &changes);
+    }
 }
 
 /// One wrong seen entry at each place of a sheet, and several of them.
@@ -328,14 +425,16 @@ pub fn crowded(sides: &mut Sides, random: &mut Random) {
     }
     for _ in 0..3 {
         let sheet = some_sheet(random, &recording.user);
-        commit(sides, random, &file, &sheet);
+        save(sides, random, &file, &sheet);
     }
     let changes: Vec<Change> = names
         .iter()
         .take(64)
-        .map(|name| Change { name: name.clone(), seen: Seen::NobodyLooked, new: new_value(random) })
+        .map(|name| Change { name: name.clone(), seen: right(&recording.user, name), new: new_value(random) })
         .collect();
     commit(sides, random, &file, &sheet_bytes(&changes));
+    let old = sheet_bytes(&not_looked(random, &recording.user, &changes, 1));
+    save(sides, random, &file, &old);
 }
 
 /// Sheets that bring a table to 1,000 tags and over.
@@ -349,19 +448,20 @@ pub fn table_full(sides: &mut Sides, random: &mut Random) {
         let mut changes: Vec<Change> = (0..added)
             .map(|i| Change {
                 name: format!("an added tag, number {}", i).into_bytes(),
-                seen: if random.one_in(2) { Seen::Absent } else { Seen::NobodyLooked },
+                seen: Seen::Absent,
                 new: Some(b"new".to_vec()),
             })
             .collect();
         if random.one_in(2) {
-            let name = recording.user[random.size(count - 1)].name.clone();
+            let tag = recording.user[random.size(count - 1)].clone();
             let at = random.size(changes.len());
-            changes.insert(at, Change { name, seen: Seen::NobodyLooked, new: None });
+            changes.insert(at, Change { name: tag.name, seen: Seen::Value(tag.value), new: None });
         }
         if random.one_in(6) {
             changes.push(Change { name: b"last".to_vec(), seen: Seen::Value(b"not so".to_vec()), new: None });
         }
         commit(sides, random, &file, &sheet_bytes(&changes));
+        convert_back(sides, random, &file, &recording.user, &changes);
     }
 }
 

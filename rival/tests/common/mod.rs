@@ -5,11 +5,12 @@
 use rival::*;
 
 /// The calls, for tests that ask for the number of a refusal and not for
-/// its place; look and commit answer with both.
+/// its place; those that take a sheet answer with both.
 pub mod by_number {
     pub use super::commit_after_look as commit;
     pub use rival::{
-        look, Frame, Item, Looked, Opened, Piece, Refusal, Repaired, Stage, State, Tag,
+        commit_of_old_sheet, convert, look, Frame, Item, Looked, Opened, Piece, Refusal, Repaired,
+        Stage, State, Tag,
     };
 
     type Numbered<T> = Result<T, u64>;
