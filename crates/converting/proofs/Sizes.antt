@@ -3,32 +3,28 @@
 use Prim.Native.Nat.{ℕ, suc, _+_, _-_, _*_, _<_, _≤_}
 use native.Mathlib.Omega.{arith}
 use mathlib.Core.Path.{_≡_, refl, ap, sym, _∙_}
-use mathlib.Core.Bool.{Bool, true, false, cond}
 use mathlib.Core.List.{List, [], _∷_, _++_}
 use lib.ListN.{length, take, drop, getD, length-append, drop-of-length-le}
-use lib.Seq.{drop-cons, drop-drop, take-at}
-use lib.Dec.{eqb}
+use lib.Seq.{drop-cons, take-at}
 use borrow.Author.Needs.{needs}
 use borrow.Author.Tests.{leb-true, ne-eqb}
 use mir.Syntax.{w8, w64}
 use mir.Val.{Fits}
 use Rattle.number.proofs.Bytes.{slice-bytes, part-long}
 use Rattle.layout.specs.Recording.{shortString}
-use Rattle.layout.specs.Reading.{good, give, number, string}
+use Rattle.layout.specs.Reading.{good, string}
 use Rattle.layout.specs.Saving.{entryPartBytes}
 use Rattle.layout.proofs.Lists.{bytes-drop}
 use Rattle.layout.proofs.Exact.{string-exact}
-use Rattle.parts.proofs.Taken.{then-parts}
-use Rattle.rows.specs.Rows.{entry, rest, rowName, rowOf}
+use Rattle.rows.specs.Rows.{entry, rowName, rowOf}
 use Rattle.rows.specs.declared.Row.the-variants as row
 use Rattle.rows.specs.declared.RowPlace.{RowPlace}
 use Rattle.rows.specs.declared.RowPlace.the-variants as rowPlace
-use Rattle.tables.proofs.Places.{number-parts}
 use Rattle.sheet.specs.Rows.{tagEntry}
 use Rattle.sheet.specs.Values.{heldValue, valueIn, Stands}
 use Rattle.sheet.specs.declared.Value.{Value}
 use Rattle.sheet.specs.declared.Value.the-variants as value
-use Rattle.sheet.proofs.Values.{string-stands, held-finds, row-rest}
+use Rattle.sheet.proofs.Values.{string-stands, held-finds, change-there}
 use Rattle.converting.specs.Filling.{rowFilled, filledFrom, sheetFilled}
 
 -- ── What a tag holds, as an entry ──
@@ -72,31 +68,6 @@ module _ (t : List ℕ) (tag : ℕ) (v : Value) (e : v ≡ heldValue t tag) wher
   seen-few p n b f = omega (arith, value-short p n f b)
 
 -- ── A change that is there ──
-
--- an entry is all there
-entry-there : (s : List ℕ) (at : ℕ) (x : List ℕ) (n : ℕ) → entry (drop at s) ≡ good x n → (1 ≤ n) × (at + n ≤ length s)
-unfolding entry give
-entry-there s at x n e =
-    then-parts (number 1) (λ kind. cond (eqb kind 1) string (give [])) (drop at s) x n e (λ kind a b f g h.
-    let (l, c, o) = number-parts 1 s at kind a (omega arith) (omega arith) f in
-    let d : drop a (drop at s) ≡ drop (at + 1) s = drop-drop a at s ∙ ap (λ (i : ℕ). drop (at + i) s) o in
-    let m : at + 1 + b ≤ length s = go (eqb kind 1) b x (at + 1) l (rw d at g) in
-    (omega arith, omega arith))
-  where
-    go : (k : Bool) (b : ℕ) (x : List ℕ) (p : ℕ) → p ≤ length s → cond k string (give []) (drop p s) ≡ good x b → p + b ≤ length s
-    go true b x p l e = string-stands s p b x e (λ i j k. j)
-    go false b x p l e = let z : 0 ≡ b = cc in omega arith
-
--- the kind byte of what was seen stands behind the name, and that of what is new behind it
-pub change-there : (s : List ℕ) (at len end : ℕ) (r : RowPlace) → r ≡ rowOf at (rowName row.Change (drop at s)) → r ≡ rowPlace.Whole len end
-    → (at + 1 + len + 1 ≤ end) × (end ≤ length s)
-unfolding rest
-change-there s at len end r e f =
-    row-rest row.Change s at len end (sym e ∙ f) (λ x m l p q o.
-    then-parts entry (λ seen. entry) (drop (at + 1 + len) s) x m q (λ y a b g h i.
-    let (c, d) = entry-there s (at + 1 + len) y a g in
-    let (j, k) = entry-there s (at + 1 + len + a) x b (rw (drop-drop a (at + 1 + len) s) at h) in
-    (omega arith, omega arith)))
 
 module _ (s : List ℕ) (at len end : ℕ) (r : RowPlace) (e : r ≡ rowOf at (rowName row.Change (drop at s))) (f : r ≡ rowPlace.Whole len end) where
   pub row-kinds : at + 1 + len + 1 ≤ end

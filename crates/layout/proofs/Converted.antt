@@ -24,7 +24,7 @@ use Rattle.layout.proofs.Applied.{legalEntry}
 use Rattle.layout.proofs.SheetBytes.{legalRow, legalSheetWith, legalSheet, sheet-read, sheet-given}
 use Rattle.layout.proofs.OldSheetBytes.{oldSeenBytes, legalOldSeen, legalOldSheet, oldSheetBytes, old-sheet-read, old-sheet-given}
 use Rattle.layout.proofs.Filled.{seeing, seeing-legal, seeing-bytes, filled-some, filled-lowest, filled-applied, filled-legal, sheet-most, filled-more}
-use Rattle.layout.proofs.Saved.{sheetLines, commit-is, user-stands}
+use Rattle.layout.proofs.Saved.{refused-is, place-is, sheetLines, commit-is, user-stands}
 use Rattle.layout.proofs.Refusals.{convert-number, convert-place}
 
 -- ── The converter's order ──
@@ -73,26 +73,15 @@ convert-hands f bytes room a = go (convertRefusal f bytes room) _ _ a
 
 -- ── What the old commit answered first ──
 
-commitAnswer-number : (n place : ℕ) (ts : List Tag) → commitAnswer n place ts .refused ≡ n
-unfolding commitAnswer
-commitAnswer-number zero place ts = refl
-commitAnswer-number (suc n) place ts = refl
-
 old-number : (f bytes : List ℕ) (room : ℕ) → oldCommit f bytes room .refused ≡ oldCommitRefusal f bytes room
 unfolding oldCommit
-old-number f bytes room = commitAnswer-number _ _ _
-
--- the place of a refusal
-commitAnswer-place : (m n place : ℕ) (ts : List Tag) → m ≡ suc n → commitAnswer m place ts .place ≡ place
-unfolding commitAnswer
-commitAnswer-place zero n place ts e = absurd (omega arith)
-commitAnswer-place (suc m) n place ts e = refl
+old-number f bytes room = refused-is _ _ _
 
 old-place : (f bytes : List ℕ) (room n : ℕ) → oldCommit f bytes room .refused ≡ suc n → oldCommit f bytes room .place ≡ oldCommitPlace (suc n) f bytes
 unfolding oldCommit
 old-place f bytes room n e =
-    let r = sym (old-number f bytes room) ∙ e in
-    commitAnswer-place (oldCommitRefusal f bytes room) n _ _ r ∙ ap (λ (m : ℕ). oldCommitPlace m f bytes) r
+    place-is n (oldCommitRefusal f bytes room) _ _ e
+    ∙ ap (λ (m : ℕ). oldCommitPlace m f bytes) (sym (old-number f bytes room) ∙ e)
 
 -- Where the file does not open, the converter answers opening's number, and so did the old commit,
 pub convert-unopened : (f bytes : List ℕ) (room room′ n : ℕ)

@@ -9,7 +9,7 @@ use mathlib.Core.Logic.{_↔_}
 use mathlib.Core.List.{List, [], _∷_, _++_, map}
 use lib.ListN.{length, getD, length-map}
 use lib.Dec.{ltb, eqb}
-use borrow.Author.Tests.{lt-ltb, ltb-true, ltb-false, ne-eqb}
+use borrow.Author.Tests.{lt-ltb, ltb-true, ltb-false, ne-eqb, not-false}
 use Rattle.layout.specs.Recording.{Tag, tableBytes}
 use Rattle.layout.specs.Opening.{line, firstOf, frontLines, openingLines, refusal}
 use Rattle.layout.specs.Recorder.{noRoom}
@@ -85,10 +85,6 @@ none-shown ts (c ∷ cs) e (suc i) = none-shown ts cs (or-false (conflicts ts c)
 pub agrees-saw : (ts : List Tag) (c : Change) → (conflicts ts c ≡ false) ↔ (c .seen ≡ lookUp (c .name) ts)
 unfolding conflicts
 agrees-saw ts c = (λ h. same-entry (c .seen) (lookUp (c .name) ts) (not-false (sameEntry (c .seen) (lookUp (c .name) ts)) h), λ e. rw (e, entry-same (lookUp (c .name) ts)))
-  where
-    not-false : (b : Bool) → not b ≡ false → b ≡ true
-    not-false true h = refl
-    not-false false h = let z : _≡_ {A = ℕ} 0 1 = cc in absurd (omega arith)
 
 -- Look is accepted exactly when the file opens and the sheet is well formed,
 pub look-accepted : (f bytes : List ℕ) → (look f bytes .refused ≡ 0) ↔ ((refusal f ≡ 0) × (badSheet bytes ≡ false))

@@ -32,7 +32,7 @@ withUser r ts = record { sections = r .sections; system = r .system; frames = r 
 -- ── Commit's order ──
 
 -- the number that a commit answers is the first of its lines that holds
-refused-is : (n place : ℕ) (ts : List Tag) → commitAnswer n place ts .refused ≡ n
+pub refused-is : (n place : ℕ) (ts : List Tag) → commitAnswer n place ts .refused ≡ n
 unfolding commitAnswer
 refused-is zero place ts = refl
 refused-is (suc n) place ts = refl
@@ -42,10 +42,11 @@ unfolding commitAnswer
 table-is zero place ts e = refl
 table-is (suc n) place ts e = absurd (omega arith)
 
-place-is : (n place : ℕ) (ts : List Tag) → commitAnswer n place ts .refused ≡ 11 → commitAnswer n place ts .place ≡ place
+-- and refused, it has the place that was found
+pub place-is : (m n place : ℕ) (ts : List Tag) → commitAnswer n place ts .refused ≡ suc m → commitAnswer n place ts .place ≡ place
 unfolding commitAnswer
-place-is zero place ts e = absurd (omega arith)
-place-is (suc n) place ts e = refl
+place-is m zero place ts e = absurd (omega arith)
+place-is m (suc n) place ts e = refl
 
 place-eleven : (n : ℕ) (f bytes : List ℕ) → n ≡ 11 → commitPlace n f bytes ≡ conflictPlace (userTags f) (changesOf bytes)
 unfolding commitPlace
@@ -209,7 +210,7 @@ unfolding commit sheetLines openingLines frontLines without
 commit-conflict f bytes room r =
     let o = commit-order f bytes room 11 refl r in
     let p = line-other 10 _ _ 11 (omega arith) (o .1) in
-    rw (place-is (commitRefusal f bytes room) _ _ r, place-eleven (commitRefusal f bytes room) f bytes (sym (refused-is (commitRefusal f bytes room) _ _) ∙ r)) (lowest-conflict (userTags f) (changesOf bytes) (line-own 11 _ _ (omega arith) refl (p .1)))
+    rw (place-is 10 (commitRefusal f bytes room) _ _ r, place-eleven (commitRefusal f bytes room) f bytes (sym (refused-is (commitRefusal f bytes room) _ _) ∙ r)) (lowest-conflict (userTags f) (changesOf bytes) (line-own 11 _ _ (omega arith) refl (p .1)))
 
 -- ── The file of a commit ──
 

@@ -10,22 +10,20 @@ use lib.ListN.{length, take, drop, getD}
 use borrow.Author.Needs.{needs}
 use mir.Syntax.{w64}
 use mir.Val.{Fits}
-use Rattle.layout.specs.Reading.{good, number, string}
+use Rattle.layout.specs.Reading.{good, string}
 use Rattle.layout.specs.Saving.{sameEntry, bits}
 use Rattle.parts.specs.Parts.{samePart}
-use Rattle.rows.specs.Rows.{entry, rest, rowName, rowOf}
+use Rattle.rows.specs.Rows.{rowName, rowOf}
 use Rattle.rows.specs.declared.Row.the-variants as row
 use Rattle.rows.specs.declared.RowPlace.{RowPlace}
 use Rattle.rows.specs.declared.RowPlace.the-variants as rowPlace
 use Rattle.names.proofs.Laws.{name-other, name-same, row-name-place}
-use Rattle.parts.proofs.Taken.{then-parts}
-use Rattle.tables.proofs.Places.{number-parts}
 use Rattle.sheet.specs.Rows.{rowWith, changeWithName, changesAt, tagEntry, beside}
 use Rattle.sheet.specs.Values.{entryValue, heldValue, valueIn, Stands}
 use Rattle.look.specs.Look.{isNothing, differs, comparedBy, compareOf, withBit}
 use Rattle.sheet.specs.declared.Value.{Value}
 use Rattle.sheet.specs.declared.Value.the-variants as value
-use Rattle.sheet.proofs.Values.{string-stands, entry-finds, held-finds, row-rest, row-fits-2}
+use Rattle.sheet.proofs.Values.{string-stands, entry-finds, held-finds, change-there, row-fits-2}
 use Rattle.sheet.proofs.Rows.{beside-done, beside-stop, beside-step}
 
 -- ── Equal values ──
@@ -92,12 +90,7 @@ looked-at name s table at tag v o r f g e =
 -- the kind byte of a change that is there
 pub kind-there : (s : List ℕ) (at len end : ℕ) (r : RowPlace) → r ≡ rowOf at (rowName row.Change (drop at s)) → r ≡ rowPlace.Whole len end
     → at + 1 + len < length s
-unfolding rest entry
-kind-there s at len end r e f =
-    row-rest row.Change s at len end (sym e ∙ f) (λ x m l p q o.
-    then-parts entry (λ seen. entry) (drop (at + 1 + len) s) x m q (λ y a b g h i.
-    then-parts (number 1) _ (drop (at + 1 + len) s) y a g (λ kind c d j u w.
-    let z = number-parts 1 s (at + 1 + len) kind c (omega arith) (omega arith) j .0 in omega arith)))
+kind-there s at len end r e f = let (a, b) = change-there s at len end r e f in omega arith
 
 -- a factor may be taken by its lowest 64 bits
 factor-wraps : (s x z : ℕ) → (s + x % 2 ^ 64 * z) % 2 ^ 64 ≡ (s + x * z) % 2 ^ 64

@@ -13,7 +13,7 @@ use borrow.Author.Tests.{ne-eqb}
 use mir.Syntax.{w64}
 use mir.Val.{Fits}
 use Rattle.layout.specs.Recording.{shortString}
-use Rattle.layout.specs.Reading.{Parsed, bad, good, onward, _then_, give, string, valueOr}
+use Rattle.layout.specs.Reading.{Parsed, bad, good, onward, _then_, give, number, string, valueOr}
 use Rattle.layout.specs.Saving.{absent}
 use Rattle.strings.specs.Strings.{textOf}
 use Rattle.parts.specs.Parts.{endOf}
@@ -30,7 +30,7 @@ use Rattle.strings.proofs.Laws.{string-parts, textOf-broken, part-length}
 use Rattle.rows.proofs.Laws.{row-parts, row-broken}
 use Rattle.parts.proofs.Taken.{then-parts, give-parts}
 use Rattle.names.proofs.Laws.{row-name-place}
-use Rattle.tables.proofs.Places.{string-taken}
+use Rattle.tables.proofs.Places.{number-parts, string-taken}
 use Rattle.sheet.specs.Rows.{rowWith, textEntry, textIn, entryIn, entryBehind, newIn, tagWithName, made, tagHolds, tagEntry}
 use Rattle.sheet.specs.Values.{textValue, entryValue, valueBehind, newValue, valueOfRow, rowValue, heldValue, valueIn, Stands, Finds}
 use Rattle.sheet.specs.declared.Value.{Value}
@@ -154,6 +154,33 @@ pub row-read : {A : Type 0} (k : Row) (make : List ℕ → List ℕ → A) (t v 
     → rowWith k make t ≡ good (make v (drop (1 + length v) t)) m
 unfolding rowWith onward
 row-read k make t v m e = rw e
+
+-- ── A change that is there ──
+
+-- an entry is all there
+entry-there : (s : List ℕ) (at : ℕ) (x : List ℕ) (n : ℕ) → entry (drop at s) ≡ good x n → (1 ≤ n) × (at + n ≤ length s)
+unfolding entry give
+entry-there s at x n e =
+    then-parts (number 1) (λ kind. cond (eqb kind 1) string (give [])) (drop at s) x n e (λ kind a b f g h.
+    let (l, c, o) = number-parts 1 s at kind a (omega arith) (omega arith) f in
+    let d : drop a (drop at s) ≡ drop (at + 1) s = drop-drop a at s ∙ ap (λ (i : ℕ). drop (at + i) s) o in
+    let m : at + 1 + b ≤ length s = go (eqb kind 1) b x (at + 1) l (rw d at g) in
+    (omega arith, omega arith))
+  where
+    go : (k : Bool) (b : ℕ) (x : List ℕ) (p : ℕ) → p ≤ length s → cond k string (give []) (drop p s) ≡ good x b → p + b ≤ length s
+    go true b x p l e = string-stands s p b x e (λ i j k. j)
+    go false b x p l e = let z : 0 ≡ b = cc in omega arith
+
+-- the kind byte of what was seen stands behind the name, and that of what is new behind it
+pub change-there : (s : List ℕ) (at len end : ℕ) (r : RowPlace) → r ≡ rowOf at (rowName row.Change (drop at s)) → r ≡ rowPlace.Whole len end
+    → (at + 1 + len + 1 ≤ end) × (end ≤ length s)
+unfolding rest
+change-there s at len end r e f =
+    row-rest row.Change s at len end (sym e ∙ f) (λ x m l p q o.
+    then-parts entry (λ seen. entry) (drop (at + 1 + len) s) x m q (λ y a b g h i.
+    let (c, d) = entry-there s (at + 1 + len) y a g in
+    let (j, k) = entry-there s (at + 1 + len + a) x b (rw (drop-drop a (at + 1 + len) s) at h) in
+    (omega arith, omega arith)))
 
 -- ── The value of a tag ──
 
