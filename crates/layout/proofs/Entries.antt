@@ -67,7 +67,7 @@ entry-stands {s} {place} first at (f ∷ fs) zero h p =
 entry-stands {s} {place} first at (f ∷ fs) (suc i) h p =
     let e : at + length (frame_bytes f ++ flat_map frame_bytes (take i fs)) ≡ at + length (frame_bytes f) + length (flat_map frame_bytes (take i fs)) = rw length-append (omega arith) in
     let q = stands-back (entry_bytes first f.time at (length (frame_bytes f))) (entries_bytes first (at + length (frame_bytes f)) fs) p in
-    rw e (stands_at_lem (place + 16 * suc i) (omega (arith, length-entry first f.time at (length (frame_bytes f)))) (entry-stands first (at + length (frame_bytes f)) fs i (omega arith) q))
+    rw e (stands_at_lem (place + 16 * suc i) (omega (arith, length-entry first f.time at (length (frame_bytes f)))) (entry-stands {place = place + length (entry_bytes first f.time at (length (frame_bytes f)))} first (at + length (frame_bytes f)) fs i (omega arith) q))
 
 index-stands : (r : Recording) → Stands (encode r) (frames_end r) (index_bytes (frames_start r) r.frames)
 index-stands r =

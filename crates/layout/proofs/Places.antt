@@ -114,7 +114,7 @@ name-stands at [] i h p = absurd (omega arith)
 name-stands {f} {place} at (s ∷ ss) zero h p =
     stands_at_lem (place + 0) (omega arith) (stands-front (short_string s.name) (bytes_of 8 at) (stands-front (short_string s.name ++ bytes_of 8 at) (definition_list_bytes (at + length s.configuration) ss) p))
 name-stands {f} {place} at (s ∷ ss) (suc i) h p =
-    let q = name-stands (at + length s.configuration) ss i (omega arith) (stands-back (short_string s.name ++ bytes_of 8 at) (definition_list_bytes (at + length s.configuration) ss) p) in
+    let q = name-stands {place = place + length (short_string s.name ++ bytes_of 8 at)} (at + length s.configuration) ss i (omega arith) (stands-back (short_string s.name ++ bytes_of 8 at) (definition_list_bytes (at + length s.configuration) ss) p) in
     stands_at_lem _ (simp (length-append, length-bytes_of) (omega (arith, length-definitions 0 (0 + length s.configuration) (take i ss)))) q
 
 -- the tags of a table
