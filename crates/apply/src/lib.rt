@@ -15,7 +15,7 @@ use refusal::Refusal;
 
 // The tags of a table, as the list of those that changes name leads through them: for how many changes it is, and how many words it takes; how many tags there
 // are, which are whole, and where they end.
-#[derive(Drop)]
+#[derive(Clone, Copy)]
 pub struct Walk {
     pub changes: usize,
     pub words: usize,
@@ -24,14 +24,14 @@ pub struct Walk {
 }
 
 // What applying a sheet answers: the length of the new table, or the refusal.
-#[derive(Drop)]
+#[derive(Clone, Copy)]
 pub enum Applied {
     Table(usize),
     Refused(Refusal),
 }
 
 // The number of tags that are added to a table, and of their bytes.
-#[derive(Drop)]
+#[derive(Clone, Copy)]
 struct Size {
     tags: usize,
     bytes: usize,
@@ -46,7 +46,7 @@ fn tags_in(bytes: usize) -> usize
 
 // What is kept at once: how many bytes of the table; the place and the number of bytes of a value of the sheet, which comes behind them; where the next tag
 // stands; and how many tags that are.
-#[derive(Drop)]
+#[derive(Clone, Copy)]
 struct Part {
     first: usize,
     value: usize,

@@ -144,7 +144,7 @@ fn write_front(setup: &[u8], system: &[u8], place: usize, out: &mut [u8])
 }
 
 // The first piece of a recording: how many sections it defines, and its length, which stands at the start of the lent output; or the refusal.
-#[derive(Drop)]
+#[derive(Clone, Copy)]
 pub enum FirstPiece {
     Written { sections: usize, length: usize },
     Refused(Refusal),

@@ -1,4 +1,6 @@
 // Frames on card blocks: what the system tag FRAME-ALIGN says, the space up to the next block, and where a frame may start behind it.
+#![tactic(auto)]
+
 ghost use Rattle.std.specs.Prelude.{◌≡◌, cond, eqb};
 ghost use Rattle.blocks.specs.Blocks.{legal_align};
 ghost use Rattle.blocks.specs.Blocks.{gap_by, zeros_at, start_at, is_align_name, block_at};

@@ -9,7 +9,7 @@ use rows::Row;
 use tables::{TagFound, Tags};
 
 // A tag by the places and lengths of its name and its value; the end; or the refusal.
-#[derive(Drop)]
+#[derive(Clone, Copy)]
 pub enum Browsed {
     Tag {
         name: usize,

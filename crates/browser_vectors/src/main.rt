@@ -1,8 +1,13 @@
 // The vectors of the browser, and of a tag by its name, each with the walk of a cursor over its table: runs those that its arguments name, and prints a line for each.
 // tests/VECTORS.md says what a vector holds and how its line reads.
+#![tactic(auto)]
+
 use browser::Browsed;
 use cursor::Cursor;
 use refusal::Refusal;
+use std::rt::{Env, Files};
+use std::{env, io};
+use vector::lend::lent;
 use vector::print::{no_vector, refused, say, with, with_sum};
 use vector::sweep::{Tally, line, turn_bytes, turn_length, turns};
 
@@ -12,7 +17,7 @@ const SWEEP: u8 = b'B';
 
 const TAG: u8 = b't';
 
-fn places(found: Browsed) {
+fn places(rt: &impl Print, found: Browsed) -> io::Result<()> {
     match found {
         Browsed::Tag {
             name,
@@ -20,13 +25,13 @@ fn places(found: Browsed) {
             value,
             value_length,
         } => {
-            with(b"tag name ", name as u64);
-            with(b" ", name_length as u64);
-            with(b" value ", value as u64);
-            with(b" ", value_length as u64);
+            with(rt, b"tag name ", name as u64)?;
+            with(rt, b" ", name_length as u64)?;
+            with(rt, b" value ", value as u64)?;
+            with(rt, b" ", value_length as u64)
         }
-        Browsed::End => say(b"end"),
-        Browsed::Refused(refusal) => refused(refusal),
+        Browsed::End => say(rt, b"end"),
+        Browsed::Refused(refusal) => refused(rt, refusal),
     }
 }
 
@@ -63,7 +68,7 @@ fn with_tag(sum: u64, at: Cursor) -> u64 {
 }
 
 // Where a walk ends, how many tags it told, and the check over their numbers.
-fn walked(at: Cursor, tags: u64, sum: u64) {
+fn walked(rt: &impl Print, at: Cursor, tags: u64, sum: u64) -> io::Result<()> {
     match at {
         Cursor::Tag {
             name,
@@ -71,20 +76,20 @@ fn walked(at: Cursor, tags: u64, sum: u64) {
             value,
             value_length,
             left,
-        } => with(b" walk goes on at ", name as u64),
+        } => with(rt, b" walk goes on at ", name as u64),
         Cursor::End => {
-            with(b" walk ", tags);
-            with_sum(b" ", sum);
+            with(rt, b" walk ", tags)?;
+            with_sum(rt, b" ", sum)
         }
         Cursor::Refused(refusal) => {
-            say(b" walk ");
-            refused(refusal);
+            say(rt, b" walk ")?;
+            refused(rt, refusal)
         }
     }
 }
 
 // A cursor from tag to tag, as often as the table has bytes: where it has come to the end, or is refused, it stays.
-fn walk(table: &[u8]) {
+fn walk(rt: &impl Print, table: &[u8]) -> io::Result<()> {
     let mut at = cursor::first_tag(table);
     let mut tags = 0;
     let mut sum = vector::check::START;
@@ -97,19 +102,18 @@ fn walk(table: &[u8]) {
         at = cursor::next_tag(table, at);
         steps -= 1;
     }
-    walked(at, tags, sum);
+    walked(rt, at, tags, sum)
 }
 
-fn browse(fields: &[u8]) {
+fn browse(rt: &impl Print, fields: &[u8]) -> io::Result<()> {
     if fields.len() < 8 {
-        no_vector();
-        return;
+        return no_vector(rt);
     }
     let table = &fields[8..];
     let number = number::read(fields, 0, 8);
-    places(browser::tag_at(table, number));
-    with(b" next ", browser::next_number(table, number));
-    walk(table);
+    places(rt, browser::tag_at(table, number))?;
+    with(rt, b" next ", browser::next_number(table, number))?;
+    walk(rt, table)
 }
 
 fn is_absent(found: Browsed) -> bool {
@@ -120,28 +124,25 @@ fn is_absent(found: Browsed) -> bool {
     }
 }
 
-fn look(found: Browsed) {
+fn look(rt: &impl Print, found: Browsed) -> io::Result<()> {
     if is_absent(found) {
-        say(b"absent");
-        return;
+        return say(rt, b"absent");
     }
-    places(found);
+    places(rt, found)
 }
 
-fn named(fields: &[u8]) {
+fn named(rt: &impl Print, fields: &[u8]) -> io::Result<()> {
     if fields.len() < 1 {
-        no_vector();
-        return;
+        return no_vector(rt);
     }
     let length = number::read(fields, 0, 1) as usize;
     let given = &fields[1..];
     if given.len() < length {
-        no_vector();
-        return;
+        return no_vector(rt);
     }
     let table = &given[length..];
-    look(browser::tag_named(table, &given[..length]));
-    walk(table);
+    look(rt, browser::tag_named(table, &given[..length]))?;
+    walk(rt, table)
 }
 
 fn refusal_of(found: Browsed) -> Refusal {
@@ -169,7 +170,7 @@ fn tried(table: &[u8], before: Tally) -> Tally {
 }
 
 // Each turn of a sweep of the table.
-fn sweep(base: &[u8], values: &[u8]) {
+fn sweep(rt: &impl Print, base: &[u8], values: &[u8]) -> io::Result<()> {
     let mut tally = Tally::NONE;
     let mut turn = 0;
     let end = turns(base.len());
@@ -179,51 +180,49 @@ fn sweep(base: &[u8], values: &[u8]) {
         tally = tried(&bytes[..n], tally);
         turn += 1;
     }
-    line(tally);
+    line(rt, tally)
 }
 
 // The values of a sweep, and behind them the table.
-fn swept(fields: &[u8]) {
+fn swept(rt: &impl Print, fields: &[u8]) -> io::Result<()> {
     if fields.len() < 1 {
-        no_vector();
-        return;
+        return no_vector(rt);
     }
     let length = number::read(fields, 0, 1) as usize;
     let given = &fields[1..];
     if given.len() < length {
-        no_vector();
-        return;
+        return no_vector(rt);
     }
-    sweep(&given[length..], &given[..length]);
+    sweep(rt, &given[length..], &given[..length])
 }
 
 // The call that a vector holds, by its first byte.
-fn answer(vector: &[u8]) {
+fn answer(rt: &impl Print, vector: &[u8]) -> io::Result<()> {
     if vector.len() == 0 {
-        no_vector();
-        return;
+        return no_vector(rt);
     }
     let fields = &vector[1..];
     match vector[0] {
-        NAMED => named(fields),
-        SWEEP => swept(fields),
-        TAG => browse(fields),
-        _ => no_vector(),
+        NAMED => named(rt, fields),
+        SWEEP => swept(rt, fields),
+        TAG => browse(rt, fields),
+        _ => no_vector(rt),
     }
 }
 
-fn one(argument: usize) {
-    let mut space = io::large_buffer();
-    let n = vector::read(argument, &mut space);
-    answer(&space[..n]);
-    say(b"\n");
+fn one(rt: &(impl Alloc + Env + Files + Print), argument: usize) -> io::Result<()> {
+    let mut space = lent(0);
+    let n = vector::read(rt, argument, &mut space)?;
+    answer(rt, &space[..n])?;
+    say(rt, b"\n")
 }
 
-fn main() {
+fn main(rt: HostRuntime) -> io::Result<()> {
     let mut argument = 1;
-    let end = os::arg_count();
+    let end = env::args(&rt)?.count();
     while argument < end {
-        one(argument);
+        one(&rt, argument)?;
         argument += 1;
     }
+    Ok(())
 }

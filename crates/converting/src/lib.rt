@@ -14,7 +14,7 @@ use saving::Asked;
 use sheet::Value;
 
 // What the converter answers: the length of the new sheet; or the refusal, whose place is in the file for 3, 4 and 7 and in the sheet for 10.
-#[derive(Drop)]
+#[derive(Clone, Copy)]
 pub enum Converted {
     Sheet(usize),
     Refused(Refusal),

@@ -7,7 +7,7 @@ use refusal::Refusal;
 use tables::{TagPlace, Tags};
 
 // At a tag, by the places and lengths of its name and its value, with the tags that are left behind it; at the end; or the refusal.
-#[derive(Drop)]
+#[derive(Clone, Copy)]
 pub enum Cursor {
     Tag {
         name: usize,

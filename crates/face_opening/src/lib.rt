@@ -8,7 +8,7 @@ use opening::Opening;
 
 // What a file holds, in numbers, and where its system table, its frames, its index and its user table start; refused, all else is 0.
 #[repr(C)]
-#[derive(Drop)]
+#[derive(Clone, Copy)]
 pub struct FstfOpened {
     pub refused: u64,
     pub place: u64,

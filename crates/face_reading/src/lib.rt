@@ -26,7 +26,7 @@ fn held_asked(opened: FstfOpened) -> Held
 
 // A frame: where it stands and what its head says; refused, all else is 0.
 #[repr(C)]
-#[derive(Drop)]
+#[derive(Clone, Copy)]
 pub struct FstfFrame {
     pub refused: u64,
     pub place: u64,
@@ -88,7 +88,7 @@ pub fn frame_of(file: &[u8], opened: FstfOpened, i: u64) -> FstfFrame
 
 // Where the bytes of an item stand in the file; refused, "the empty part at the file's start".
 #[repr(C)]
-#[derive(Drop)]
+#[derive(Clone, Copy)]
 pub struct FstfPart {
     pub refused: u64,
     pub place: u64,

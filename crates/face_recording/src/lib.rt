@@ -9,7 +9,7 @@ use stages::Stage;
 
 // The recorder's state in numbers. Stage: 0 fresh, 1 running, 2 closing at `piece`, 3 closed.
 #[repr(C)]
-#[derive(Drop)]
+#[derive(Clone, Copy)]
 pub struct FstfRecorder {
     pub stage: u64,
     pub piece: u64,
@@ -23,7 +23,7 @@ pub struct FstfRecorder {
 // What a call of the recorder hands back: where the piece goes in the file and its length, which stands at the start of the lent output; and the state
 // to pass to the next call.
 #[repr(C)]
-#[derive(Drop)]
+#[derive(Clone, Copy)]
 pub struct FstfTaken {
     pub refused: u64,
     pub place: u64,

@@ -8,7 +8,7 @@ use repair::Repaired;
 
 // The kept length, the three header fields and the length of the tail, which stands at the start of the lent output; refused, all else is 0.
 #[repr(C)]
-#[derive(Drop)]
+#[derive(Clone, Copy)]
 pub struct FstfRepaired {
     pub refused: u64,
     pub place: u64,

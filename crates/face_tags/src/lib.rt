@@ -19,7 +19,7 @@ use saving::{Committed, Looked};
 // The number of changes, and the set of those that conflict, the first one's bit lowest; refused, 0. The place counts from the start of the file for 3, 4
 // and 7 and of the sheet for 10.
 #[repr(C)]
-#[derive(Drop)]
+#[derive(Clone, Copy)]
 pub struct FstfLooked {
     pub refused: u64,
     pub place: u64,
@@ -60,7 +60,7 @@ pub fn look(file: &[u8], sheet: &[u8]) -> FstfLooked
 
 // The length of the new user table, which stands at the start of the lent output; refused, 0. The places are look's; 11's is the number of the change.
 #[repr(C)]
-#[derive(Drop)]
+#[derive(Clone, Copy)]
 pub struct FstfCommitted {
     pub refused: u64,
     pub place: u64,
@@ -101,7 +101,7 @@ pub fn commit(file: &[u8], sheet: &[u8], out: &mut [u8]) -> FstfCommitted
 // The length of the new sheet, which stands at the start of the lent output; refused, 0. The place counts from the start of the file for 3, 4 and 7 and of the
 // old sheet for 10.
 #[repr(C)]
-#[derive(Drop)]
+#[derive(Clone, Copy)]
 pub struct FstfConverted {
     pub refused: u64,
     pub place: u64,
@@ -145,7 +145,7 @@ const FOUND: u64 = 1;
 // A tag of a table, by the places and lengths of its name and its value; `found` is 0 at the end, where there is no such tag, and where it is refused.
 // 7's place counts from the start of the lent table.
 #[repr(C)]
-#[derive(Drop)]
+#[derive(Clone, Copy)]
 pub struct FstfTag {
     pub refused: u64,
     pub place: u64,
@@ -211,7 +211,7 @@ pub fn tag_named(table: &[u8], name: &[u8]) -> FstfTag
 // The tag that a cursor stands at, by the places and lengths of its name and its value, and the tags left behind it; `found` is 0 at the end and where it
 // is refused.
 #[repr(C)]
-#[derive(Drop)]
+#[derive(Clone, Copy)]
 pub struct FstfCursor {
     pub refused: u64,
     pub place: u64,

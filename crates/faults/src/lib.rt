@@ -1,5 +1,7 @@
 // The first fault of rows that begin with a name: of a table's tags, a sheet's changes, a set-up list's sections or a file's definitions. Asked where
 // they are refused: a second walk, front to back, which passes on the place where a short string broke.
+#![tactic(auto)]
+
 ghost use Rattle.std.specs.Prelude.{◌≡◌, [], ◌+◌, ◌≤◌, length, drop};
 ghost use Rattle.layout.specs.Opening.{offset_behind};
 ghost use Rattle.layout.specs.Reading.{rows_fault, keeping, tag_value, ◌then◌};
@@ -28,7 +30,7 @@ fn name_rule(row: Row) -> Rule
 // ── What follows a name ──
 
 // Where it ends, and a number for the row behind it; or where its first fault is.
-#[derive(Drop)]
+#[derive(Clone, Copy)]
 enum Rest {
     Whole { end: usize, number: usize },
     Broken(usize),
@@ -131,7 +133,7 @@ fn rest_at(s: &[u8], at: usize, row: Row, before: usize) -> Rest
 // ── A row, behind others ──
 
 // The row's seat among those ahead, where it ends, and a number for the row behind it; or where its first fault is.
-#[derive(Drop)]
+#[derive(Clone, Copy)]
 enum Passing {
     Next {
         seat: usize,
@@ -202,7 +204,7 @@ fn rows_fault(s: &[u8], at: usize, n: usize, row: Row, before: usize) -> usize
 // ── Rows behind their number ──
 
 // How the number of rows of a kind is written, and between which it lies.
-#[derive(Drop)]
+#[derive(Clone, Copy)]
 struct Count {
     width: usize,
     least: usize,

@@ -65,4 +65,4 @@ unfolding in_order follow first_time entries_bytes
 by_first [] first start h = (refl, refl)
 by_first (x ∷ xs) first start h =
     let e : x.time ≡ first = h x xs refl in
-    (rw (e, follows_itself), rw e)
+    (rw (e, follows_itself), ap (λ (n : ℕ). entries_bytes n start (x ∷ xs)) e)

@@ -1,4 +1,6 @@
 // Frames over lent bytes: where a whole one ends, and its numbers.
+#![tactic(auto)]
+
 ghost use Rattle.std.specs.Prelude.{◌≡◌};
 ghost use Rattle.frames.specs.Frames.{sized_at, sections_at, frame_end, frame_at};
 
@@ -60,7 +62,7 @@ pub fn frame_end(file: &[u8], at: usize, sections: usize) -> Place
     sized_sections(file, at + Header::FRAME_HEAD, sections)
 }
 
-#[derive(Drop)]
+#[derive(Clone, Copy)]
 pub enum FrameAt {
     Whole {
         next: usize,

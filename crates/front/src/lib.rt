@@ -38,7 +38,7 @@ fn other_revision(file: &[u8]) -> bool
 // ── Sections ──
 
 // A section's definition: where the next one starts, and the offset of its configuration.
-#[derive(Drop)]
+#[derive(Clone, Copy)]
 pub enum DefinitionAt {
     Whole { next: usize, offset: usize },
     Broken,
@@ -62,7 +62,7 @@ pub fn definition_at(file: &[u8], at: usize) -> DefinitionAt
 }
 
 // Some definitions whose offsets never fall: where they end, and the last offset.
-#[derive(Drop)]
+#[derive(Clone, Copy)]
 enum Offsets {
     Legal { end: usize, last: usize },
     Broken,
@@ -94,7 +94,7 @@ fn later_offsets(file: &[u8], at: usize, definitions: usize, offset: usize) -> O
 }
 
 // The sections' definitions: how many, and the offset of the last configuration.
-#[derive(Drop)]
+#[derive(Clone, Copy)]
 enum Sections {
     Legal { count: usize, last: usize },
     Broken,
@@ -206,7 +206,7 @@ fn system_table(file: &[u8], system: usize, last: usize) -> TablePlace
 }
 
 // What stands ahead of the frames: the number of sections, the system table's offset and number of tags, and where the frames start.
-#[derive(Drop)]
+#[derive(Clone, Copy)]
 pub struct FrontHeld {
     pub sections: usize,
     pub system: usize,
@@ -214,7 +214,7 @@ pub struct FrontHeld {
     pub start: usize,
 }
 
-#[derive(Drop)]
+#[derive(Clone, Copy)]
 pub enum Front {
     Whole(FrontHeld),
     Refused(Refusal),

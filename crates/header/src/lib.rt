@@ -1,9 +1,11 @@
 // The header of a file, and the definition's fixed places and limits, which belong to it: every other crate takes them from here.
+#![tactic(auto)]
+
 ghost use Rattle.std.specs.Prelude.{◌≡◌};
 ghost use Rattle.header.specs.Header.{header_of};
 
 // The header's fields, and the definition's fixed places and limits, which belong to it.
-#[derive(Drop)]
+#[derive(Clone, Copy)]
 pub struct Header {
     pub count: usize,
     pub index: usize,

@@ -13,7 +13,7 @@ use strings::Text;
 use tables::TagFound;
 
 // Frames, sections and tags by their numbers, from 0.
-#[derive(Drop)]
+#[derive(Clone, Copy)]
 pub enum Item {
     Section(u64, u64),
     SectionName(u64),
@@ -26,7 +26,7 @@ pub enum Item {
 
 // Where the bytes of an item stand in the file; or the refusal. In a file that opened only a number that is not below its count is refused 8: what the
 // other tests below would find missing is there, by their proofs. Numbers that no opening gave may lead nowhere, which is refused 8 too.
-#[derive(Drop)]
+#[derive(Clone, Copy)]
 pub enum Found {
     At { start: usize, len: usize },
     Refused(Refusal),
@@ -191,7 +191,7 @@ pub fn find_of(file: &[u8], held: Held, item: Item) -> Found
 }
 
 // A frame: where it stands, and what its head says.
-#[derive(Drop)]
+#[derive(Clone, Copy)]
 pub enum FrameRead {
     Frame {
         place: usize,

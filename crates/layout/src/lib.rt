@@ -1,1 +1,3 @@
 // The layout as definitions, and what is true of them.
+
+#![tactic(auto)]

@@ -11,7 +11,7 @@ use refusal::Refusal;
 use stages::Stage;
 
 // The state's numbers, its times as patterns.
-#[derive(Drop)]
+#[derive(Clone, Copy)]
 pub struct Numbers {
     pub stage: Stage,
     pub sections: u64,

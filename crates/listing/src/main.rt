@@ -1,19 +1,22 @@
 // The listing program: it reads the first 65,536 bytes at most from standard input, treats them as the file, and prints its frames.
-ghost use Rattle.std.specs.Prelude.{◌≡◌, nat_abs};
+#![tactic(auto)]
+
+ghost use Rattle.std.specs.Prelude.{◌≡◌, ◌≤◌, nat_abs, IfOk, length, take};
 ghost use Rattle.std.specs.Int.{w64};
 ghost use Rattle.std.proofs.Common.{to_z};
 
 use items::FrameRead;
-use libc::{STDIN_FILENO, STDOUT_FILENO};
 use opening::{Held, Opening};
 use refusal::Refusal;
+use std::io;
+use std::io::Read;
 
-fn print_text(text: &[u8]) {
-    io::write_all(STDOUT_FILENO, text);
+fn print_text(rt: &impl Print, text: &[u8]) -> io::Result<()> {
+    rt.write_all(text)
 }
 
-fn print_number(n: u64) {
-    io::print_decimal(STDOUT_FILENO, n);
+fn print_number(rt: &impl Print, n: u64) -> io::Result<()> {
+    rt.print(n)
 }
 
 const SIGN: u64 = 0x8000_0000_0000_0000;
@@ -29,35 +32,42 @@ fn magnitude(pattern: u64) -> u64
     }
 }
 
-fn print_time(time: i64) {
+fn print_time(rt: &impl Print, time: i64) -> io::Result<()> {
     let pattern = number::pattern_of(time);
     if SIGN <= pattern {
-        print_text(b"-");
+        print_text(rt, b"-")?;
     }
-    print_number(magnitude(pattern));
+    print_number(rt, magnitude(pattern))
 }
 
-fn print_refused(refusal: Refusal) {
-    print_text(b"refused ");
-    print_number(refusal.number as u64);
-    print_text(b"\n");
+fn print_refused(rt: &impl Print, refusal: Refusal) -> io::Result<()> {
+    print_text(rt, b"refused ")?;
+    print_number(rt, refusal.number as u64)?;
+    print_text(rt, b"\n")
 }
 
-fn print_frame(i: usize, place: usize, length: usize, time: i64, exposure: u32) {
-    print_number(i as u64);
-    print_text(b" at ");
-    print_number(place as u64);
-    print_text(b" length ");
-    print_number(length as u64);
-    print_text(b" time ");
-    print_time(time);
-    print_text(b" exposure ");
-    print_number(exposure as u64);
-    print_text(b"\n");
+fn print_frame(
+    rt: &impl Print,
+    i: usize,
+    place: usize,
+    length: usize,
+    time: i64,
+    exposure: u32,
+) -> io::Result<()> {
+    print_number(rt, i as u64)?;
+    print_text(rt, b" at ")?;
+    print_number(rt, place as u64)?;
+    print_text(rt, b" length ")?;
+    print_number(rt, length as u64)?;
+    print_text(rt, b" time ")?;
+    print_time(rt, time)?;
+    print_text(rt, b" exposure ")?;
+    print_number(rt, exposure as u64)?;
+    print_text(rt, b"\n")
 }
 
 // The file was opened once; each frame is read by its numbers.
-fn print_frames(file: &[u8], held: Held) {
+fn print_frames(rt: &impl Print, file: &[u8], held: Held) -> io::Result<()> {
     let mut i = 0;
     while i < held.frames {
         let read = items::frame_of(file, held, i as u64);
@@ -67,30 +77,46 @@ fn print_frames(file: &[u8], held: Held) {
                 length,
                 time,
                 exposure,
-            } => print_frame(i, place, length, time, exposure),
-            FrameRead::Refused(refusal) => print_refused(refusal),
+            } => print_frame(rt, i, place, length, time, exposure)?,
+            FrameRead::Refused(refusal) => print_refused(rt, refusal)?,
         }
         i += 1;
     }
+    Ok(())
 }
 
-fn list(file: &[u8]) {
+fn list(rt: &impl Print, file: &[u8]) -> io::Result<()> {
     let opening = opening::open(file);
     match opening {
-        Opening::Refused(refusal) => print_refused(refusal),
+        Opening::Refused(refusal) => print_refused(rt, refusal),
         Opening::Opened(held) => {
-            print_text(b"frames ");
-            print_number(held.frames as u64);
-            print_text(b" sections ");
-            print_number(held.sections as u64);
-            print_text(b"\n");
-            print_frames(file, held);
+            print_text(rt, b"frames ")?;
+            print_number(rt, held.frames as u64)?;
+            print_text(rt, b" sections ")?;
+            print_number(rt, held.sections as u64)?;
+            print_text(rt, b"\n")?;
+            print_frames(rt, file, held)
         }
     }
 }
 
-fn main() {
-    let mut buffer = io::large_buffer();
-    let n = io::read_full(STDIN_FILENO, &mut buffer);
-    list(&buffer[..n]);
+// Reads until the space is full or the input ends.
+fn read_full<F: Read>(input: &mut F, space: &mut [u8]) -> io::Result<usize>
+    ensures { IfOk result (λ n. (n ≤ length space.new) × (n ≡ length (take n space.new))) }
+{
+    let mut done = 0;
+    while done < space.len() {
+        let n = input.read(&mut space[done..])?;
+        if n == 0 {
+            break;
+        }
+        done += n;
+    }
+    Ok(done)
+}
+
+fn main(rt: HostRuntime) -> io::Result<()> {
+    let mut buffer = [0; 65536];
+    let n = read_full(&mut rt.stdin(), &mut buffer)?;
+    list(&rt, &buffer[..n])
 }

@@ -1,4 +1,6 @@
 // Marks of names. Equal names have equal marks, so a name whose mark is not set is none of those that were marked, and needs no search.
+#![tactic(auto)]
+
 ghost use Rattle.std.specs.Prelude.{◌≡◌, ◌+◌, ◌*◌, ◌^◌, ◌<◌, ◌≤◌, length, take, drop};
 ghost use Rattle.number.specs.Number.{number_of};
 ghost use Rattle.marks.specs.Marks.{mix, mix_words, mix_bytes, mark_of, has_bit, with_bits, with_mark, has_bits, is_marked};

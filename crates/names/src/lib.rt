@@ -1,4 +1,6 @@
 // The names of rows: the row that has one, and whether no two are equal.
+#![tactic(auto)]
+
 ghost use Rattle.std.specs.Prelude.{◌≡◌, true, ◌+◌, ◌≤◌, length, take, drop, ltb};
 ghost use Rattle.marks.specs.Marks.{mark_of};
 ghost use Rattle.layout.specs.Recording.{same, among};
@@ -16,7 +18,7 @@ pub const MARKED: usize = 12;
 const MOST_SEARCHES: usize = 2;
 
 // The first row with a name: its number and its place.
-#[derive(Drop)]
+#[derive(Clone, Copy)]
 pub enum NameFound {
     At(usize, usize),
     Nothing,

@@ -41,7 +41,7 @@ fn noted_length(file: &[u8], entry: usize) -> usize
 }
 
 // A frame held against its entry: its time; or that no whole frame stands there, that it is late, or not the one of the entry.
-#[derive(Drop)]
+#[derive(Clone, Copy)]
 enum Noted {
     At(u64),
     Other,
@@ -157,7 +157,7 @@ fn bad_index(file: &[u8], header: Header, sections: usize, start: usize) -> bool
 // ── Opening ──
 
 // What a file that opens holds, in numbers, and where its parts stand.
-#[derive(Drop)]
+#[derive(Clone, Copy)]
 pub struct Held {
     pub frames: usize,
     pub sections: usize,
@@ -169,7 +169,7 @@ pub struct Held {
     pub user: usize,
 }
 
-#[derive(Drop)]
+#[derive(Clone, Copy)]
 pub enum Opening {
     Opened(Held),
     Refused(Refusal),

@@ -1,7 +1,12 @@
 // The vectors of opening and reading: runs those that its arguments name, and prints a line for each.
 // tests/VECTORS.md says what a vector holds and how its line reads.
+#![tactic(auto)]
+
 use items::{Found, FrameRead, Item};
 use opening::Opening;
+use std::rt::{Env, Files};
+use std::{env, io};
+use vector::lend::lent;
 use vector::print::{hex, no_vector, refused, say, with, with_time};
 use vector::sweep::{Tally, line, turn_bytes, turn_length, turns};
 
@@ -13,23 +18,22 @@ const PART: u8 = b'p';
 
 const SWEEP: u8 = b'F';
 
-fn open(file: &[u8]) {
+fn open(rt: &impl Print, file: &[u8]) -> io::Result<()> {
     let answer = opening::open(file);
     match answer {
         Opening::Opened(held) => {
-            with(b"opened frames ", held.frames as u64);
-            with(b" sections ", held.sections as u64);
-            with(b" system ", held.system_tags as u64);
-            with(b" user ", held.user_tags as u64);
+            with(rt, b"opened frames ", held.frames as u64)?;
+            with(rt, b" sections ", held.sections as u64)?;
+            with(rt, b" system ", held.system_tags as u64)?;
+            with(rt, b" user ", held.user_tags as u64)
         }
-        Opening::Refused(refusal) => refused(refusal),
+        Opening::Refused(refusal) => refused(rt, refusal),
     }
 }
 
-fn frame(fields: &[u8]) {
+fn frame(rt: &impl Print, fields: &[u8]) -> io::Result<()> {
     if fields.len() < 8 {
-        no_vector();
-        return;
+        return no_vector(rt);
     }
     let answer = reading::frame(&fields[8..], number::read(fields, 0, 8));
     match answer {
@@ -39,12 +43,12 @@ fn frame(fields: &[u8]) {
             time,
             exposure,
         } => {
-            with(b"frame at ", place as u64);
-            with(b" length ", length as u64);
-            with_time(b" time ", time);
-            with(b" exposure ", exposure as u64);
+            with(rt, b"frame at ", place as u64)?;
+            with(rt, b" length ", length as u64)?;
+            with_time(rt, b" time ", time)?;
+            with(rt, b" exposure ", exposure as u64)
         }
-        FrameRead::Refused(refusal) => refused(refusal),
+        FrameRead::Refused(refusal) => refused(rt, refusal),
     }
 }
 
@@ -67,33 +71,32 @@ fn place_of(found: Found) -> u64 {
     }
 }
 
-fn part_of(file: &[u8], item: Item) {
+fn part_of(rt: &impl Print, file: &[u8], item: Item) -> io::Result<()> {
     let part = reading::part(file, item);
     let refusal = reading::refusal(file, item);
     if refusal.number == 0 {
-        with(b"part at ", place_of(reading::find(file, item)));
-        with(b" length ", part.len() as u64);
+        with(rt, b"part at ", place_of(reading::find(file, item)))?;
+        with(rt, b" length ", part.len() as u64)?;
         if 0 < part.len() {
-            say(b" ");
-            hex(part);
+            say(rt, b" ")?;
+            hex(rt, part)?;
         }
-        return;
+        return Ok(());
     }
-    refused(refusal);
-    with(b" part of ", part.len() as u64);
+    refused(rt, refusal)?;
+    with(rt, b" part of ", part.len() as u64)
 }
 
-fn part(fields: &[u8]) {
+fn part(rt: &impl Print, fields: &[u8]) -> io::Result<()> {
     if fields.len() < 17 {
-        no_vector();
-        return;
+        return no_vector(rt);
     }
     let item = item_of(
         number::read(fields, 0, 1),
         number::read(fields, 1, 8),
         number::read(fields, 9, 8),
     );
-    part_of(&fields[17..], item);
+    part_of(rt, &fields[17..], item)
 }
 
 fn tried(file: &[u8], before: Tally) -> Tally {
@@ -103,7 +106,7 @@ fn tried(file: &[u8], before: Tally) -> Tally {
 }
 
 // Each turn of a sweep of the file.
-fn sweep(base: &[u8], values: &[u8]) {
+fn sweep(rt: &impl Print, base: &[u8], values: &[u8]) -> io::Result<()> {
     let mut tally = Tally::NONE;
     let mut turn = 0;
     let end = turns(base.len());
@@ -113,52 +116,50 @@ fn sweep(base: &[u8], values: &[u8]) {
         tally = tried(&bytes[..n], tally);
         turn += 1;
     }
-    line(tally);
+    line(rt, tally)
 }
 
 // The values of a sweep, and behind them the file.
-fn swept(fields: &[u8]) {
+fn swept(rt: &impl Print, fields: &[u8]) -> io::Result<()> {
     if fields.len() < 1 {
-        no_vector();
-        return;
+        return no_vector(rt);
     }
     let length = number::read(fields, 0, 1) as usize;
     let given = &fields[1..];
     if given.len() < length {
-        no_vector();
-        return;
+        return no_vector(rt);
     }
-    sweep(&given[length..], &given[..length]);
+    sweep(rt, &given[length..], &given[..length])
 }
 
 // The call that a vector holds, by its first byte.
-fn answer(vector: &[u8]) {
+fn answer(rt: &impl Print, vector: &[u8]) -> io::Result<()> {
     if vector.len() == 0 {
-        no_vector();
-        return;
+        return no_vector(rt);
     }
     let fields = &vector[1..];
     match vector[0] {
-        FRAME => frame(fields),
-        OPEN => open(fields),
-        PART => part(fields),
-        SWEEP => swept(fields),
-        _ => no_vector(),
+        FRAME => frame(rt, fields),
+        OPEN => open(rt, fields),
+        PART => part(rt, fields),
+        SWEEP => swept(rt, fields),
+        _ => no_vector(rt),
     }
 }
 
-fn one(argument: usize) {
-    let mut space = io::large_buffer();
-    let n = vector::read(argument, &mut space);
-    answer(&space[..n]);
-    say(b"\n");
+fn one(rt: &(impl Alloc + Env + Files + Print), argument: usize) -> io::Result<()> {
+    let mut space = lent(0);
+    let n = vector::read(rt, argument, &mut space)?;
+    answer(rt, &space[..n])?;
+    say(rt, b"\n")
 }
 
-fn main() {
+fn main(rt: HostRuntime) -> io::Result<()> {
     let mut argument = 1;
-    let end = os::arg_count();
+    let end = env::args(&rt)?.count();
     while argument < end {
-        one(argument);
+        one(&rt, argument)?;
         argument += 1;
     }
+    Ok(())
 }

@@ -1,4 +1,6 @@
 // Names in order: the seat of one among places that are kept in the order of their names, and a place put there. Names are compared as numbers.
+#![tactic(auto)]
+
 ghost use Rattle.std.specs.Prelude.{◌≡◌, ◌+◌, ◌<◌, ◌≤◌, length, take, drop};
 ghost use Rattle.number.specs.Number.{number_of};
 ghost use Rattle.order.specs.Order.{key, name_at, turn_of, seek, inserted};
@@ -6,7 +8,7 @@ ghost use Rattle.order.specs.Order.{key, name_at, turn_of, seek, inserted};
 use strings::Text;
 
 // How one name stands to another.
-#[derive(Drop)]
+#[derive(Clone, Copy)]
 enum Turn {
     Before,
     Same,
@@ -14,7 +16,7 @@ enum Turn {
 }
 
 // The seat of a name among others; nothing where it is one of them.
-#[derive(Drop)]
+#[derive(Clone, Copy)]
 pub enum Seat {
     At(usize),
     Nothing,

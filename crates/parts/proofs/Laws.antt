@@ -22,6 +22,7 @@ same-cons : (a b : List ℕ) (i j n : ℕ) → 0 < n → i < length a → j < le
     → same (take n (drop i a)) (take n (drop j b)) ≡ (eqb (get_or a i 0) (get_or b j 0)
     && same (take (n - 1) (drop (i + 1) a)) (take (n - 1) (drop (j + 1) b)))
 unfolding same
+same-cons a b i j zero z h k = elim z [ ]
 same-cons a b i j (suc n) z h k =
     let p : i + 1 ≡ suc i = omega arith in
     let o : j + 1 ≡ suc j = omega arith in

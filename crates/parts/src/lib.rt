@@ -1,4 +1,6 @@
 // Parts of lent bytes: where a part ends, whether two are equal, copying.
+#![tactic(auto)]
+
 ghost use Rattle.std.specs.Prelude.{◌≡◌, ◌+◌, ◌*◌, ◌≤◌, length, take, drop};
 ghost use Rattle.layout.specs.Recording.{same};
 ghost use Rattle.parts.specs.Parts.{same_part, copied};
@@ -106,7 +108,7 @@ pub fn copy(from: &[u8], start: usize, to: &mut [u8], at: usize, n: usize)
 }
 
 // What stands from a place on: where it ends.
-#[derive(Drop)]
+#[derive(Clone, Copy)]
 pub enum Place {
     End(usize),
     Broken,

@@ -6,7 +6,7 @@ use rows::{Row, RowPlace};
 use sheet::Value;
 
 // Whose rows are walked: the table's tags, of which some are kept, or the sheet's changes, of which some are new.
-#[derive(Drop)]
+#[derive(Clone, Copy)]
 pub enum Side {
     Kept,
     New,
@@ -14,7 +14,7 @@ pub enum Side {
 
 // The piece of a row: how many bytes from the row's own place on; the place and the number of bytes of a value of the sheet, which comes behind them; and
 // where the row ends.
-#[derive(Drop)]
+#[derive(Clone, Copy)]
 pub enum Piece {
     Whole(usize, usize, usize, usize),
     Broken,

@@ -13,7 +13,7 @@ use refusal::Refusal;
 use stages::Stage;
 
 // The state: numbers and the stage only. `end` is where the next frame goes.
-#[derive(Drop)]
+#[derive(Clone, Copy)]
 pub struct Recorder {
     pub stage: Stage,
     pub sections: u64,
@@ -24,14 +24,14 @@ pub struct Recorder {
 }
 
 // A place in the file and the number of bytes, which stand at the start of the lent output; or the refusal.
-#[derive(Drop)]
+#[derive(Clone, Copy)]
 pub enum Piece {
     Given { place: u64, length: usize },
     Refused(Refusal),
 }
 
 // What a call hands back.
-#[derive(Drop)]
+#[derive(Clone, Copy)]
 pub struct Taken {
     pub state: Recorder,
     pub piece: Piece,

@@ -1,8 +1,12 @@
 // The vectors of the recorder: runs those that its arguments name, and prints a line for each.
 // tests/VECTORS.md says what a vector holds and how its line reads.
+#![tactic(auto)]
+
 use recorder::{Piece, Recorder, Taken};
 use refusal::Refusal;
 use stages::Stage;
+use std::rt::{Env, Files};
+use std::{env, io};
 use vector::lend::lent;
 use vector::print::{no_vector, refused, say, with, with_check, with_time};
 use vector::sweep::{Tally, line, turn_bytes, turn_length, turns};
@@ -43,98 +47,92 @@ fn state_of(fields: &[u8]) -> Recorder {
     }
 }
 
-fn piece(piece: Piece) {
+fn piece(rt: &impl Print, piece: Piece) -> io::Result<()> {
     match piece {
         Piece::Given { place, length } => {
-            with(b"given ", place);
-            with(b" ", length as u64);
+            with(rt, b"given ", place)?;
+            with(rt, b" ", length as u64)
         }
-        Piece::Refused(refusal) => refused(refusal),
+        Piece::Refused(refusal) => refused(rt, refusal),
     }
 }
 
-fn stage(stage: Stage) {
+fn stage(rt: &impl Print, stage: Stage) -> io::Result<()> {
     match stage {
-        Stage::Fresh => with(b" stage 0 piece ", 0),
-        Stage::Running => with(b" stage 1 piece ", 0),
-        Stage::Closing(next) => with(b" stage 2 piece ", next as u64),
-        Stage::Closed => with(b" stage 3 piece ", 0),
+        Stage::Fresh => with(rt, b" stage 0 piece ", 0),
+        Stage::Running => with(rt, b" stage 1 piece ", 0),
+        Stage::Closing(next) => with(rt, b" stage 2 piece ", next as u64),
+        Stage::Closed => with(rt, b" stage 3 piece ", 0),
     }
 }
 
-fn state(state: Recorder) {
+fn state(rt: &impl Print, state: Recorder) -> io::Result<()> {
     let now = state.stage;
-    stage(now);
-    with(b" sections ", state.sections);
-    with(b" frames ", state.frames);
-    with_time(b" first ", state.first);
-    with_time(b" last ", state.last);
-    with(b" end ", state.end);
+    stage(rt, now)?;
+    with(rt, b" sections ", state.sections)?;
+    with(rt, b" frames ", state.frames)?;
+    with_time(rt, b" first ", state.first)?;
+    with_time(rt, b" last ", state.last)?;
+    with(rt, b" end ", state.end)
 }
 
-fn taken(taken: Taken, notes: &[u8], out: &[u8]) {
+fn taken(rt: &impl Print, taken: Taken, notes: &[u8], out: &[u8]) -> io::Result<()> {
     let given = taken.piece;
     let after = taken.state;
-    piece(given);
-    state(after);
-    with_check(b" notes ", notes);
-    with_check(b" out ", out);
+    piece(rt, given)?;
+    state(rt, after)?;
+    with_check(rt, b" notes ", notes)?;
+    with_check(rt, b" out ", out)
 }
 
-fn added(fields: &[u8], notes: &mut [u8], out: &mut [u8]) {
+fn added(rt: &impl Print, fields: &[u8], notes: &mut [u8], out: &mut [u8]) -> io::Result<()> {
     let time = number::time_of(number::read(fields, STATE, 8));
     let exposure = (number::read(fields, STATE + 8, 4) % 0x1_0000_0000) as u32;
     if fields.len() < STATE + 12 {
-        no_vector();
-        return;
+        return no_vector(rt);
     }
     let answer = state_of(fields).add(time, exposure, &fields[STATE + 12..], notes, out);
-    taken(answer, notes, out);
+    taken(rt, answer, notes, out)
 }
 
-fn begun(fields: &[u8], notes: &mut [u8], out: &mut [u8]) {
+fn begun(rt: &impl Print, fields: &[u8], notes: &mut [u8], out: &mut [u8]) -> io::Result<()> {
     if fields.len() < STATE + 2 {
-        no_vector();
-        return;
+        return no_vector(rt);
     }
     let length = number::read(fields, STATE, 2) as usize;
     let lists = &fields[STATE + 2..];
     if lists.len() < length {
-        no_vector();
-        return;
+        return no_vector(rt);
     }
     let answer = state_of(fields).begin(&lists[..length], &lists[length..], notes, out);
-    taken(answer, notes, out);
+    taken(rt, answer, notes, out)
 }
 
-fn closed(fields: &[u8], notes: &mut [u8], out: &mut [u8]) {
+fn closed(rt: &impl Print, fields: &[u8], notes: &mut [u8], out: &mut [u8]) -> io::Result<()> {
     if fields.len() < STATE {
-        no_vector();
-        return;
+        return no_vector(rt);
     }
     let given = &fields[STATE..];
     if given.len() < notes.len() {
-        no_vector();
-        return;
+        return no_vector(rt);
     }
     parts::copy(given, 0, notes, 0, notes.len());
     let answer = state_of(fields).close(notes, out);
-    taken(answer, notes, out);
+    taken(rt, answer, notes, out)
 }
 
-fn call(kind: u8, fields: &[u8], notes: &mut [u8], out: &mut [u8]) {
+fn call(rt: &impl Print, kind: u8, fields: &[u8], notes: &mut [u8], out: &mut [u8]) -> io::Result<()> {
     match kind {
-        ADD => added(fields, notes, out),
-        BEGIN => begun(fields, notes, out),
-        _ => closed(fields, notes, out),
+        ADD => added(rt, fields, notes, out),
+        BEGIN => begun(rt, fields, notes, out),
+        _ => closed(rt, fields, notes, out),
     }
 }
 
 // Notes and output of the lengths that the vector asks for.
-fn run(kind: u8, fields: &[u8]) {
+fn run(rt: &impl Print, kind: u8, fields: &[u8]) -> io::Result<()> {
     if fields.len() < STATE {
-        no_vector();
-        return;
+        return no_vector(rt);
     }
     let notes_length = number::read(fields, 42, 2) as usize;
     let out_length = number::read(fields, 44, 2) as usize;
@@ -145,13 +143,15 @@ fn run(kind: u8, fields: &[u8]) {
     if notes_length <= notes.len() {
         if out_length <= out.len() {
             call(
+                rt,
                 kind,
                 fields,
                 &mut notes[..notes_length],
                 &mut out[..out_length],
-            );
+            )?;
         }
     }
+    Ok(())
 }
 
 fn refusal_of(piece: Piece) -> Refusal {
@@ -178,7 +178,7 @@ fn tried(kind: u8, bytes: &[u8], other: &[u8], before: Tally) -> Tally {
 }
 
 // Each turn of a sweep.
-fn sweep(kind: u8, base: &[u8], other: &[u8], values: &[u8]) {
+fn sweep(rt: &impl Print, kind: u8, base: &[u8], other: &[u8], values: &[u8]) -> io::Result<()> {
     let mut tally = Tally::NONE;
     let mut turn = 0;
     let end = turns(base.len());
@@ -188,66 +188,62 @@ fn sweep(kind: u8, base: &[u8], other: &[u8], values: &[u8]) {
         tally = tried(kind, &bytes[..n], other, tally);
         turn += 1;
     }
-    line(tally);
+    line(rt, tally)
 }
 
 // What a sweep leaves as it is, and behind it what it changes.
-fn swept_by(kind: u8, values: &[u8], fields: &[u8]) {
+fn swept_by(rt: &impl Print, kind: u8, values: &[u8], fields: &[u8]) -> io::Result<()> {
     if fields.len() < 2 {
-        no_vector();
-        return;
+        return no_vector(rt);
     }
     let length = number::read(fields, 0, 2) as usize;
     let given = &fields[2..];
     if given.len() < length {
-        no_vector();
-        return;
+        return no_vector(rt);
     }
-    sweep(kind, &given[length..], &given[..length], values);
+    sweep(rt, kind, &given[length..], &given[..length], values)
 }
 
 // The values of a sweep come first.
-fn swept(kind: u8, fields: &[u8]) {
+fn swept(rt: &impl Print, kind: u8, fields: &[u8]) -> io::Result<()> {
     if fields.len() < 1 {
-        no_vector();
-        return;
+        return no_vector(rt);
     }
     let length = number::read(fields, 0, 1) as usize;
     let given = &fields[1..];
     if given.len() < length {
-        no_vector();
-        return;
+        return no_vector(rt);
     }
     let rest = &given[length..];
-    swept_by(kind, &given[..length], rest);
+    swept_by(rt, kind, &given[..length], rest)
 }
 
 // The call that a vector holds, by its first byte.
-fn answer(vector: &[u8]) {
+fn answer(rt: &impl Print, vector: &[u8]) -> io::Result<()> {
     if vector.len() == 0 {
-        no_vector();
-        return;
+        return no_vector(rt);
     }
     let fields = &vector[1..];
     match vector[0] {
-        ADD | BEGIN | CLOSE => run(vector[0], fields),
-        SWEEP_OF_LIST | SWEEP_OF_TABLE => swept(vector[0], fields),
-        _ => no_vector(),
+        ADD | BEGIN | CLOSE => run(rt, vector[0], fields),
+        SWEEP_OF_LIST | SWEEP_OF_TABLE => swept(rt, vector[0], fields),
+        _ => no_vector(rt),
     }
 }
 
-fn one(argument: usize) {
-    let mut space = io::large_buffer();
-    let n = vector::read(argument, &mut space);
-    answer(&space[..n]);
-    say(b"\n");
+fn one(rt: &(impl Alloc + Env + Files + Print), argument: usize) -> io::Result<()> {
+    let mut space = lent(0);
+    let n = vector::read(rt, argument, &mut space)?;
+    answer(rt, &space[..n])?;
+    say(rt, b"\n")
 }
 
-fn main() {
+fn main(rt: HostRuntime) -> io::Result<()> {
     let mut argument = 1;
-    let end = os::arg_count();
+    let end = env::args(&rt)?.count();
     while argument < end {
-        one(argument);
+        one(&rt, argument)?;
         argument += 1;
     }
+    Ok(())
 }

@@ -1,10 +1,12 @@
 // Refusals: document 01's numbers by their names, and the one shape that every answer gives them in.
+#![tactic(auto)]
+
 ghost use Rattle.std.specs.Prelude.{◌≡◌};
 ghost use Rattle.refusal.specs.Refusal.{placed};
 
 // A refusal's number, and the place that it carries: 3, 4, 7 and 10 the position of the first fault in the lent bytes, 11 the change's number, from 0;
 // the others carry none, which is 0.
-#[derive(Drop)]
+#[derive(Clone, Copy)]
 pub struct Refusal {
     pub number: u8,
     pub place: usize,

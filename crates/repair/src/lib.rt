@@ -16,7 +16,7 @@ use parts::Place;
 use refusal::Refusal;
 
 // The kept length, the three header fields, and the length of the tail, which stands at the start of the lent output; or the refusal number.
-#[derive(Drop)]
+#[derive(Clone, Copy)]
 pub enum Repaired {
     Kept {
         kept: usize,
@@ -33,14 +33,14 @@ const KEPT_LENGTHS: usize = 10_000;
 
 // A step of the walk: where a whole frame ends, and its time, which follows the last one; or that the walk stops there, with whether a time that breaks
 // its rule is why.
-#[derive(Drop)]
+#[derive(Clone, Copy)]
 enum Step {
     Next(usize, u64),
     Stop(bool),
 }
 
 // What the walk found: how many frames there are, where the last one ends and the length that they have in common; or that their times break the rule.
-#[derive(Drop)]
+#[derive(Clone, Copy)]
 enum Walked {
     InOrder {
         count: usize,

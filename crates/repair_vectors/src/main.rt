@@ -1,7 +1,11 @@
 // The vectors of repair: runs those that its arguments name, and prints a line for each.
 // tests/VECTORS.md says what a vector holds and how its line reads.
+#![tactic(auto)]
+
 use refusal::Refusal;
 use repair::Repaired;
+use std::rt::{Env, Files};
+use std::{env, io};
 use vector::lend::lent;
 use vector::print::{no_vector, refused, say, with, with_check};
 use vector::sweep::{Tally, line, turn_bytes, turn_length, turns};
@@ -10,7 +14,7 @@ const REPAIR: u8 = b'r';
 
 const SWEEP: u8 = b'R';
 
-fn kept(answer: Repaired) {
+fn kept(rt: &impl Print, answer: Repaired) -> io::Result<()> {
     match answer {
         Repaired::Kept {
             kept,
@@ -19,32 +23,32 @@ fn kept(answer: Repaired) {
             user,
             tail,
         } => {
-            with(b"repaired kept ", kept as u64);
-            with(b" count ", count as u64);
-            with(b" index ", index as u64);
-            with(b" user ", user as u64);
-            with(b" tail ", tail as u64);
+            with(rt, b"repaired kept ", kept as u64)?;
+            with(rt, b" count ", count as u64)?;
+            with(rt, b" index ", index as u64)?;
+            with(rt, b" user ", user as u64)?;
+            with(rt, b" tail ", tail as u64)
         }
-        Repaired::Refused(refusal) => refused(refusal),
+        Repaired::Refused(refusal) => refused(rt, refusal),
     }
 }
 
-fn repaired(file: &[u8], out: &mut [u8]) {
-    kept(repair::repair(file, out));
-    with_check(b" out ", out);
+fn repaired(rt: &impl Print, file: &[u8], out: &mut [u8]) -> io::Result<()> {
+    kept(rt, repair::repair(file, out))?;
+    with_check(rt, b" out ", out)
 }
 
-fn repair(fields: &[u8]) {
+fn repair(rt: &impl Print, fields: &[u8]) -> io::Result<()> {
     if fields.len() < 2 {
-        no_vector();
-        return;
+        return no_vector(rt);
     }
     let room = number::read(fields, 0, 2) as usize;
     let mut space = lent(0x5A);
     let out: &mut [u8] = &mut space;
     if room <= out.len() {
-        repaired(&fields[2..], &mut out[..room]);
+        repaired(rt, &fields[2..], &mut out[..room])?;
     }
+    Ok(())
 }
 
 fn refusal_of(answer: Repaired) -> Refusal {
@@ -61,7 +65,7 @@ fn tried(file: &[u8], before: Tally) -> Tally {
 }
 
 // Each turn of a sweep of the file.
-fn sweep(base: &[u8], values: &[u8]) {
+fn sweep(rt: &impl Print, base: &[u8], values: &[u8]) -> io::Result<()> {
     let mut tally = Tally::NONE;
     let mut turn = 0;
     let end = turns(base.len());
@@ -71,50 +75,48 @@ fn sweep(base: &[u8], values: &[u8]) {
         tally = tried(&bytes[..n], tally);
         turn += 1;
     }
-    line(tally);
+    line(rt, tally)
 }
 
 // The values of a sweep, and behind them the file.
-fn swept(fields: &[u8]) {
+fn swept(rt: &impl Print, fields: &[u8]) -> io::Result<()> {
     if fields.len() < 1 {
-        no_vector();
-        return;
+        return no_vector(rt);
     }
     let length = number::read(fields, 0, 1) as usize;
     let given = &fields[1..];
     if given.len() < length {
-        no_vector();
-        return;
+        return no_vector(rt);
     }
-    sweep(&given[length..], &given[..length]);
+    sweep(rt, &given[length..], &given[..length])
 }
 
 // The call that a vector holds, by its first byte.
-fn answer(vector: &[u8]) {
+fn answer(rt: &impl Print, vector: &[u8]) -> io::Result<()> {
     if vector.len() == 0 {
-        no_vector();
-        return;
+        return no_vector(rt);
     }
     let fields = &vector[1..];
     match vector[0] {
-        REPAIR => repair(fields),
-        SWEEP => swept(fields),
-        _ => no_vector(),
+        REPAIR => repair(rt, fields),
+        SWEEP => swept(rt, fields),
+        _ => no_vector(rt),
     }
 }
 
-fn one(argument: usize) {
-    let mut space = io::large_buffer();
-    let n = vector::read(argument, &mut space);
-    answer(&space[..n]);
-    say(b"\n");
+fn one(rt: &(impl Alloc + Env + Files + Print), argument: usize) -> io::Result<()> {
+    let mut space = lent(0);
+    let n = vector::read(rt, argument, &mut space)?;
+    answer(rt, &space[..n])?;
+    say(rt, b"\n")
 }
 
-fn main() {
+fn main(rt: HostRuntime) -> io::Result<()> {
     let mut argument = 1;
-    let end = os::arg_count();
+    let end = env::args(&rt)?.count();
     while argument < end {
-        one(argument);
+        one(&rt, argument)?;
         argument += 1;
     }
+    Ok(())
 }

@@ -1,4 +1,6 @@
 // Rows that begin with a name, over lent bytes, by their length bytes alone.
+#![tactic(auto)]
+
 ghost use Rattle.std.specs.Prelude.{◌≡◌, ◌≤◌, length, drop};
 ghost use Rattle.layout.specs.Reading.{string, number, block, ◌then◌, times};
 ghost use Rattle.parts.specs.Parts.{end_of};
@@ -8,7 +10,7 @@ use parts::Place;
 use strings::Text;
 
 // What stands in rows that begin with a name.
-#[derive(Drop)]
+#[derive(Clone, Copy)]
 pub enum Row {
     Definition,
     SetUp,
@@ -17,7 +19,7 @@ pub enum Row {
 }
 
 // A row at a place: the number of bytes of its name, and where it ends.
-#[derive(Drop)]
+#[derive(Clone, Copy)]
 pub enum RowPlace {
     Whole(usize, usize),
     Broken,

@@ -11,7 +11,7 @@ use sheet::Sheet;
 
 // What a sheet asks of a file: so many changes of the `tags` tags that stand from `at` on; or the refusal, whose place is in the file for 3, 4 and 7 and in
 // the sheet for 10.
-#[derive(Drop)]
+#[derive(Clone, Copy)]
 pub enum Asked {
     Changes {
         at: usize,
@@ -22,14 +22,14 @@ pub enum Asked {
 }
 
 // What look answers: the number of changes, and the set of those that conflict, the first one's bit lowest; or the refusal.
-#[derive(Drop)]
+#[derive(Clone, Copy)]
 pub enum Looked {
     Changes(usize, u64),
     Refused(Refusal),
 }
 
 // What a commit answers: the length of the new table, or the refusal, with look's places; 11's is the number of the change, from 0.
-#[derive(Drop)]
+#[derive(Clone, Copy)]
 pub enum Committed {
     Table(usize),
     Refused(Refusal),

@@ -1,8 +1,12 @@
 // The vectors of saving: runs those that its arguments name, and prints a line for each.
 // tests/VECTORS.md says what a vector holds and how its line reads.
+#![tactic(auto)]
+
 use converting::Converted;
 use refusal::Refusal;
 use saving::{Committed, Looked};
+use std::rt::{Env, Files};
+use std::{env, io};
 use vector::lend::lent;
 use vector::print::{no_vector, refused, say, with, with_check};
 use vector::sweep::{Tally, line, turn_bytes, turn_length, turns};
@@ -17,71 +21,68 @@ const SWEEP_OF_FILE: u8 = b'U';
 
 const SWEEP_OF_SHEET: u8 = b'S';
 
-fn conflicts(looked: Looked) {
+fn conflicts(rt: &impl Print, looked: Looked) -> io::Result<()> {
     match looked {
         Looked::Changes(changes, set) => {
-            with(b"looked ", changes as u64);
-            with(b" set ", set);
+            with(rt, b"looked ", changes as u64)?;
+            with(rt, b" set ", set)
         }
-        Looked::Refused(refusal) => refused(refusal),
+        Looked::Refused(refusal) => refused(rt, refusal),
     }
 }
 
-fn table(committed: Committed) {
+fn table(rt: &impl Print, committed: Committed) -> io::Result<()> {
     match committed {
-        Committed::Table(length) => with(b"committed ", length as u64),
-        Committed::Refused(refusal) => refused(refusal),
+        Committed::Table(length) => with(rt, b"committed ", length as u64),
+        Committed::Refused(refusal) => refused(rt, refusal),
     }
 }
 
-fn committed(file: &[u8], sheet: &[u8], out: &mut [u8]) {
-    table(saving::commit(file, sheet, out));
-    with_check(b" out ", out);
+fn committed(rt: &impl Print, file: &[u8], sheet: &[u8], out: &mut [u8]) -> io::Result<()> {
+    table(rt, saving::commit(file, sheet, out))?;
+    with_check(rt, b" out ", out)
 }
 
-fn new_sheet(converted: Converted) {
+fn new_sheet(rt: &impl Print, converted: Converted) -> io::Result<()> {
     match converted {
-        Converted::Sheet(length) => with(b"converted ", length as u64),
-        Converted::Refused(refusal) => refused(refusal),
+        Converted::Sheet(length) => with(rt, b"converted ", length as u64),
+        Converted::Refused(refusal) => refused(rt, refusal),
     }
 }
 
-fn converted(file: &[u8], sheet: &[u8], out: &mut [u8]) {
-    new_sheet(converting::convert(file, sheet, out));
-    with_check(b" out ", out);
+fn converted(rt: &impl Print, file: &[u8], sheet: &[u8], out: &mut [u8]) -> io::Result<()> {
+    new_sheet(rt, converting::convert(file, sheet, out))?;
+    with_check(rt, b" out ", out)
 }
 
 // A conversion or a commit: both write what they answer.
-fn written(kind: u8, file: &[u8], sheet: &[u8], out: &mut [u8]) {
+fn written(rt: &impl Print, kind: u8, file: &[u8], sheet: &[u8], out: &mut [u8]) -> io::Result<()> {
     if kind == CONVERT {
-        converted(file, sheet, out);
-        return;
+        return converted(rt, file, sheet, out);
     }
-    committed(file, sheet, out);
+    committed(rt, file, sheet, out)
 }
 
 // A look, a commit and a conversion have the same fields, of which a look does not use the room.
-fn call(kind: u8, fields: &[u8]) {
+fn call(rt: &impl Print, kind: u8, fields: &[u8]) -> io::Result<()> {
     if fields.len() < 4 {
-        no_vector();
-        return;
+        return no_vector(rt);
     }
     let room = number::read(fields, 0, 2) as usize;
     let length = number::read(fields, 2, 2) as usize;
     let given = &fields[4..];
     if given.len() < length {
-        no_vector();
-        return;
+        return no_vector(rt);
     }
     if kind == LOOK {
-        conflicts(saving::look(&given[length..], &given[..length]));
-        return;
+        return conflicts(rt, saving::look(&given[length..], &given[..length]));
     }
     let mut space = lent(0x5A);
     let out: &mut [u8] = &mut space;
     if room <= out.len() {
-        written(kind, &given[length..], &given[..length], &mut out[..room]);
+        written(rt, kind, &given[length..], &given[..length], &mut out[..room])?;
     }
+    Ok(())
 }
 
 // What a sweep's check takes of a look: its refusal, or none, with the set where the place stands.
@@ -134,7 +135,7 @@ fn tried(kind: u8, bytes: &[u8], other: &[u8], before: Tally) -> Tally {
 }
 
 // Each turn of a sweep.
-fn sweep(kind: u8, base: &[u8], other: &[u8], values: &[u8]) {
+fn sweep(rt: &impl Print, kind: u8, base: &[u8], other: &[u8], values: &[u8]) -> io::Result<()> {
     let mut tally = Tally::NONE;
     let mut turn = 0;
     let end = turns(base.len());
@@ -144,66 +145,62 @@ fn sweep(kind: u8, base: &[u8], other: &[u8], values: &[u8]) {
         tally = tried(kind, &bytes[..n], other, tally);
         turn += 1;
     }
-    line(tally);
+    line(rt, tally)
 }
 
 // What a sweep leaves as it is, and behind it what it changes.
-fn swept_by(kind: u8, values: &[u8], fields: &[u8]) {
+fn swept_by(rt: &impl Print, kind: u8, values: &[u8], fields: &[u8]) -> io::Result<()> {
     if fields.len() < 2 {
-        no_vector();
-        return;
+        return no_vector(rt);
     }
     let length = number::read(fields, 0, 2) as usize;
     let given = &fields[2..];
     if given.len() < length {
-        no_vector();
-        return;
+        return no_vector(rt);
     }
-    sweep(kind, &given[length..], &given[..length], values);
+    sweep(rt, kind, &given[length..], &given[..length], values)
 }
 
 // The values of a sweep come first.
-fn swept(kind: u8, fields: &[u8]) {
+fn swept(rt: &impl Print, kind: u8, fields: &[u8]) -> io::Result<()> {
     if fields.len() < 1 {
-        no_vector();
-        return;
+        return no_vector(rt);
     }
     let length = number::read(fields, 0, 1) as usize;
     let given = &fields[1..];
     if given.len() < length {
-        no_vector();
-        return;
+        return no_vector(rt);
     }
     let rest = &given[length..];
-    swept_by(kind, &given[..length], rest);
+    swept_by(rt, kind, &given[..length], rest)
 }
 
 // The call that a vector holds, by its first byte.
-fn answer(vector: &[u8]) {
+fn answer(rt: &impl Print, vector: &[u8]) -> io::Result<()> {
     if vector.len() == 0 {
-        no_vector();
-        return;
+        return no_vector(rt);
     }
     let fields = &vector[1..];
     match vector[0] {
-        COMMIT | CONVERT | LOOK => call(vector[0], fields),
-        SWEEP_OF_FILE | SWEEP_OF_SHEET => swept(vector[0], fields),
-        _ => no_vector(),
+        COMMIT | CONVERT | LOOK => call(rt, vector[0], fields),
+        SWEEP_OF_FILE | SWEEP_OF_SHEET => swept(rt, vector[0], fields),
+        _ => no_vector(rt),
     }
 }
 
-fn one(argument: usize) {
-    let mut space = io::large_buffer();
-    let n = vector::read(argument, &mut space);
-    answer(&space[..n]);
-    say(b"\n");
+fn one(rt: &(impl Alloc + Env + Files + Print), argument: usize) -> io::Result<()> {
+    let mut space = lent(0);
+    let n = vector::read(rt, argument, &mut space)?;
+    answer(rt, &space[..n])?;
+    say(rt, b"\n")
 }
 
-fn main() {
+fn main(rt: HostRuntime) -> io::Result<()> {
     let mut argument = 1;
-    let end = os::arg_count();
+    let end = env::args(&rt)?.count();
     while argument < end {
-        one(argument);
+        one(&rt, argument)?;
         argument += 1;
     }
+    Ok(())
 }

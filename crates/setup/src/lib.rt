@@ -38,7 +38,7 @@ fn incomplete(setup: &[u8]) -> bool
 }
 
 // A section of a set-up list at a place: where it ends, or where its bytes run out.
-#[derive(Drop)]
+#[derive(Clone, Copy)]
 enum SectionAt {
     End(usize),
     Fault(usize),

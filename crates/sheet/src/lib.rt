@@ -18,14 +18,14 @@ pub const MOST_SEEN: usize = 1;
 pub const MOST_SEEN_BEFORE: usize = 2;
 
 // A change sheet: its number of changes; or where its first fault is.
-#[derive(Drop)]
+#[derive(Clone, Copy)]
 pub enum Sheet {
     Whole(usize),
     Broken(usize),
 }
 
 // A value that stands in some bytes: the place of its short string, and its number of bytes; or nothing.
-#[derive(Drop)]
+#[derive(Clone, Copy)]
 pub enum Value {
     At(usize, usize),
     Nothing,
@@ -92,7 +92,7 @@ fn changes_end(s: &[u8], at: usize, n: usize, most: usize) -> Place
 }
 
 // A sheet by its number of changes, and where it ends.
-#[derive(Drop)]
+#[derive(Clone, Copy)]
 enum SheetEnd {
     Whole(usize, usize),
     Broken,

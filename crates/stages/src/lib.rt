@@ -1,4 +1,6 @@
 // The recorder's stages, its limits and its closing pieces, over numbers.
+#![tactic(auto)]
+
 ghost use Rattle.std.specs.Prelude.{◌≡◌};
 ghost use Rattle.layout.specs.Recorder.{too_long, broken_state, piece_number, takes_close, is_running, is_fresh, stage_after};
 ghost use Rattle.stages.specs.Stages.{stage_of, to_stage, state_with, full_with, closing_number, closing_length};
@@ -6,7 +8,7 @@ ghost use Rattle.stages.specs.Stages.{stage_of, to_stage, state_with, full_with,
 use header::Header;
 
 // "fresh, running, closing at piece 0 to 4, closed": the piece named is the next one.
-#[derive(Drop)]
+#[derive(Clone, Copy)]
 pub enum Stage {
     Fresh,
     Running,
@@ -126,7 +128,7 @@ pub fn full(end: u64, frames: u64, length: u64) -> bool
 }
 
 // A closing piece that is one number.
-#[derive(Drop)]
+#[derive(Clone, Copy)]
 pub struct Number {
     pub place: u64,
     pub width: usize,

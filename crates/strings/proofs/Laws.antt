@@ -284,6 +284,7 @@ module _ (s : List ℕ) (at n : ℕ) (r : Text) (e : r ≡ text_with n) where
 pub every-cons : (ok : ℕ → Bool) (s : List ℕ) (at n : ℕ) → 0 < n → at < length s
     → every ok (take n (drop at s)) ≡ (ok (get_or s at 0) && every ok (take (n - 1) (drop (at + 1) s)))
 unfolding every
+every-cons ok s at zero z h = elim z [ ]
 every-cons ok s at (suc n) z h =
     let p : at + 1 ≡ suc at = omega arith in
     let q : suc n - 1 ≡ n = omega arith in

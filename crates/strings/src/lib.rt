@@ -1,18 +1,20 @@
 // Short strings over lent bytes, and the classes of bytes that names and values have.
+#![tactic(auto)]
+
 ghost use Rattle.std.specs.Prelude.{◌≡◌, ◌+◌, ◌*◌, ◌<◌, ◌≤◌, length, take, drop};
 ghost use Rattle.layout.specs.Recording.{is_name_byte, is_tag_byte, every};
 ghost use Rattle.layout.specs.Reading.{string, outside, string_fault, section_name, tag_name, tag_value};
 ghost use Rattle.strings.specs.Strings.{in_class, text_by, text_of, length_of, text_with, short_of, read_by};
 
 // A short string at a place: its number of bytes, which start behind the length byte.
-#[derive(Drop)]
+#[derive(Clone, Copy)]
 pub enum Text {
     Whole(usize),
     Broken,
 }
 
 // Which bytes a short string may have.
-#[derive(Drop)]
+#[derive(Clone, Copy)]
 enum Class {
     Name,
     Tag,
@@ -255,7 +257,7 @@ fn text_fault(s: &[u8], at: usize, least: usize, class: Class) -> usize
 }
 
 // A short string at a place: its number of bytes; or the place where it broke.
-#[derive(Drop)]
+#[derive(Clone, Copy)]
 pub enum Short {
     Whole(usize),
     Broken(usize),
@@ -272,7 +274,7 @@ fn text_or_fault(s: &[u8], at: usize, least: usize, class: Class) -> Short
 }
 
 // Which short string is read.
-#[derive(Drop)]
+#[derive(Clone, Copy)]
 pub enum Rule {
     SectionName,
     TagName,

@@ -12,14 +12,14 @@ use rows::Row;
 use strings::Text;
 
 // A tag at a place: the numbers of bytes of its name and of its value.
-#[derive(Drop)]
+#[derive(Clone, Copy)]
 pub enum TagPlace {
     Whole(usize, usize),
     Broken,
 }
 
 // A table at a place: its number of tags, and where it ends; or where its first fault is.
-#[derive(Drop)]
+#[derive(Clone, Copy)]
 pub enum TablePlace {
     Whole(usize, usize),
     Broken(usize),
@@ -58,7 +58,7 @@ fn tags_end(s: &[u8], at: usize, n: usize) -> Place
 }
 
 // Where tags end, with whether their names were seen to differ on the way.
-#[derive(Drop)]
+#[derive(Clone, Copy)]
 enum TagsEnd {
     End(usize, bool),
     Broken,
@@ -118,7 +118,7 @@ fn tags_apart(s: &[u8], at: usize, n: usize) -> Place
 }
 
 // A table by its number of tags, and where it ends.
-#[derive(Drop)]
+#[derive(Clone, Copy)]
 enum TableEnd {
     Whole(usize, usize),
     Broken,
@@ -157,7 +157,7 @@ pub fn table(s: &[u8], at: usize) -> TablePlace
 }
 
 // The number of tags of bytes that are exactly a legal table; or where the first fault is.
-#[derive(Drop)]
+#[derive(Clone, Copy)]
 pub enum Tags {
     Whole(usize),
     Broken(usize),
@@ -179,7 +179,7 @@ pub fn tags_of(bytes: &[u8]) -> Tags
 }
 
 // Where the name and the value of a tag stand, and their lengths.
-#[derive(Drop)]
+#[derive(Clone, Copy)]
 pub enum TagFound {
     At {
         name: usize,

@@ -1,4 +1,6 @@
 // The rule of frames' times. Times are patterns of Int64.
+#![tactic(auto)]
+
 ghost use Rattle.std.specs.Prelude.{◌≡◌};
 ghost use Rattle.layout.specs.Recording.{follows};
 ghost use Rattle.times.specs.Times.{since_first};

@@ -1,30 +1,29 @@
-// What the lines are made of.
-use libc::STDOUT_FILENO;
+// What the lines are made of. Each call answers whether what it wrote was taken.
 use refusal::Refusal;
+use std::io;
 
-pub fn say(text: &[u8]) {
-    io::write_all(STDOUT_FILENO, text);
+pub fn say(rt: &impl Print, text: &[u8]) -> io::Result<()> {
+    rt.write_all(text)
 }
 
-pub fn no_vector() {
-    say(b"no vector");
+pub fn no_vector(rt: &impl Print) -> io::Result<()> {
+    say(rt, b"no vector")
 }
 
 // A word and a number behind it.
-pub fn with(word: &[u8], n: u64) {
-    say(word);
-    io::print_decimal(STDOUT_FILENO, n);
+pub fn with(rt: &impl Print, word: &[u8], n: u64) -> io::Result<()> {
+    say(rt, word)?;
+    rt.print(n)
 }
 
 // The same with an Int64.
-pub fn with_time(word: &[u8], time: i64) {
+pub fn with_time(rt: &impl Print, word: &[u8], time: i64) -> io::Result<()> {
     let pattern = number::pattern_of(time);
     if pattern < 0x8000_0000_0000_0000 {
-        with(word, pattern);
-        return;
+        return with(rt, word, pattern);
     }
-    say(word);
-    with(b"-", !pattern + 1);
+    say(rt, word)?;
+    with(rt, b"-", !pattern + 1)
 }
 
 // Whether a refusal carries a place: 3, 4, 7 and 10 that of the first fault, 11 that of a change.
@@ -36,32 +35,34 @@ fn carries_place(number: u8) -> bool {
 }
 
 // A refusal's number, and its place where it carries one.
-pub fn refused(refusal: Refusal) {
-    with(b"refused ", refusal.number as u64);
+pub fn refused(rt: &impl Print, refusal: Refusal) -> io::Result<()> {
+    with(rt, b"refused ", refusal.number as u64)?;
     if carries_place(refusal.number) {
-        with(b" place ", refusal.place as u64);
+        with(rt, b" place ", refusal.place as u64)?;
     }
+    Ok(())
 }
 
-fn byte(b: u8) {
-    io::print_hex(STDOUT_FILENO, b as u64, 2);
+fn byte(rt: &impl Print, b: u8) -> io::Result<()> {
+    print!(rt; "{b:02x}")
 }
 
-pub fn hex(bytes: &[u8]) {
+pub fn hex(rt: &impl Print, bytes: &[u8]) -> io::Result<()> {
     let mut i = 0;
     while i < bytes.len() {
-        byte(bytes[i]);
+        byte(rt, bytes[i])?;
         i += 1;
     }
+    Ok(())
 }
 
 // A word and a check, sixteen digits.
-pub fn with_sum(word: &[u8], sum: u64) {
-    say(word);
-    io::print_hex(STDOUT_FILENO, sum, 16);
+pub fn with_sum(rt: &impl Print, word: &[u8], sum: u64) -> io::Result<()> {
+    say(rt, word)?;
+    print!(rt; "{sum:016x}")
 }
 
 // The same with the check of bytes.
-pub fn with_check(word: &[u8], bytes: &[u8]) {
-    with_sum(word, crate::check::bytes(crate::check::START, bytes));
+pub fn with_check(rt: &impl Print, word: &[u8], bytes: &[u8]) -> io::Result<()> {
+    with_sum(rt, word, crate::check::bytes(crate::check::START, bytes))
 }

@@ -6,6 +6,7 @@ ghost use Rattle.vector.specs.Sweep.{counted, tallied, turns_of, turn_length, tu
 use crate::check;
 use crate::print::{with, with_sum};
 use refusal::Refusal;
+use std::io;
 
 // The turns of a place.
 const TURNS: usize = 32;
@@ -61,7 +62,7 @@ pub fn turn_bytes(base: &[u8], values: &[u8], turn: usize) -> [u8; 1024]
 }
 
 // How many inputs were tried, how many of them were refused, and the check over what each was answered.
-#[derive(Drop)]
+#[derive(Clone, Copy)]
 pub struct Tally {
     pub inputs: u64,
     pub refused: u64,
@@ -98,8 +99,8 @@ pub fn tried(before: Tally, refusal: Refusal) -> Tally
 }
 
 // The line of a sweep.
-pub fn line(tally: Tally) {
-    with(b"sweep inputs ", tally.inputs);
-    with(b" refused ", tally.refused);
-    with_sum(b" check ", tally.sum);
+pub fn line(rt: &impl Print, tally: Tally) -> io::Result<()> {
+    with(rt, b"sweep inputs ", tally.inputs)?;
+    with(rt, b" refused ", tally.refused)?;
+    with_sum(rt, b" check ", tally.sum)
 }

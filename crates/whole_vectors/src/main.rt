@@ -1,11 +1,15 @@
 // The vectors of whole recordings: runs those that its arguments name, and prints a line for each.
 // tests/VECTORS.md says what a vector holds and how its line reads.
 // A recording is made call by call and stored piece by piece; after every byte stored the file is repaired and opened.
+#![tactic(auto)]
+
 use header::Header;
 use parts::Place;
 use recorder::{Piece, Recorder, Taken};
 use refusal::Refusal;
 use repair::Repaired;
+use std::rt::{Env, Files};
+use std::{env, io};
 use vector::check;
 use vector::lend::lent;
 use vector::print::{no_vector, say, with, with_check, with_sum};
@@ -19,7 +23,7 @@ const MANY: usize = 1_000_000;
 const FRAME_HEAD: usize = 12;
 
 // How far the storing is: where the file ends, the bytes stored, the cuts so far and the check over them, and the number of the first refusal, 0 for none.
-#[derive(Drop)]
+#[derive(Clone, Copy)]
 struct Stored {
     end: usize,
     bytes: u64,
@@ -29,7 +33,7 @@ struct Stored {
 }
 
 // The recorder's state, and what is stored of its pieces.
-#[derive(Drop)]
+#[derive(Clone, Copy)]
 struct Recording {
     state: Recorder,
     stored: Stored,
@@ -294,24 +298,23 @@ fn close_all(notes: &[u8], out: &mut [u8], file: &mut [u8], added: Recording) ->
     recording
 }
 
-fn line(stored: Stored, file: &[u8]) {
+fn line(rt: &impl Print, stored: Stored, file: &[u8]) -> io::Result<()> {
     let end = stored.end;
-    with(b"whole ", end as u64);
-    with_check(b" ", part(file, 0, end));
-    with(b" cuts ", stored.cuts);
-    with_sum(b" ", stored.sum);
+    with(rt, b"whole ", end as u64)?;
+    with_check(rt, b" ", part(file, 0, end))?;
+    with(rt, b" cuts ", stored.cuts)?;
+    with_sum(rt, b" ", stored.sum)
 }
 
-fn line_or_refused(stored: Stored, file: &[u8]) {
+fn line_or_refused(rt: &impl Print, stored: Stored, file: &[u8]) -> io::Result<()> {
     if stored.refused == 0 {
-        line(stored, file);
-        return;
+        return line(rt, stored, file);
     }
-    with(b"refused ", stored.refused as u64);
+    with(rt, b"refused ", stored.refused as u64)
 }
 
 // The calls on lent bytes, the system table being at a place and the frames at another.
-fn record(fields: &[u8], system: usize, frames: usize, count: u64) {
+fn record(rt: &impl Print, fields: &[u8], system: usize, frames: usize, count: u64) -> io::Result<()> {
     let mut notes_space = lent(0);
     let mut out_space = lent(0);
     let mut file_space = lent(0);
@@ -322,61 +325,57 @@ fn record(fields: &[u8], system: usize, frames: usize, count: u64) {
     let added = add_all(fields, frames, count, notes, out, file, begun);
     let closed = close_all(notes, out, file, added);
     let stored = closed.stored;
-    line_or_refused(stored, file);
+    line_or_refused(rt, stored, file)
 }
 
-fn counted(fields: &[u8], system: usize, end: usize) {
+fn counted(rt: &impl Print, fields: &[u8], system: usize, end: usize) -> io::Result<()> {
     if fields.len() <= end {
-        no_vector();
-        return;
+        return no_vector(rt);
     }
     let count = number::read(fields, end, 1);
     if frames_there(fields, end + 1, count) {
-        record(fields, system, end + 1, count);
-        return;
+        return record(rt, fields, system, end + 1, count);
     }
-    no_vector();
+    no_vector(rt)
 }
 
-fn whole(fields: &[u8]) {
+fn whole(rt: &impl Print, fields: &[u8]) -> io::Result<()> {
     let setup = block_end(fields, 0);
     let Place::End(system) = setup else {
-        no_vector();
-        return;
+        return no_vector(rt);
     };
     let table = block_end(fields, system);
     let Place::End(end) = table else {
-        no_vector();
-        return;
+        return no_vector(rt);
     };
-    counted(fields, system, end);
+    counted(rt, fields, system, end)
 }
 
 // The call that a vector holds, by its first byte.
-fn answer(vector: &[u8]) {
+fn answer(rt: &impl Print, vector: &[u8]) -> io::Result<()> {
     if vector.len() == 0 {
-        no_vector();
-        return;
+        return no_vector(rt);
     }
     let fields = &vector[1..];
     match vector[0] {
-        WHOLE => whole(fields),
-        _ => no_vector(),
+        WHOLE => whole(rt, fields),
+        _ => no_vector(rt),
     }
 }
 
-fn one(argument: usize) {
-    let mut space = io::large_buffer();
-    let n = vector::read(argument, &mut space);
-    answer(&space[..n]);
-    say(b"\n");
+fn one(rt: &(impl Alloc + Env + Files + Print), argument: usize) -> io::Result<()> {
+    let mut space = lent(0);
+    let n = vector::read(rt, argument, &mut space)?;
+    answer(rt, &space[..n])?;
+    say(rt, b"\n")
 }
 
-fn main() {
+fn main(rt: HostRuntime) -> io::Result<()> {
     let mut argument = 1;
-    let end = os::arg_count();
+    let end = env::args(&rt)?.count();
     while argument < end {
-        one(argument);
+        one(&rt, argument)?;
         argument += 1;
     }
+    Ok(())
 }

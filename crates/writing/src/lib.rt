@@ -1,4 +1,6 @@
 // What a frame call writes into what is lent: the frame, and its index entry.
+#![tactic(auto)]
+
 ghost use Rattle.std.specs.Prelude.{◌≡◌, ◌+◌, ◌*◌, ◌≤◌, length};
 ghost use Rattle.writing.specs.Writing.{framed, noted_at, noted_in, lent, frame_added};
 

@@ -1,0 +1,14 @@
+use Rattle.rows.proofs.Laws.{laws}
+use Rattle.rows.proofs.string_end.Goals as goal
+
+pub returns-in_default : goal.returns-in_default
+returns-in_default c = search laws
+
+pub overflow_add-result : goal.overflow_add-result
+overflow_add-result c = search laws
+
+pub overflow_add-result-2 : goal.overflow_add-result-2
+overflow_add-result-2 c = search laws
+
+pub returns : goal.returns
+returns c = search laws
