@@ -1,4 +1,6 @@
 // The tag browser: one tag after another of a table in file form, and a tag by its name.
+#![tactic(auto)]
+
 ghost use Rattle.std.specs.Prelude.{◌≡◌};
 ghost use Rattle.layout.specs.Browser.{browse, cursor_after, tag_named};
 ghost use Rattle.browser.specs.Browsing.{browsed_tag, browsed_as};

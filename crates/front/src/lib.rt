@@ -1,4 +1,6 @@
 // What stands ahead of the frames: the lines of refusal 1 to 4 in their order, with which opening and repair both begin.
+#![tactic(auto)]
+
 ghost use Rattle.std.specs.Prelude.{◌≡◌, drop};
 ghost use Rattle.layout.specs.Reading.{times, definition};
 ghost use Rattle.layout.specs.Opening.{not_fstf, other_revision, sections_fault};

@@ -1,4 +1,6 @@
 // What the recorder's calls refuse, over the numbers of its state.
+#![tactic(auto)]
+
 ghost use Rattle.std.specs.Prelude.{◌≡◌};
 ghost use Rattle.refusal.specs.Refusal.{plain};
 ghost use Rattle.layout.specs.Opening.{first_of};

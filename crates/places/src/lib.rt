@@ -1,4 +1,6 @@
 // Where the tags that a sheet names stand in a table, and where the changes that name a tag stand in the sheet.
+#![tactic(auto)]
+
 ghost use Rattle.std.specs.Prelude.{◌≡◌, true, [], ◌∷◌, map, ◌+◌, ◌≤◌, length, take, drop, set};
 ghost use Rattle.std.proofs.lemmas.List.Edits.{sets};
 ghost use Rattle.marks.specs.Marks.{mark_for, mark_of};

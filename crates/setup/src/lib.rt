@@ -1,4 +1,6 @@
 // Set-up lists and system tables as a recording is begun with them: what is wrong with one.
+#![tactic(auto)]
+
 ghost use Rattle.std.specs.Prelude.{◌≡◌, false, drop};
 ghost use Rattle.number.specs.Number.{read_at};
 ghost use Rattle.layout.specs.Recording.{every, legal_section_name, section_names};

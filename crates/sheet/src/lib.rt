@@ -1,4 +1,6 @@
 // A change sheet: how many changes it has; the value that an entry of one names, and the one that a tag has.
+#![tactic(auto)]
+
 ghost use Rattle.std.specs.Prelude.{◌≡◌, drop};
 ghost use Rattle.layout.specs.Reading.{times, exactly};
 ghost use Rattle.layout.specs.Saving.{entry_of};

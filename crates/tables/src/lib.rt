@@ -1,4 +1,6 @@
 // Tag tables, over lent bytes.
+#![tactic(auto)]
+
 ghost use Rattle.std.specs.Prelude.{◌≡◌, drop};
 ghost use Rattle.layout.specs.Reading.{times, exactly, tag, table};
 ghost use Rattle.parts.specs.Parts.{end_of};
