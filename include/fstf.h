@@ -1,6 +1,6 @@
 /* FSTF revision 1: opening, reading, recording, repairing and tagging files that are lent as bytes.
  *
- * Link target/staticlib/libfstf.a, which `rt staticlib fstf` writes (x86-64 Linux), or target/arm/libfstf.a, which arm/build writes (64-bit Arm Linux).
+ * Link target/staticlib/libfstf.a, which ./staticlib writes (x86-64 Linux), or target/arm/libfstf.a, which arm/build writes (64-bit Arm Linux).
  * No call allocates, keeps a pointer, reads or writes a file, or fails in any other way than by a refusal number.
  * A refused call changes nothing of what is lent to it. An accepted one fills `out` from its start and leaves the bytes behind the answer.
  *

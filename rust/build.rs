@@ -19,7 +19,7 @@ fn main() {
     let (processor, system) = (target("ARCH"), target("OS"));
     let wide = target("POINTER_WIDTH") == "64" && target("ENDIAN") == "little";
     let (folder, command) = match (processor.as_str(), system.as_str()) {
-        ("x86_64", "linux") if wide => ("staticlib", "rt staticlib fstf"),
+        ("x86_64", "linux") if wide => ("staticlib", "./staticlib"),
         ("aarch64", "linux") if wide => ("arm", "arm/build"),
         _ => {
             let name = env::var("TARGET").unwrap_or_default();

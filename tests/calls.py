@@ -1,8 +1,9 @@
 """Compares three lists: the public functions of all crates, their one-outcome theorems (proofs/Outcomes.antt), and the rows of docs/CALLS.md; and the
 wrong answers that the rows name with the must-fail edits that there are, each of which, but for those of the definitions, belongs to a row.
 
-Programs are looked at as libraries are: a function that no other crate can call is private. Where a crate stands on `io`, a row may say in the
-theorem's place that the call reads or prints, which no contract can state.
+Programs are looked at as libraries are: a function that no other crate can call is private. Where a function takes the handle by which one prints or
+opens files, its row may say in the theorem's place that the call reads or prints, which no contract can state. A theorem has its function's name with - or _
+between the words, and a row spells it as it stands.
 Prints each function or edit that one of the lists lacks, then a line that counts. Exit status 1 where one is missing.
 """
 
@@ -19,13 +20,17 @@ def without_comments(text):
 
 
 def public_functions(crate):
+    """Each public function's name, and whether it takes a handle by which it can read or print."""
     text = "\n".join(without_comments(p.read_text()) for p in sorted((crate / "src").rglob("*.rt")))
-    return re.findall(r'\bpub\s+(?:extern\s+"C"\s+)?fn\s+(\w+)', text)
+    found = re.findall(r'\bpub\s+(?:extern\s+"C"\s+)?fn\s+(\w+)([^{]*)', text)
+    return [(name, bool(re.search(r"\b(Print|Files|Env)\b", head))) for name, head in found]
 
 
 def theorems(crate):
+    """The one-outcome theorems, by the names of their functions."""
     page = crate / "proofs" / "Outcomes.antt"
-    return set(re.findall(r"^\s*pub (\S+)-one :", page.read_text(), re.M)) if page.exists() else set()
+    stated = re.findall(r"^\s*pub ((\S+)[-_]one) :", page.read_text(), re.M) if page.exists() else []
+    return {function.replace("-", "_"): theorem for theorem, function in stated}
 
 
 def rows():
@@ -40,14 +45,11 @@ def rows():
     return found
 
 
-def reads_or_prints():
-    """The crates that stand on `io`."""
-    return set(re.findall(r"^(\w+):.*\bio\b", (ROOT / "crates.txt").read_text(), re.M))
-
-
 def edits():
     """The edits, by the crate and their name, of the gate and of tests/operators.py."""
-    return {(path.relative_to(ROOT / "crates").parts[0], path.stem) for path in (ROOT / "crates").glob("*/must-fail/**/*.edit")}
+    crates = ROOT / "crates"
+    paths = [*crates.glob("*/must-fail/*.edit"), *crates.glob("*/operators/*.edit")]
+    return {(path.relative_to(crates).parts[0], path.stem) for path in paths}
 
 
 def named_edits(listed):
@@ -64,12 +66,15 @@ def main():
     listed, calls, lacking = rows(), 0, 0
     for crate in sorted((ROOT / "crates").iterdir()):
         shown = theorems(crate)
-        for name in public_functions(crate):
+        for name, reads_or_prints in public_functions(crate):
             calls += 1
             row = listed.get(crate.name, {}).get(name, "")
-            unstated = UNSTATED in row and crate.name in reads_or_prints()
-            if name.replace("_", "-") not in shown and not unstated:
+            unstated = UNSTATED in row and reads_or_prints
+            if name not in shown and not unstated:
                 print(f"{crate.name}::{name}: no one-outcome theorem")
+                lacking += 1
+            if row and name in shown and f"`{shown[name]}`" not in row:
+                print(f"{crate.name}::{name}: its row in docs/CALLS.md does not name {shown[name]}")
                 lacking += 1
             if not row:
                 print(f"{crate.name}::{name}: no row in docs/CALLS.md")

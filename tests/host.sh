@@ -1,5 +1,6 @@
 # To be sourced, from the repository's root, by every script that builds a host program over the static library.
-# There are two libraries: target/staticlib/libfstf.a for x86-64 Linux, by `rt staticlib fstf`, and target/arm/libfstf.a for 64-bit Arm Linux, by arm/build.
+# There are two libraries: target/staticlib/libfstf.a for x86-64 Linux, by ./staticlib, and target/arm/libfstf.a for 64-bit Arm Linux, by arm/build.
+# Both are built on x86-64, where the toolchain runs; on Arm the library is used that was brought there.
 # A program is built over the machine's own and run as it is. With FSTF_EMULATED=1 it is built over the other one and run by qemu: its answers
 # count, its times do not.
 # It gives $host_processor, $host_archive, $host_cc, $host_rustc, $host_rust_flags and $host_runner; host_needs and host_needs_rust, which exit 2 where
@@ -52,24 +53,28 @@ host_needs_rust() {
     [ -e "$1" ] || host_missing "Rust's standard library for $host_processor"
 }
 
-# The folder of the Rattle toolchain, the part of it that was compiled for this machine, and its clang.
+# The folder of the Rattle toolchain, where its compilers stand in it, and its clang.
 host_toolchain() {
-    host_kit=${RATTLE_HOME:-$(dirname "$(dirname "$(readlink -f "$(command -v rt)")")")}
-    host_tools=on/$host_machine/toolchain
+    host_kit=$(dirname "$(dirname "$(readlink -f "$(command -v rt)")")")
+    host_tools=toolchain
     host_clang=$host_kit/$host_tools/bin/clang
 }
 
-# Builds the library, unless no file that it is made from is newer than it.
+# Builds the library, unless no file that it is made from is newer than it. What the toolchain keeps in crates/*/out is none of these.
 host_library() {
     case $host_processor in
-        x86-64) host_from= host_build="rt staticlib fstf" ;;
-        arm) host_from="arm include/fstf.h" host_build=arm/build ;;
+        x86-64) host_from=staticlib host_build=./staticlib ;;
+        arm) host_from="staticlib arm include/fstf.h" host_build=arm/build ;;
     esac
-    if [ -e "$host_archive" ] && [ -z "$(find crates crates.txt $host_from -newer "$host_archive" | head -1)" ]; then
+    if [ -e "$host_archive" ] &&
+        [ -z "$(find crates/*/src crates/*/specs crates/*/proofs crates.txt $host_from -newer "$host_archive" | head -1)" ]; then
         return
     fi
     # not host_needs: what runs programs is not needed to build
-    command -v rt >/dev/null 2>&1 || host_missing rt
+    if ! command -v rt >/dev/null 2>&1; then
+        [ "$host_machine" = x86_64 ] || host_advice="it runs on x86-64: there $host_build makes $host_archive"
+        host_missing rt
+    fi
     $host_build
 }
 

@@ -1,7 +1,7 @@
 """Changes single operators, numbers and truth values of the proved code and asks the prover what it makes of each change.
 
     python3 tests/operators.py [CRATE ...]           each change, in these crates or in all
-    python3 tests/operators.py --edits [CRATE ...]   only the changes that stand as edits in must-fail/operators
+    python3 tests/operators.py --edits [CRATE ...]   only the changes that stand as edits in crates/CRATE/operators
 
 It works on copies in target/operators, one for each processor, and needs `rt` only. In each round one change is made in every function of a crate, and what counts is what is
 said of that function's own proof; where nothing is, the change is tried alone. A change can
@@ -9,9 +9,11 @@ said of that function's own proof; where nothing is, the change is tried alone. 
   - fail by shape: only the text of the proof does not fit, as where a sum became a difference, or the code does not compile. That says nothing of the
     contract: the change may even answer the same;
   - pass.
+A proof file names its goals by the code, as `returns-then-since-gt-LONGEST_SPAN`, so that a changed operator can leave an answer without its goal. Such a
+change is tried once more, alone, with that answer under the name of a goal that is now open.
 The last two are printed, and a line for each crate counts. docs/ACCEPTANCE.md says what was found.
 
-The edits of must-fail/operators have the form of the gate's, and docs/CALLS.md names them beside those. The gate would prove a whole crate again for each;
+The edits of crates/CRATE/operators have the form of the gate's, and docs/CALLS.md names them beside those. The gate would prove a whole crate again for each;
 here a round serves many, and an edit outside the functions, of a definition say, is tried alone. With --edits the status is 1 where one does not fail at a
 fact.
 """
@@ -33,7 +35,7 @@ CODE = [
     for path in sorted((ROOT / "crates").glob("*/src/lib.rt"))
     if re.search(r"\bfn \w+", path.read_text())
 ]
-WITH_EDITS = sorted({path.parts[-4] for path in (ROOT / "crates").glob("*/must-fail/operators/*.edit")})
+WITH_EDITS = sorted({path.parts[-3] for path in (ROOT / "crates").glob("*/operators/*.edit")})
 
 CHANGES = [
     (" <= ", [" < ", " == "]),
@@ -61,6 +63,11 @@ WORDS = {"true": "false", "false": "true"}
 
 FACT, SHAPE, PASSED = "failed at a fact", "failed by shape", "passed"
 
+# What the prover says where it looked for a proof and found none; and where a proof file names what is not there any more.
+SOUGHT = r"`(?:search|omega|grind|simp)`"
+OPEN = re.compile(r"it is not proved that|of a `search` in the proof that rattle made|`search` did not prove")
+NAMES = re.compile(r"has no field|is not in scope|has no `|exports no such name|was not admitted")
+
 
 def bodies(lines):
     """Each function's name, and its lines between the braces. `rt fmt` puts both braces at the function's own indent."""
@@ -79,7 +86,37 @@ def bodies(lines):
 
 
 def opens(line, indent):
-    return line == indent + "{" or (line.startswith(indent) and line.endswith(" {") and "⌜" not in line)
+    is_clause = line.lstrip().startswith(("requires", "ensures"))
+    return line == indent + "{" or (line.startswith(indent) and line.endswith(" {") and not is_clause)
+
+
+def checked(crate):
+    """What the prover says of a crate of this process's copy, and whether all is proved."""
+    run = subprocess.run(["rt", "check", "--jobs", "1"], cwd=COPY / "crates" / crate, capture_output=True, text=True)
+    return run.stdout + run.stderr, run.returncode == 0
+
+
+def told(said):
+    """By each function, what is said of it: its verdict, and the notes on it, which stand above."""
+    found, notes = {}, []
+    for line in said.splitlines():
+        verdict = re.match(r"(?:fn|struct|enum) [\w:]*?(\w+): (.*)", line)
+        if verdict:
+            found[verdict[1]] = [verdict[2], *notes]
+            notes = []
+        elif line.startswith("note: src/") or "in the proof that rattle made" in line:
+            notes.append(line)
+    return found
+
+
+def errors_of(function, said):
+    """The errors in the files of a function's proof: the file, and what is said."""
+    return re.findall(r"^\./(proofs/(?:[\w+]+/)*" + function + r"/\w+\.antt)(?::\d+:\d+)?: error: (.*)", said, re.M)
+
+
+def without(answers, name):
+    """A page of answers without one of them, which ends at an empty line or with the page."""
+    return re.sub(r"(?ms)^(?:pub )?" + re.escape(name) + r" :(?= ).*?(?:^\n|\Z)", "", answers)
 
 
 def changes(line):
@@ -107,27 +144,67 @@ class Crate:
             for function, body in bodies(self.lines)
         }
 
-    def ask(self, changed):
-        """What the prover says of the crate with these lines changed, and whether all is proved."""
+    def ask(self, changed, answers=None):
+        """What the prover says of the crate with these lines changed, and with this page of answers where one is given, and whether all is proved."""
         lines = list(self.lines)
         for number, new in changed:
             lines[number] = new
-        self.page.write_text("\n".join(lines))
-        run = subprocess.run(["rt", "dev", self.name], cwd=COPY, capture_output=True, text=True)
-        self.page.write_text("\n".join(self.lines))
-        return run.stdout + run.stderr, run.returncode == 0
+        pages = {self.page: "\n".join(lines), **(answers or {})}
+        before = {page: page.read_text() for page in pages}
+        for page, text in pages.items():
+            page.write_text(text)
+        said = checked(self.name)
+        for page, text in before.items():
+            page.write_text(text)
+        return said
 
     def kind(self, function, said):
-        """FACT, SHAPE or PASSED, by what is said of the function when it and others are changed."""
-        verdict = dict(re.findall(r"^fn [\w:]*?(\w+): (.*)", said, re.M)).get(function, "")
+        """FACT, SHAPE or PASSED, by what is said of the function when it and others are changed; nothing where nothing is said of its own proof."""
+        verdict, *notes = told(said).get(function, [""])
         if verdict == "proved":
             return PASSED
-        errors = re.findall(r"/proofs/(?:\w+/)?" + function + r"/Proof\.antt:\d+:\d+: error: (?!.*was not admitted)(.*)", said)
-        if any("`search`" in error or "`omega`" in error for error in errors) or "`search` does not close" in verdict:
+        errors = [error for _, error in errors_of(function, said)]
+        if any(re.search(SOUGHT, error) and not NAMES.search(error) for error in errors):
             return FACT
         if errors:
             return SHAPE
+        if any(OPEN.search(word) and not NAMES.search(word) for word in (verdict, *notes)):
+            return FACT
         return None
+
+    def named_anew(self, function, change, said):
+        """The kind of a change that left answers without their goals, with these answers given for the goals that are open now; nothing where no answer was."""
+        stale = [(file, name) for file, error in errors_of(function, said) for name in re.findall(r"^`(\S+)`: `goal\.\1`.* has no `", error)]
+        if not stale:
+            return None
+        page = COPY / "crates" / self.name / stale[0][0]
+        answers = page.read_text()
+        now_open = dict.fromkeys(re.findall(r"`([\w-]+)`", " ".join(self.open_of(function, said))))
+        goals = [goal for goal in now_open if f"pub {goal} :" not in answers]
+        for _, name in stale:
+            if goals:
+                answers = re.sub(r"(?<![\w-])" + re.escape(name) + r"(?![\w-])", goals.pop(0), answers)
+            else:
+                answers = without(answers, name)
+        alone, proved = self.ask([change], {page: answers})
+        return PASSED if proved else self.kind(function, alone)
+
+    def open_of(self, function, said):
+        """What the prover names as goals of a function that are open."""
+        verdict, *notes = told(said).get(function, [""])
+        named = [re.search(r"\(`[\w-]+`\)", note) for note in notes]
+        return [found[0] for found in named if found] + re.findall(r"`search` did not prove (.*?)(?:;|$)", verdict)
+
+    def found(self, function, change, said):
+        """The kind of one change, by a round in which it was made with others."""
+        kind = self.kind(function, said)
+        if kind is None:
+            # nothing is said of its own proof: it calls another that is changed, or the code does not compile
+            said, proved = self.ask([change])
+            kind = PASSED if proved else self.kind(function, said)
+        if kind == SHAPE:
+            kind = self.named_anew(function, change, said)
+        return kind or SHAPE
 
     def tried(self):
         """Prints each change that passes or fails by shape, and counts the kinds."""
@@ -136,20 +213,15 @@ class Crate:
             made = {function: own[turn] for function, own in self.changes.items() if turn < len(own)}
             said, _ = self.ask(made.values())
             for function, change in made.items():
-                kind = self.kind(function, said)
-                if kind is None:
-                    # nothing is said of its own proof: it calls another that is changed, or the code does not compile
-                    alone, proved = self.ask([change])
-                    kind = PASSED if proved else self.kind(function, alone) or SHAPE
+                kind = self.found(function, change, said)
                 counts[kind] += 1
                 if kind != FACT:
                     number, new = change
                     print(f"{kind}: {self.name}::{function}: {self.lines[number].strip()} → {new.strip()}", flush=True)
         return counts
 
-
     def tried_edits(self):
-        """As `tried`, for the edits of must-fail/operators."""
+        """As `tried`, for the edits of crates/CRATE/operators."""
         counts = dict.fromkeys((FACT, SHAPE, PASSED), 0)
         inside, alone = {}, []
         for edit in edits_of(self.name):
@@ -162,11 +234,7 @@ class Crate:
             made = {function: own[turn] for function, own in inside.items() if turn < len(own)}
             said, _ = self.ask([change for _, change in made.values()])
             for function, (edit, change) in made.items():
-                kind = self.kind(function, said)
-                if kind is None:
-                    own, proved = self.ask([change])
-                    kind = PASSED if proved else self.kind(function, own) or SHAPE
-                self.count(counts, kind, edit)
+                self.count(counts, self.found(function, change, said), edit)
         for edit in alone:
             self.count(counts, self.ask_page(edit), edit)
         return counts
@@ -191,12 +259,13 @@ class Crate:
         page = COPY / "crates" / self.name / edit.page
         text = page.read_text()
         page.write_text(text.replace(edit.old, edit.new))
-        run = subprocess.run(["rt", "dev", self.name], cwd=COPY, capture_output=True, text=True)
+        said, proved = checked(self.name)
         page.write_text(text)
-        if run.returncode == 0:
+        if proved:
             return PASSED
-        at_fact = r"/proofs/\S+\.antt:\d+:\d+: error|of a `search` in the proof that rattle made"
-        return FACT if re.search(at_fact, run.stdout + run.stderr) else SHAPE
+        errors = re.findall(r"^\./proofs/\S+\.antt:\d+:\d+: error: .*", said, re.M)
+        at_fact = any(not NAMES.search(error) for error in errors) or any(OPEN.search(" ".join(words)) for words in told(said).values())
+        return FACT if at_fact else SHAPE
 
 
 Edit = collections.namedtuple("Edit", "label page old new")
@@ -204,7 +273,7 @@ Edit = collections.namedtuple("Edit", "label page old new")
 
 def edits_of(name):
     found = []
-    for path in sorted((ROOT / "crates" / name / "must-fail" / "operators").glob("*.edit")):
+    for path in sorted((ROOT / "crates" / name / "operators").glob("*.edit")):
         says = dict(line.split(": ", 1) for line in path.read_text().splitlines() if re.match(r"(file|old|new): ", line))
         edit = Edit(path.stem, says["file"], says["old"], says["new"])
         if (ROOT / "crates" / name / edit.page).read_text().count(edit.old) != 1:
@@ -214,13 +283,12 @@ def edits_of(name):
 
 
 def copied():
-    """Makes this process its copy of the crates, with what is proved already."""
+    """Makes this process its copy of the crates. Its checks begin with what `rt check` kept of the same crates elsewhere on this machine."""
     global COPY
     COPY = COPIES / str(os.getpid())
     COPY.mkdir(parents=True)
     shutil.copy(ROOT / "crates.txt", COPY)
-    shutil.copytree(ROOT / "crates", COPY / "crates")
-    shutil.copytree(ROOT / "target", COPY / "target", ignore=shutil.ignore_patterns("operators"))
+    shutil.copytree(ROOT / "crates", COPY / "crates", ignore=shutil.ignore_patterns("out", "data"))
 
 
 def tried_crate(name, only_edits):
@@ -236,7 +304,7 @@ def main():
     named = [word for word in sys.argv[1:] if word != "--edits"]
     shutil.rmtree(COPIES, ignore_errors=True)
     (ROOT / "target").mkdir(exist_ok=True)
-    if subprocess.run(["rt", "check"], cwd=ROOT, stdout=subprocess.DEVNULL).returncode != 0:
+    if subprocess.run(["rt", "all", "check"], cwd=ROOT, stdout=subprocess.DEVNULL).returncode != 0:
         sys.exit("the code as it is is not proved")
     with multiprocessing.Pool(initializer=copied) as pool:
         crates = [(name, only_edits) for name in named or (WITH_EDITS if only_edits else CODE)]

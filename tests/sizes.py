@@ -1,8 +1,9 @@
-"""Prints a table of the crates: lines of code, of definitions and of proofs, public calls, must-fail edits and, from a log of `rt prove`, seconds.
+"""Prints a table of the crates: lines of code, of definitions and of proofs, public calls, must-fail edits and seconds.
 
-    rt prove > prove.log 2>&1; python3 tests/sizes.py prove.log
+    python3 tests/sizes.py [SECONDS]
 
-Lines are those that hold something: blank lines are not counted, comments are.
+SECONDS is a file with a line `NAME N` for each crate whose check was timed; without it the last column is empty. Lines are those that hold something: blank
+lines are not counted, comments are.
 """
 
 import pathlib
@@ -16,14 +17,14 @@ def lines(folder, ending):
     return sum(1 for page in folder.rglob("*" + ending) for line in page.read_text().splitlines() if line.strip())
 
 
-def seconds(log):
-    """What `rt` says of each crate: `rt: NAME proved (N s)`."""
-    return dict(re.findall(r"^rt: (\w+) proved \((\d+) s\)", log, re.M))
+def seconds(timed):
+    """The seconds of each crate: `NAME N`."""
+    return dict(re.findall(r"^(\w+) (\d+)$", timed, re.M))
 
 
 def main():
     taken = seconds(pathlib.Path(sys.argv[1]).read_text()) if len(sys.argv) > 1 else {}
-    listed = re.findall(r"^(\w+):", (ROOT / "crates.txt").read_text(), re.M)
+    listed = re.findall(r"^(\w+)(?: [^:#\n]*)?:", (ROOT / "crates.txt").read_text(), re.M)
     totals = [0] * 5
     print("| Crate | Code | Definitions | Proofs | Public calls | Must-fail edits | Check, s |")
     print("|---|---:|---:|---:|---:|---:|---:|")

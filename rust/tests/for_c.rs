@@ -17,26 +17,26 @@ fn defined(name: &str) -> &'static str {
 fn places_and_limits_are_those_of_the_definitions() {
     let definitions = include_str!("../../crates/layout/specs/Recording.antt");
     let pairs = [
-        ("FSTF_COUNT_PLACE", "countPlace"),
-        ("FSTF_INDEX_PLACE", "indexPlace"),
-        ("FSTF_SYSTEM_PLACE", "systemPlace"),
-        ("FSTF_USER_PLACE", "userPlace"),
-        ("FSTF_HEADER_LENGTH", "headerLength"),
-        ("FSTF_MOST_SECTIONS", "mostSections"),
-        ("FSTF_LONGEST_CONFIGURATION", "longestConfiguration"),
-        ("FSTF_LONGEST_SECTION", "longestSection"),
-        ("FSTF_MOST_FRAMES", "mostFrames"),
-        ("FSTF_MOST_TAGS", "mostTags"),
-        ("FSTF_LARGEST_TABLE", "largestTable"),
+        ("FSTF_COUNT_PLACE", "count_place"),
+        ("FSTF_INDEX_PLACE", "index_place"),
+        ("FSTF_SYSTEM_PLACE", "system_place"),
+        ("FSTF_USER_PLACE", "user_place"),
+        ("FSTF_HEADER_LENGTH", "header_length"),
+        ("FSTF_MOST_SECTIONS", "most_sections"),
+        ("FSTF_LONGEST_CONFIGURATION", "longest_configuration"),
+        ("FSTF_LONGEST_SECTION", "longest_section"),
+        ("FSTF_MOST_FRAMES", "most_frames"),
+        ("FSTF_MOST_TAGS", "most_tags"),
+        ("FSTF_LARGEST_TABLE", "largest_table"),
     ];
     for (name, definition) in pairs {
         assert!(definitions.contains(&format!("\n{definition} = {}\n", constant(name))), "{name}");
     }
     let saving = include_str!("../../crates/layout/specs/Saving.antt");
-    assert!(saving.contains(&format!("\nmostChanges = {}\n", constant("FSTF_MOST_CHANGES"))));
-    assert!(definitions.contains("\nlongestSpan = 4294967295\n"));
+    assert!(saving.contains(&format!("\nmost_changes = {}\n", constant("FSTF_MOST_CHANGES"))));
+    assert!(definitions.contains("\nlongest_span = 4294967295\n"));
     assert!(defined("FSTF_LONGEST_SPAN").starts_with("UINT64_C(4294967295) "));
-    assert!(definitions.contains("\nlargestUserOffset = 2 ^ 40 - largestTable\n"));
+    assert!(definitions.contains("\nlargest_user_offset = 2 ^ 40 - largest_table\n"));
     assert!(defined("FSTF_LARGEST_FILE").starts_with("(UINT64_C(1) << 40) "));
     assert_eq!((constant("FSTF_LONGEST_NAME"), constant("FSTF_LONGEST_VALUE")), (255, 255));
     // a count; for each change a name, and twice a kind and a value, each string behind its length

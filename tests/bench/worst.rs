@@ -22,9 +22,9 @@ const NAMES: usize = TAGS + 64;
 const DEFINED: &str = "crates/marks/specs/Marks.antt";
 const ATTACKED: [&str; 9] = [
     "mix m w = (m * 11400715 + w) % 2 ^ 40",
-    "mixWords (suc k) m s = mixWords k (mix m (numberOf (take 4 s))) (drop 4 s)",
-    "mixBytes m (b ∷ bs) = mixBytes (mix m b) bs",
-    "markFor s = mix (mix (cond (ltb (length s) 4) (mixBytes 0 s) (mix (mixWords (length s / 4) 0 s) (numberOf (drop (length s - 4) s))))",
+    "mix_words (suc k) m s = mix_words k (mix m (number_of (take 4 s))) (drop 4 s)",
+    "mix_bytes m (b ∷ bs) = mix_bytes (mix m b) bs",
+    "mark_for s = mix (mix (cond (ltb (length s) 4) (mix_bytes 0 s) (mix (mix_words (length s / 4) 0 s) (number_of (drop (length s - 4) s))))",
     "    (length s % 256)) 0",
     "place m = m / 2 ^ 31",
     "first m = m / 2 ^ 25 % 64",

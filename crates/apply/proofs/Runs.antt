@@ -56,13 +56,13 @@ module _ (t s : List ℕ) (k : ℕ) where
 
   module _ (w : (i : ℕ) → Fits w8 (get_or t i 0)) (y : (i : ℕ) → Fits w8 (get_or s i 0)) where
     -- one tag, by its piece
-    kept_row : (place n m : ℕ) (name : List ℕ) (f v c e : ℕ) (p : Piece) → row_name row.Tag (drop place t) ≡ good name m
+    kept_row_lem : (place n m : ℕ) (name : List ℕ) (f v c e : ℕ) (p : Piece) → row_name row.Tag (drop place t) ≡ good name m
         → p ≡ piece_at side.Kept t place s (change_place s k name) → p ≡ piece.Whole f v c e
         → (e ≡ place + m) × (e ≤ length t) × (place < e)
         × (kept_from t place (suc n) s k ≡ row_adds side.Kept t s place (change_place s k name) ++ kept_from t (place + m) n s k)
         × Makes t place s f v c (row_adds side.Kept t s place (change_place s k name))
     unfolding kept_from named_in row_of walked_in
-    kept_row place n m name f v c e p h a b =
+    kept_row_lem place n m name f v c e p h a b =
         piece-row t s place (change_place s k name) f v c e p a b (λ len g.
         let o : row_place.Whole (length name) (place + m) ≡ row_place.Whole len e = rw h at g in
         let q : place + m ≡ e = cc in
@@ -81,7 +81,7 @@ module _ (t s : List ℕ) (k : ℕ) where
     unfolding change_place place_found piece_at kept_at kept_row row_of piece_bytes
     ran-more place n m name end left h e r =
         let o : change_place s k name ≡ 0 = ap place_found e in
-        let (a, b, c, d, g) = kept_row place n m name (place + m - place) 0 0 (place + m) (piece.Whole (place + m - place) 0 0 (place + m)) h
+        let (a, b, c, d, g) = kept_row_lem place n m name (place + m - place) 0 0 (place + m) (piece.Whole (place + m - place) 0 0 (place + m)) h
         (rw (o, h)) refl in
         let f = r.forward in
         let l : tags_in (place + m - place + 0) ≡ 1 = sym (tags-one _ (omega arith)) in
@@ -279,7 +279,7 @@ module _ (t : List ℕ) (place passed : ℕ) (walk : Walk) (s list : List ℕ) (
             × (kept_from t stops.tag (suc stops.left) s walk.changes ≡ row_adds side.Kept t s stops.tag
             (change_place s walk.changes stops.name) ++ kept_from t (stops.tag + stops.size) stops.left s walk.changes)
             × Makes t stops.tag s f v c (row_adds side.Kept t s stops.tag (change_place s walk.changes stops.name))
-        row-parts = kept_row t s walk.changes w y stops.tag stops.left stops.size stops.name f v c e p stops.stands told b
+        row-parts = kept_row_lem t s walk.changes w y stops.tag stops.left stops.size stops.name f v c e p stops.stands told b
 
         abbrev row-tags : List Tag
         row-tags = row_adds side.Kept t s stops.tag (change_place s walk.changes stops.name)

@@ -1,4 +1,6 @@
 // The new user table: what a sheet keeps of the old one, and what it adds.
+#![tactic(auto)]
+
 ghost use Rattle.std.specs.Prelude.{◌≡◌, ◌+◌, ◌*◌, ◌<◌, ◌≤◌, length, take};
 ghost use mathlib.Core.List.{◌++◌, flat_map};
 ghost use Rattle.std.proofs.lemmas.List.Edits.{sets};

@@ -4,23 +4,22 @@ use Prim.Native.Nat.{ℕ, zero, suc, ◌+◌, ◌*◌, ◌-◌, ◌%◌, ◌^◌
 use native.Mathlib.Omega.{arith}
 use native.Mathlib.Nat.{add-zero}
 use mathlib.Core.Path.{◌≡◌, refl, ap, sym, ◌∙◌, subst}
-use mathlib.Core.Bool.{Bool, true, false, ◌&&◌, ◌||◌, cond}
+use mathlib.Core.Bool.{Bool, true, false, ◌&&◌, cond}
 use mathlib.Core.Logic.{◌⊎◌, inl, inr}
 use mathlib.Core.List.{List, [], ◌∷◌, ◌++◌}
 use lib.ListN.{length, take, drop, replicate, get_or, length-drop}
-use lib.Seq.{drop-drop, take-add, length-take-le, get_or-drop}
+use lib.Seq.{drop-drop, take-add, get_or-drop}
 use lib.Dec.{leb, eqb}
-use lib.Pow.{are_bytes}
 use borrow.Author.Rules.{rules}
 use borrow.Author.Tests.{leb-true, eqb-true, eq-eqb, ne_eqb}
 use mir.Syntax.{w8, w64}
 use mir.Val.{Fits}
-use Rattle.number.specs.Number.{number_of, bytes_of, has, read_at}
+use Rattle.number.specs.Number.{bytes_of, has, read_at}
 use Rattle.number.proofs.Bytes.{both_true, slice-bytes, part-long}
 use Rattle.number.proofs.Bools.{and-false}
-use Rattle.number.proofs.Laws.{read_is, read_short, read-far}
+use Rattle.number.proofs.Laws.{read_is}
 use Rattle.layout.specs.Recording.{same}
-use Rattle.layout.proofs.Lists.{same_refl, same_true, decided, le-or-lt, bytes_drop}
+use Rattle.layout.proofs.Lists.{same_true, decided, le-or-lt, bytes_drop}
 use Rattle.parts.specs.Parts.{same_part}
 use Rattle.parts.proofs.Laws.{there, not_there}
 use Rattle.parts.proofs.Same.{same-append, same_number}

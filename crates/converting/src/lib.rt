@@ -1,4 +1,6 @@
 // The converter of sheets from before "nobody looked" was withdrawn: "writes it with kind 0 or 1 filled in from that file, all other changes as they were".
+#![tactic(auto)]
+
 ghost use Rattle.std.specs.Prelude.{◌≡◌, ◌+◌, ◌-◌, ◌≤◌, length};
 ghost use Rattle.layout.specs.Saving.{entry_part_bytes};
 ghost use Rattle.sheet.specs.Rows.{tag_entry};

@@ -1,4 +1,6 @@
 // A cursor over a table in file form: the table is looked at once, and each tag is read behind the one before.
+#![tactic(auto)]
+
 ghost use Rattle.std.specs.Prelude.{◌+◌, ◌≡◌};
 ghost use Rattle.layout.specs.Cursor.{stands_at, first_tag};
 ghost use Rattle.cursor.specs.Cursors.{cursor_as, next_as};

@@ -1,5 +1,7 @@
 // The C face of opening: the answer is a flat struct of numbers, with `refused` and the refusal's `place` ahead. The crate `fstf` exports the call, and
 // include/fstf.h declares it.
+#![tactic(auto)]
+
 ghost use Rattle.std.specs.Prelude.{◌≡◌};
 ghost use Rattle.opening.specs.Opened.{open_of};
 ghost use Rattle.face_opening.specs.Face.{opened_not, opened_flat};

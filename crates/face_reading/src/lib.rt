@@ -1,5 +1,7 @@
 // The C face of reading: answers are flat structs of numbers, each with `refused` and the refusal's `place` ahead. The crate `fstf` exports the calls,
 // and include/fstf.h declares them.
+#![tactic(auto)]
+
 ghost use Rattle.std.specs.Prelude.{◌≡◌};
 ghost use Rattle.reading.specs.Read.{find_of, frame_read_of};
 ghost use Rattle.face_reading.specs.Face.{held_asked, frame_not, frame_flat, frame_held, part_not, part_flat, part_held, item_asked};

@@ -1,5 +1,7 @@
 // The C face of recording: a flat state goes in and out, and answers are flat structs of numbers, with `refused` and the refusal's `place` ahead. The
 // crate `fstf` exports the calls, and include/fstf.h declares them.
+#![tactic(auto)]
+
 ghost use Rattle.std.specs.Prelude.{◌≡◌};
 ghost use Rattle.recorder.specs.Recorded.{fresh_recorder, begin_of, add_of, close_of};
 ghost use Rattle.face_recording.specs.Face.{closing_at, stage_asked, recorder_asked, stage_number, piece_number, recorder_flat, taken_not, piece_flat, taken_flat, recorded, recorded_flat};

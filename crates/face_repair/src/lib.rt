@@ -1,5 +1,7 @@
 // The C face of repair: the answer is a flat struct of numbers, with `refused` and the refusal's `place` ahead. The crate `fstf` exports the call, and
 // include/fstf.h declares it.
+#![tactic(auto)]
+
 ghost use Rattle.std.specs.Prelude.{◌≡◌};
 ghost use Rattle.repair.specs.Repaired.{repair_of};
 ghost use Rattle.face_repair.specs.Face.{repaired_not, repaired_flat, repaired, made_flat};

@@ -1,5 +1,7 @@
 // The C face of look, commit, the converter and tags: answers are flat structs of numbers, each with `refused` and the refusal's `place` ahead. The crate `fstf` exports
 // the calls, and include/fstf.h declares them.
+#![tactic(auto)]
+
 ghost use Rattle.std.specs.Prelude.{◌≡◌};
 ghost use Rattle.layout.specs.Browser.{browse, tag_named};
 ghost use Rattle.layout.specs.Cursor.{first_tag};

@@ -1,4 +1,6 @@
 // The C face: the calls of the face crates under the prefix `fstf_`. `rt staticlib fstf` makes the library, and include/fstf.h declares it.
+#![tactic(auto)]
+
 ghost use Rattle.std.specs.Prelude.{◌≡◌};
 ghost use Rattle.opening.specs.Opened.{open_of};
 ghost use Rattle.reading.specs.Read.{find_of, frame_read_of};

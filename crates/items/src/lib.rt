@@ -1,4 +1,6 @@
 // Frames and items of a file by the numbers of its opening: where they stand. Any other numbers are taken too; what they lead to lies in the file.
+#![tactic(auto)]
+
 ghost use Rattle.std.specs.Prelude.{◌≡◌};
 ghost use Rattle.items.specs.Items.{held_name, next_at, held_configuration, name_of, value_of, frame_place, held_section, held_found, held_frame};
 

@@ -9,7 +9,7 @@ use mathlib.Core.List.{List, [], ◌∷◌, ◌++◌, append-nil}
 use lib.Dec.{ltb, eqb-suc-zero}
 use borrow.Author.Tests.{not-false, ltb-false, le-ltb, eq-eqb}
 use Rattle.layout.specs.Recording.{most_sections, most_frames, largest_table, within, follows, index_length}
-use Rattle.layout.specs.Recorder.{State, Piece, piece, Step, answer, piece_number, too_long, broken_state}
+use Rattle.layout.specs.Recorder.{State, Piece, Step, answer, piece_number, too_long, broken_state}
 use Rattle.layout.specs.Storage.{Session, piece_of, passed_on, accepted}
 use Rattle.layout.proofs.Lists.{or-false, not-or}
 

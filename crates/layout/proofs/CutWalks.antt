@@ -13,7 +13,7 @@ use borrow.Author.Tests.{le-leb, lt-leb, lt-ltb, ne_eqb}
 use Rattle.number.specs.Number.{bytes_of, number_of}
 use Rattle.number.proofs.Bytes.{both_true}
 use Rattle.layout.specs.Recording.{Frame, frame_bytes, frame_mark, index_bytes, entries_bytes, first_time, most_frames, every, legal_frame}
-use Rattle.layout.specs.Reading.{Parsed, bad, good, is_bad, Reader, onward, behind, give, ◌then◌, only, placed, times, number, block, string, tag_name, tag_value, number_of_tags, tag, table, sized, frame, walk}
+use Rattle.layout.specs.Reading.{Parsed, bad, good, is_bad, Reader, onward, give, ◌then◌, only, placed, times, number, block, string, tag_name, tag_value, number_of_tags, tag, table, sized, frame, walk}
 use Rattle.layout.proofs.Lists.{cond-true, cond-false, le-or-lt, every_take}
 use Rattle.layout.proofs.Readers.{onward-good, onward-takes, cond-good, then-good, then-takes, number_is, number-good, block-is, block-good, times-suc-good, times-suc-takes, placed-good, placed-takes}
 use Rattle.layout.proofs.Exact.{number-exact, frame-exact}

@@ -1,18 +1,18 @@
 -- "the first byte that breaks its rule": what stands ahead of the place at which a short string is refused is how some legal string begins.
 -- Assumes nothing.
-use Prim.Native.Nat.{ℕ, zero, suc, ◌+◌, ◌-◌, ◌<◌, ◌≤◌}
+use Prim.Native.Nat.{ℕ, zero, suc, ◌-◌, ◌≤◌}
 use native.Mathlib.Omega.{arith}
-use mathlib.Core.Path.{◌≡◌, refl, ap, sym, ◌∙◌}
+use mathlib.Core.Path.{◌≡◌, refl, sym, ◌∙◌}
 use mathlib.Core.Bool.{Bool, true, false, ◌&&◌, cond}
 use mathlib.Core.List.{List, [], ◌∷◌, ◌++◌}
-use lib.ListN.{length, take, drop, replicate, length-append, length-take, length-replicate}
-use lib.Seq.{length-take-le, take-length, take-append-le, take-take}
-use lib.Dec.{leb, ltb}
+use lib.ListN.{length, take, replicate, length-append, length-take, length-replicate}
+use lib.Seq.{length-take-le, take-append-le, take-take}
+use lib.Dec.{ltb}
 use lib.Pow.{are_bytes}
 use borrow.Author.Tests.{le-leb, ltb-true, ltb-false}
 use Rattle.number.proofs.Bytes.{both_true}
 use Rattle.layout.specs.Recording.{short_string, within, every, is_name_byte, is_tag_byte, legal_section_name, legal_tag_name, legal_tag_value}
-use Rattle.layout.specs.Reading.{Parsed, bad, good, Reader, fault_at, placed, only, string, outside, string_fault, section_name, tag_name, tag_value}
+use Rattle.layout.specs.Reading.{Parsed, bad, good, fault_at, placed, only, string, outside, string_fault, section_name, tag_name, tag_value}
 use Rattle.layout.proofs.Lists.{every_append}
 
 outside-few : (class : ℕ → Bool) (s : List ℕ) → outside class s ≤ length s

@@ -1,6 +1,6 @@
 -- Laws of lists and tests that every part of the theory uses.
 -- Assumes nothing.
-use Prim.Native.Nat.{ℕ, zero, suc, ◌+◌, ◌≤◌, ◌<◌, min}
+use Prim.Native.Nat.{ℕ, zero, suc, ◌≤◌, ◌<◌, min}
 use native.Mathlib.Omega.{arith}
 use native.Mathlib.Nat.{zero-min, suc-min-suc}
 use mathlib.Core.Path.{◌≡◌, refl, ap, sym, ◌∙◌}

@@ -10,7 +10,7 @@ use lib.Pow.{are_bytes}
 use borrow.Author.Tests.{leb-true, eqb-true, eqb-false}
 use Rattle.number.proofs.Bytes.{both_true}
 use Rattle.layout.specs.Recording.{within}
-use Rattle.layout.specs.Reading.{◌then◌, give, exactly}
+use Rattle.layout.specs.Reading.{◌then◌, give}
 use Rattle.layout.specs.Saving.{Entry, absent, holds, entry_of, kind, entry_part_bytes, sheet_bytes_with}
 use Rattle.layout.specs.OldSheets.{OldSeen, saw, nobody_looked, OldChange, old_seen_of, old_seen_part, old_sheet, old_changes_of, bad_old_sheet}
 use Rattle.layout.proofs.Readers.{Reads, reads-alike, give-reads, number-reads, only-reads, then-reads}

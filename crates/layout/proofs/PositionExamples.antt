@@ -2,7 +2,7 @@
 -- Assumes nothing.
 use Prim.Native.Nat.{ℕ}
 use mathlib.Core.List.{List, [], ◌∷◌, ◌++◌, flat_map}
-use lib.ListN.{length, take, replicate, set}
+use lib.ListN.{take, replicate, set}
 use lib.Seq.{sets}
 use lib.Dec.{T}
 use Rattle.number.specs.Number.{bytes_of, number_of}

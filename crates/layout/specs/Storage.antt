@@ -1,5 +1,5 @@
 -- A recording on storage that keeps the order of writes: its calls chained, its pieces stored byte by byte, and a cut after any of those bytes.
-use Rattle.std.specs.Prelude.{ℕ, zero, suc, ◌+◌, ◌^◌, Bool, true, ◌&&◌, cond, List, [], ◌∷◌, ◌++◌, take, ltb, eqb}
+use Rattle.std.specs.Prelude.{ℕ, zero, suc, ◌^◌, Bool, true, ◌&&◌, cond, List, [], ◌∷◌, ◌++◌, take, ltb, eqb}
 use Rattle.std.proofs.Math.Pow.{are_bytes}
 use Rattle.layout.specs.Recording.{Recording}
 use Rattle.layout.specs.Reading.{exactly, times, sized, table, value_or}

@@ -1,4 +1,6 @@
 // The look: whether the seen entries of a sheet agree with a table.
+#![tactic(auto)]
+
 ghost use Rattle.std.specs.Prelude.{◌≡◌, ◌+◌, ◌<◌, length, take, drop};
 ghost use Rattle.layout.specs.Saving.{same_entry};
 ghost use Rattle.sheet.specs.Rows.{change_with_name, tag_entry};

@@ -15,7 +15,7 @@ use borrow.Author.Rules.{rules}
 use borrow.Author.Tests.{leb-true, ltb-true, eqb-true, le-leb, lt-leb, lt-ltb, le-ltb, not-true, not-false}
 use mir.Syntax.{w64}
 use mir.Val.{Fits}
-use Rattle.number.specs.Number.{has, number_of}
+use Rattle.number.specs.Number.{number_of}
 use Rattle.number.proofs.Bytes.{both_true, and-true, part-long}
 use Rattle.marks.specs.Marks.{mix, mix_words, mix_bytes, mark_for, mark_of, place, first, second, third, has_bit, takes, with_bits, with_mark, has_bits, is_marked}
 

@@ -1,5 +1,7 @@
 // Opening any bytes as a file: the lines of refusal 1 to 7 in their order, and the numbers of a recording that opens.
 // It looks at each frame's head and sizes, at its index entry and at the tables, and at no pixel.
+#![tactic(auto)]
+
 ghost use Rattle.std.specs.Prelude.{◌≡◌, ◌+◌, ◌*◌, ◌^◌, ◌<◌, ◌≤◌, length};
 ghost use Rattle.opening.specs.Opened.{not_closed_by, other_entry, noted_length, noted_frame, other_frames, bad_index_by, open_of, open_refusal};
 

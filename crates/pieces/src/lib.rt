@@ -1,4 +1,6 @@
 // What a tag of the table, or a change of the sheet, adds to the new table.
+#![tactic(auto)]
+
 ghost use Rattle.std.specs.Prelude.{◌≡◌};
 ghost use Rattle.pieces.specs.Pieces.{changed_value, with_value, whole_at, changed_at, new_at, named_at, piece_at, Short};
 

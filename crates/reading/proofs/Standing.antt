@@ -111,6 +111,6 @@ entry-stands {f} {place} first at (x ∷ xs) zero h s =
 entry-stands {f} {place} first at (x ∷ xs) (suc i) h s =
     let e : at + length (frame_bytes x) + length (flat_map frame_bytes (take i xs)) ≡ at + length (frame_bytes x ++ flat_map frame_bytes (take i xs)) =
     rw length-append (omega arith) in
-    let u = entry-stands (first) (at + length (frame_bytes x)) xs i (omega arith)
+    let u = entry-stands {place = place + length (entry_bytes first x.time at (length (frame_bytes x)))} first (at + length (frame_bytes x)) xs i (omega arith)
     (stands-back (entry_bytes first x.time at (length (frame_bytes x))) (entries_bytes first (at + length (frame_bytes x)) xs) s) in
     stands_at_lem (place + 16 * suc i) (omega (arith, length-entry first x.time at (length (frame_bytes x)))) (rw e at u)

@@ -1,4 +1,6 @@
 // Reading items of any file: "Reading item i runs what opening runs, then 8". What is handed back is a part of the lent file, not a copy.
+#![tactic(auto)]
+
 ghost use Rattle.std.specs.Prelude.{◌≡◌};
 ghost use Rattle.layout.specs.Items.{item_part};
 ghost use Rattle.reading.specs.Read.{item_of, find_of, lies, part_of, refusal_of, refusal_in, frame_read_of};

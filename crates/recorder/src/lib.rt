@@ -1,4 +1,6 @@
 // Recording: the recorder's state is passed in by value and handed back by each call, with its stage inside.
+#![tactic(auto)]
+
 ghost use Rattle.std.specs.Prelude.{◌≡◌};
 ghost use Rattle.layout.specs.Opening.{first_of};
 ghost use Rattle.layout.specs.Recorder.{close_lines, first_after};

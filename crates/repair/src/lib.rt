@@ -1,5 +1,7 @@
 // Repair of a recording that was cut: its frames are walked, and the index and the empty user table that it lacks are written.
 // Nothing is written before all is accepted.
+#![tactic(auto)]
+
 ghost use Rattle.std.specs.Prelude.{◌≡◌, true, [], ◌+◌, ◌*◌, ◌^◌, ◌<◌, ◌≤◌, length};
 ghost use Rattle.std.proofs.lemmas.List.Edits.{sets};
 ghost use Rattle.number.specs.Number.{read_at};

@@ -1,4 +1,6 @@
 // Saving tags: to look at what a sheet's changes have seen, and to commit them.
+#![tactic(auto)]
+
 ghost use Rattle.std.specs.Prelude.{◌≡◌, length};
 ghost use Rattle.saving.specs.Answers.{asked_of, set_in, look_of, outcome, answer_of, committed_in, commit_of};
 ghost use Rattle.saving.specs.Begun.{Legal, Begun};

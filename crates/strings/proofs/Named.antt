@@ -15,7 +15,7 @@ use Rattle.strings.specs.Strings.{text_of}
 use Rattle.strings.specs.declared.Text.{Text}
 use Rattle.strings.specs.declared.Text.TheVariants as text
 use Rattle.parts.proofs.Taken.{only_parts}
-use Rattle.strings.proofs.Laws.{string-parts, part_length}
+use Rattle.strings.proofs.Laws.{string-parts}
 
 -- what p reads is a short string that keeps a rule
 pub record Keeps (ok : List ℕ → Bool) (p : Reader (List ℕ)) : Type 0 where

@@ -1,4 +1,3 @@
-use Prim.Native.Nat.{◌-◌}
 use Rattle.number.proofs.Laws.{laws}
 use Rattle.number.proofs.write.Goals as goal
 

@@ -1,4 +1,3 @@
-use Prim.Native.Nat.{◌-◌}
 use Rattle.parts.proofs.Laws.{laws}
 use Rattle.parts.proofs.copy.Goals as goal
 

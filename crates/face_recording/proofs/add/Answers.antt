@@ -1,0 +1,5 @@
+use Rattle.face_recording.proofs.Laws.{laws}
+use Rattle.face_recording.proofs.add.Goals as goal
+
+pub returns : goal.returns
+returns c = search laws depth 9 fits 4000

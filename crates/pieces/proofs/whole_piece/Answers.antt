@@ -1,0 +1,11 @@
+use Rattle.pieces.proofs.Pieces.{laws}
+use Rattle.pieces.proofs.whole_piece.Goals as goal
+
+pub returns-in_default : goal.returns-in_default
+returns-in_default c = search laws
+
+pub overflow_sub-result : goal.overflow_sub-result
+overflow_sub-result c = search laws
+
+pub returns : goal.returns
+returns c = search laws
