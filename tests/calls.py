@@ -46,9 +46,9 @@ def rows():
 
 
 def edits():
-    """The edits, by the crate and their name, of the gate and of tests/operators.py."""
+    """The edits, by the crate and their name."""
     crates = ROOT / "crates"
-    paths = [*crates.glob("*/must-fail/*.edit"), *crates.glob("*/operators/*.edit")]
+    paths = crates.glob("*/must-fail/*.edit")
     return {(path.relative_to(crates).parts[0], path.stem) for path in paths}
 
 

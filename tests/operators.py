@@ -1,7 +1,7 @@
 """Changes single operators, numbers and truth values of the proved code and asks the prover what it makes of each change.
 
     python3 tests/operators.py [CRATE ...]           each change, in these crates or in all
-    python3 tests/operators.py --edits [CRATE ...]   only the changes that stand as edits in crates/CRATE/operators
+    python3 tests/operators.py --edits [CRATE ...]   only the changes that stand as edits in crates/CRATE/must-fail
 
 It works on copies in target/operators, one for each processor, and needs `rt` only. In each round one change is made in every function of a crate, and what counts is what is
 said of that function's own proof; where nothing is, the change is tried alone. A change can
@@ -13,9 +13,8 @@ A proof file names its goals by the code, as `returns-then-since-gt-LONGEST_SPAN
 change is tried once more, alone, with that answer under the name of a goal that is now open.
 The last two are printed, and a line for each crate counts. docs/ACCEPTANCE.md says what was found.
 
-The edits of crates/CRATE/operators have the form of the gate's, and docs/CALLS.md names them beside those. The gate would prove a whole crate again for each;
-here a round serves many, and an edit outside the functions, of a definition say, is tried alone. With --edits the status is 1 where one does not fail at a
-fact.
+The edits of crates/CRATE/must-fail are the gate's, and docs/CALLS.md names them. The gate proves a whole crate again for each; here a round serves many, and
+an edit outside the functions, of a definition say, is tried alone. With --edits the status is 1 where one does not fail at a fact.
 """
 
 import collections
@@ -35,7 +34,7 @@ CODE = [
     for path in sorted((ROOT / "crates").glob("*/src/lib.rt"))
     if re.search(r"\bfn \w+", path.read_text())
 ]
-WITH_EDITS = sorted({path.parts[-3] for path in (ROOT / "crates").glob("*/operators/*.edit")})
+WITH_EDITS = sorted({path.parts[-3] for path in (ROOT / "crates").glob("*/must-fail/*.edit")})
 
 CHANGES = [
     (" <= ", [" < ", " == "]),
@@ -221,7 +220,7 @@ class Crate:
         return counts
 
     def tried_edits(self):
-        """As `tried`, for the edits of crates/CRATE/operators."""
+        """As `tried`, for the edits of crates/CRATE/must-fail."""
         counts = dict.fromkeys((FACT, SHAPE, PASSED), 0)
         inside, alone = {}, []
         for edit in edits_of(self.name):
@@ -273,7 +272,7 @@ Edit = collections.namedtuple("Edit", "label page old new")
 
 def edits_of(name):
     found = []
-    for path in sorted((ROOT / "crates" / name / "operators").glob("*.edit")):
+    for path in sorted((ROOT / "crates" / name / "must-fail").glob("*.edit")):
         says = dict(line.split(": ", 1) for line in path.read_text().splitlines() if re.match(r"(file|old|new): ", line))
         edit = Edit(path.stem, says["file"], says["old"], says["new"])
         if (ROOT / "crates" / name / edit.page).read_text().count(edit.old) != 1:

@@ -1,4 +1,4 @@
-// The C face: the calls of the face crates under the prefix `fstf_`. `rt staticlib fstf` makes the library, and include/fstf.h declares it.
+// The C face: the calls of the face crates under the prefix `fstf_`. `./staticlib` makes the library, and include/fstf.h declares it.
 #![tactic(auto)]
 
 ghost use Rattle.std.specs.Prelude.{◌≡◌};

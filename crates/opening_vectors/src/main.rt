@@ -155,11 +155,9 @@ fn one(rt: &(impl Alloc + Env + Files + Print), argument: usize) -> io::Result<(
 }
 
 fn main(rt: HostRuntime) -> io::Result<()> {
-    let mut argument = 1;
     let end = env::args(&rt)?.count();
-    while argument < end {
+    for argument in 1..end {
         one(&rt, argument)?;
-        argument += 1;
     }
     Ok(())
 }
