@@ -3,14 +3,14 @@
 use Prim.Native.Nat.{ℕ, zero, suc, ◌+◌, ◌-◌, ◌<◌, ◌≤◌}
 use native.Mathlib.Omega.{arith}
 use mathlib.Core.Path.{◌≡◌, refl, ap, sym, ◌∙◌}
-use mathlib.Core.Bool.{Bool, true, false, not, cond}
+use mathlib.Core.Bool.{Bool, true, false, not}
 use mathlib.Core.List.{List, []}
-use lib.ListN.{length, take, drop}
+use lib.ListN.{length, drop}
 use lib.Seq.{drop-drop}
 use lib.Dec.{leb, eqb}
 use borrow.Author.Rules.{rules}
 use borrow.Author.Tests.{le-leb, lt-leb, leb-true, eq-eqb, ne_eqb}
-use Rattle.number.specs.Number.{number_of, read_at}
+use Rattle.number.specs.Number.{read_at}
 use Rattle.number.proofs.Bytes.{both_true}
 use Rattle.layout.specs.Recording.{most_sections, within, among}
 use Rattle.layout.specs.Reading.{Parsed, bad, good, taken, ◌then◌, only, give, times, number, section_name, rows_fault, counted_fault, number_of_sections, Definition, definition}

@@ -1,7 +1,6 @@
 -- The look by the place of each change's tag.
 use Rattle.std.specs.Prelude.{ℕ, ◌+◌, ◌%◌, ◌^◌, Bool, true, false, cond, not, List, [], ◌∷◌, length}
 use Rattle.layout.specs.Saving.{Entry, Change, same_entry, bits}
-use Rattle.rows.specs.declared.Row.TheVariants as row
 use Rattle.sheet.specs.declared.Value.{Value}
 use Rattle.sheet.specs.declared.Value.TheVariants as value
 use Rattle.sheet.specs.Rows.{tag_entry, changes_at, Beside, beside}

@@ -3,7 +3,7 @@ use Rattle.std.specs.Prelude.{ℕ, zero, suc, ◌+◌, Bool, true, ◌&&◌, con
 use Rattle.number.specs.Number.{has}
 use Rattle.marks.specs.Marks.{mark_for, is_marked}
 use Rattle.layout.specs.Recording.{same, distinct}
-use Rattle.layout.specs.Reading.{bad, good, Reader, number}
+use Rattle.layout.specs.Reading.{bad, good, Reader}
 use Rattle.rows.specs.declared.Row.{Row}
 use Rattle.names.specs.declared.NameFound.{NameFound}
 use Rattle.names.specs.declared.NameFound.TheVariants.{At, Nothing}

@@ -23,7 +23,7 @@ use Rattle.layout.proofs.Lists.{bytes_drop}
 use Rattle.layout.proofs.Lines.{line-pass, line-holds}
 use Rattle.layout.proofs.Orders.{no_lines}
 use Rattle.layout.proofs.Outputs.{sets-append, filled_is}
-use Rattle.layout.proofs.Walks.{Walked, walk-gives, took, walk-exactly}
+use Rattle.layout.proofs.Walks.{walk-gives, took, walk-exactly}
 use Rattle.frames.proofs.Walks.{walk_first, by_first, length-index}
 use Rattle.refusal.specs.Refusal.{placed, plain}
 use Rattle.repair.specs.Repaired.{made, answer_of, made_of, common_with, common_behind, walked_all, walked_in, Lengths, frames_in, alike, alike_in, listed, listed_in, entries_in, index_in, tailed, tail_of, walk_lines, keeping, walk_repaired, frames_repaired}

@@ -1,21 +1,20 @@
 -- The lengths of frames that the walk keeps, and that they lead from frame to frame.
 -- Assumes nothing.
-use Prim.Native.Nat.{ℕ, zero, suc, ◌+◌, ◌-◌, ◌^◌, ◌<◌, ◌≤◌}
+use Prim.Native.Nat.{ℕ, ◌+◌, ◌-◌, ◌<◌, ◌≤◌}
 use native.Mathlib.Omega.{arith}
 use mathlib.Core.Path.{◌≡◌, refl, ap, sym, ◌∙◌}
-use mathlib.Core.Bool.{Bool, true, false, ◌&&◌, ◌||◌, cond}
+use mathlib.Core.Bool.{Bool, true, false, ◌||◌, cond}
 use mathlib.Core.List.{List, [], ◌∷◌}
 use lib.ListN.{length, drop, get_or, set, length-set}
 use lib.Seq.{get_or-set_same, get_or-set_other}
 use lib.Dec.{leb, ltb, eqb}
-use lib.Pow.{are_bytes}
-use borrow.Author.Tests.{lt-ltb, le-ltb, le-leb, lt-leb, leb-false, eqb-true, eq-eqb}
-use mir.Syntax.{w8, w32, w64}
+use borrow.Author.Tests.{lt-ltb, le-ltb, leb-false, eq-eqb}
+use mir.Syntax.{w8}
 use mir.Val.{Fits}
 use Rattle.number.specs.Number.{read_at}
-use Rattle.number.proofs.Bytes.{both_true, and-true, slice-bytes}
+use Rattle.number.proofs.Bytes.{slice-bytes}
 use Rattle.layout.specs.Recording.{Frame, frame_bytes, follows}
-use Rattle.layout.specs.Reading.{good, frame, Walk, stopped, longer, walk}
+use Rattle.layout.specs.Reading.{good, frame, stopped, longer, walk}
 use Rattle.layout.proofs.Lists.{bytes_drop}
 use Rattle.layout.proofs.Exact.{frame-exact}
 use Rattle.layout.proofs.Walks.{walk_none, walk-stop}

@@ -5,7 +5,7 @@ use native.Mathlib.Omega.{arith}
 use mathlib.Core.Path.{◌≡◌, refl, ap, sym, ◌∙◌}
 use mathlib.Core.Bool.{Bool, true, false, not, ◌&&◌, cond}
 use mathlib.Core.List.{List}
-use lib.ListN.{length, take, drop}
+use lib.ListN.{drop}
 use borrow.Author.Rules.{rules}
 use Rattle.marks.specs.Marks.{mark_of, with_mark, is_marked}
 use Rattle.marks.proofs.Laws.{length_marked}

@@ -1,5 +1,4 @@
 use borrow.Author.Rules.{rules}
-use Prim.Native.Nat.{◌-◌}
 use Rattle.apply.proofs.Runs.{kept-onward}
 use Rattle.apply.proofs.Sizes.{laws, kept-fewer, kept-shorter, kept_step}
 use Rattle.apply.proofs.kept_size.Goals as goal

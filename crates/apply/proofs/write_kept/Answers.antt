@@ -1,4 +1,3 @@
-use Prim.Native.Nat.{◌-◌}
 use Rattle.apply.proofs.Stores.{laws}
 use Rattle.apply.proofs.write_kept.Goals as goal
 

@@ -1,5 +1,4 @@
 use borrow.Author.Rules.{rules}
-use Prim.Native.Nat.{◌-◌}
 use Rattle.order.proofs.Laws.{laws}
 use Rattle.order.proofs.insert.Goals as goal
 

@@ -1,4 +1,3 @@
-use Prim.Native.Nat.{◌-◌}
 use Rattle.order.proofs.Laws.{laws}
 use Rattle.order.proofs.seek.Goals as goal
 

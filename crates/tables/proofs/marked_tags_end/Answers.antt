@@ -1,4 +1,3 @@
-use Prim.Native.Nat.{◌-◌}
 use Rattle.tables.proofs.Apart.{laws}
 use Rattle.tables.proofs.marked_tags_end.Goals as goal
 
