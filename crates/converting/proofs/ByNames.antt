@@ -18,7 +18,6 @@ use Rattle.layout.proofs.SheetBytes.{change-exact}
 use Rattle.layout.proofs.OldSheetBytes.{old_seen_bytes, legal_old_seen, old-seen-exact, old-sheet-given}
 use Rattle.rows.specs.Rows.{row_name, row_of}
 use Rattle.rows.specs.declared.Row.TheVariants as row
-use Rattle.rows.specs.declared.RowPlace.TheVariants as row_place
 use Rattle.parts.proofs.Times.{times-parts}
 use Rattle.names.specs.Names.{names}
 use Rattle.names.proofs.Readers.{change-row}

@@ -16,7 +16,7 @@ use Rattle.layout.specs.Reading.{good, string}
 use Rattle.layout.specs.Saving.{entry_part_bytes}
 use Rattle.layout.proofs.Lists.{bytes_drop}
 use Rattle.layout.proofs.Exact.{string-exact}
-use Rattle.rows.specs.Rows.{entry, row_name, row_of}
+use Rattle.rows.specs.Rows.{row_name, row_of}
 use Rattle.rows.specs.declared.Row.TheVariants as row
 use Rattle.rows.specs.declared.RowPlace.{RowPlace}
 use Rattle.rows.specs.declared.RowPlace.TheVariants as row_place

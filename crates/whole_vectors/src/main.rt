@@ -314,7 +314,13 @@ fn line_or_refused(rt: &impl Print, stored: Stored, file: &[u8]) -> io::Result<(
 }
 
 // The calls on lent bytes, the system table being at a place and the frames at another.
-fn record(rt: &impl Print, fields: &[u8], system: usize, frames: usize, count: u64) -> io::Result<()> {
+fn record(
+    rt: &impl Print,
+    fields: &[u8],
+    system: usize,
+    frames: usize,
+    count: u64,
+) -> io::Result<()> {
     let mut notes_space = lent(0);
     let mut out_space = lent(0);
     let mut file_space = lent(0);

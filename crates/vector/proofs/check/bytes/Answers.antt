@@ -1,4 +1,3 @@
-use Rattle.std.proofs.Common.{◌-◌}
 use Rattle.vector.proofs.Laws.{laws}
 use Rattle.vector.proofs.check.bytes.Goals as goal
 
