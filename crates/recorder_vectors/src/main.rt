@@ -121,7 +121,13 @@ fn closed(rt: &impl Print, fields: &[u8], notes: &mut [u8], out: &mut [u8]) -> i
     taken(rt, answer, notes, out)
 }
 
-fn call(rt: &impl Print, kind: u8, fields: &[u8], notes: &mut [u8], out: &mut [u8]) -> io::Result<()> {
+fn call(
+    rt: &impl Print,
+    kind: u8,
+    fields: &[u8],
+    notes: &mut [u8],
+    out: &mut [u8],
+) -> io::Result<()> {
     match kind {
         ADD => added(rt, fields, notes, out),
         BEGIN => begun(rt, fields, notes, out),

@@ -80,7 +80,13 @@ fn call(rt: &impl Print, kind: u8, fields: &[u8]) -> io::Result<()> {
     let mut space = lent(0x5A);
     let out: &mut [u8] = &mut space;
     if room <= out.len() {
-        written(rt, kind, &given[length..], &given[..length], &mut out[..room])?;
+        written(
+            rt,
+            kind,
+            &given[length..],
+            &given[..length],
+            &mut out[..room],
+        )?;
     }
     Ok(())
 }
