@@ -2,8 +2,7 @@
 #![tactic(auto)]
 
 ghost use Rattle.std.specs.Prelude.{◌≡◌, cond, eqb};
-ghost use Rattle.blocks.specs.Blocks.{legal_align};
-ghost use Rattle.blocks.specs.Blocks.{gap_by, zeros_at, start_at, is_align_name, block_at};
+ghost use Rattle.blocks.specs.Blocks.{legal_align, gap_by, zeros_at, start_at, is_align_name, block_at};
 
 use header::Header;
 

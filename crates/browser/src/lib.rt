@@ -86,7 +86,7 @@ pub fn next_number(table: &[u8], number: u64) -> u64
 }
 
 // "The tag browser travels with the table it reads": the table, and the next tag's number.
-#[derive(Drop)]
+#[derive(Clone, Copy)]
 pub struct Browser<'a> {
     pub table: &'a [u8],
     pub next: u64,

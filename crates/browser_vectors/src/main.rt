@@ -5,8 +5,8 @@
 use browser::Browsed;
 use cursor::Cursor;
 use refusal::Refusal;
+use std::io;
 use std::rt::{Env, Files};
-use std::{env, io};
 use vector::lend::lent;
 use vector::print::{no_vector, refused, say, with, with_sum};
 use vector::sweep::{Tally, line, turn_bytes, turn_length, turns};
@@ -210,7 +210,7 @@ fn answer(rt: &impl Print, vector: &[u8]) -> io::Result<()> {
     }
 }
 
-fn one(rt: &(impl Alloc + Env + Files + Print), argument: usize) -> io::Result<()> {
+fn one(rt: &(impl Env + Files + Print), argument: usize) -> io::Result<()> {
     let mut space = lent(0);
     let n = vector::read(rt, argument, &mut space)?;
     answer(rt, &space[..n])?;
@@ -218,8 +218,7 @@ fn one(rt: &(impl Alloc + Env + Files + Print), argument: usize) -> io::Result<(
 }
 
 fn main(rt: HostRuntime) -> io::Result<()> {
-    let end = env::args(&rt)?.count();
-    for argument in 1..end {
+    for argument in 1..vector::arguments(&rt) {
         one(&rt, argument)?;
     }
     Ok(())

@@ -9,7 +9,6 @@ use items::FrameRead;
 use opening::{Held, Opening};
 use refusal::Refusal;
 use std::io;
-use std::io::Read;
 
 fn print_text(rt: &impl Print, text: &[u8]) -> io::Result<()> {
     rt.write_all(text)
@@ -100,23 +99,8 @@ fn list(rt: &impl Print, file: &[u8]) -> io::Result<()> {
     }
 }
 
-// Reads until the space is full or the input ends.
-fn read_full<F: Read>(input: &mut F, space: &mut [u8]) -> io::Result<usize>
-    ensures { IfOk result (λ n. (n ≤ length space.new) × (n ≡ length (take n space.new))) }
-{
-    let mut done = 0;
-    while done < space.len() {
-        let n = input.read(&mut space[done..])?;
-        if n == 0 {
-            break;
-        }
-        done += n;
-    }
-    Ok(done)
-}
-
 fn main(rt: HostRuntime) -> io::Result<()> {
     let mut buffer = [0; 65536];
-    let n = read_full(&mut rt.stdin(), &mut buffer)?;
+    let n = vector::read_full(&mut rt.stdin(), &mut buffer);
     list(&rt, &buffer[..n])
 }

@@ -4,8 +4,8 @@
 
 use items::{Found, FrameRead, Item};
 use opening::Opening;
+use std::io;
 use std::rt::{Env, Files};
-use std::{env, io};
 use vector::lend::lent;
 use vector::print::{hex, no_vector, refused, say, with, with_time};
 use vector::sweep::{Tally, line, turn_bytes, turn_length, turns};
@@ -147,7 +147,7 @@ fn answer(rt: &impl Print, vector: &[u8]) -> io::Result<()> {
     }
 }
 
-fn one(rt: &(impl Alloc + Env + Files + Print), argument: usize) -> io::Result<()> {
+fn one(rt: &(impl Env + Files + Print), argument: usize) -> io::Result<()> {
     let mut space = lent(0);
     let n = vector::read(rt, argument, &mut space)?;
     answer(rt, &space[..n])?;
@@ -155,8 +155,7 @@ fn one(rt: &(impl Alloc + Env + Files + Print), argument: usize) -> io::Result<(
 }
 
 fn main(rt: HostRuntime) -> io::Result<()> {
-    let end = env::args(&rt)?.count();
-    for argument in 1..end {
+    for argument in 1..vector::arguments(&rt) {
         one(&rt, argument)?;
     }
     Ok(())

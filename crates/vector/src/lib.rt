@@ -10,42 +10,66 @@ pub mod sweep;
 ghost use Rattle.std.specs.Prelude.{◌≡◌, ◌≤◌, IfOk, length, take};
 
 use print::say;
+use std::env::FillError;
 use std::io::Read;
 use std::rt::{Env, Files};
-use std::{env, fs, io};
+use std::{fs, io, str};
 
-// Reads until the space is full or the file ends.
-fn read_full<F: Read>(file: &mut F, space: &mut [u8]) -> io::Result<usize>
-    ensures { IfOk result (λ n. (n ≤ length space.new) × (n ≡ length (take n space.new))) }
+// A longer name of a file is none.
+const LONGEST_NAME: usize = 4096;
+
+// How many arguments there are, the program's name among them.
+pub fn arguments(rt: &impl Env) -> usize {
+    let mut name = [0; LONGEST_NAME];
+    for i in 0..usize::MAX {
+        if let Err(FillError::NotPresent) = rt.arg(i, &mut name) {
+            return i;
+        }
+    }
+    usize::MAX
+}
+
+// Reads until the space is full, the input ends or a read fails, and answers how many bytes it put at the start of the space.
+pub fn read_full<F: Read>(input: &mut F, space: &mut [u8]) -> usize
+    ensures { (result ≤ length space.new) × (result ≡ length (take result space.new)) }
 {
     let mut done = 0;
     while done < space.len() {
-        let n = file.read(&mut space[done..])?;
+        let Ok(n) = input.read(&mut space[done..]) else {
+            return done;
+        };
         if n == 0 {
-            break;
+            return done;
         }
         done += n;
     }
-    Ok(done)
+    done
+}
+
+fn no_file(rt: &impl Print) -> io::Result<usize>
+    ensures { IfOk result (λ n. n ≡ 0) }
+{
+    say(rt, b"no file, ")?;
+    Ok(0)
 }
 
 // Begins the line of the vector that an argument names, and reads its file: so many bytes of the space hold it.
-pub fn read<R: Alloc + Env + Files + Print>(
-    rt: &R,
-    argument: usize,
-    space: &mut [u8],
-) -> io::Result<usize>
+pub fn read<R: Env + Files + Print>(rt: &R, argument: usize, space: &mut [u8]) -> io::Result<usize>
     ensures { IfOk result (λ n. (n ≤ length space.new) × (n ≡ length (take n space.new))) }
 {
-    let Some(name) = env::args(rt)?.nth(argument) else {
-        say(rt, b": no file, ")?;
-        return Ok(0);
+    let mut path = [0; LONGEST_NAME];
+    let n = match rt.arg(argument, &mut path) {
+        Ok(n) => n,
+        Err(_) => 0,
     };
-    say(rt, name.as_bytes())?;
+    let name = &path[..n];
+    say(rt, name)?;
     say(rt, b": ")?;
-    let Ok(mut file) = fs::open(rt, &name) else {
-        say(rt, b"no file, ")?;
-        return Ok(0);
+    let Ok(text) = str::from_utf8(name) else {
+        return no_file(rt);
     };
-    read_full(&mut file, space)
+    let Ok(mut file) = fs::open(rt, text) else {
+        return no_file(rt);
+    };
+    Ok(read_full(&mut file, space))
 }

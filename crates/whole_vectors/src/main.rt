@@ -8,8 +8,8 @@ use parts::Place;
 use recorder::{Piece, Recorder, Taken};
 use refusal::Refusal;
 use repair::Repaired;
+use std::io;
 use std::rt::{Env, Files};
-use std::{env, io};
 use vector::check;
 use vector::lend::lent;
 use vector::print::{no_vector, say, with, with_check, with_sum};
@@ -369,7 +369,7 @@ fn answer(rt: &impl Print, vector: &[u8]) -> io::Result<()> {
     }
 }
 
-fn one(rt: &(impl Alloc + Env + Files + Print), argument: usize) -> io::Result<()> {
+fn one(rt: &(impl Env + Files + Print), argument: usize) -> io::Result<()> {
     let mut space = lent(0);
     let n = vector::read(rt, argument, &mut space)?;
     answer(rt, &space[..n])?;
@@ -377,8 +377,7 @@ fn one(rt: &(impl Alloc + Env + Files + Print), argument: usize) -> io::Result<(
 }
 
 fn main(rt: HostRuntime) -> io::Result<()> {
-    let end = env::args(&rt)?.count();
-    for argument in 1..end {
+    for argument in 1..vector::arguments(&rt) {
         one(&rt, argument)?;
     }
     Ok(())
