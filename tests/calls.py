@@ -23,7 +23,7 @@ def public_functions(crate):
     """Each public function's name, and whether it takes a handle by which it can read or print."""
     text = "\n".join(without_comments(p.read_text()) for p in sorted((crate / "src").rglob("*.rt")))
     found = re.findall(r'\bpub\s+(?:extern\s+"C"\s+)?fn\s+(\w+)([^{]*)', text)
-    return [(name, bool(re.search(r"\b(Print|Files|Env)\b", head))) for name, head in found]
+    return [(name, bool(re.search(r"\b(Print|Files|Env|Read)\b", head))) for name, head in found]
 
 
 def theorems(crate):
