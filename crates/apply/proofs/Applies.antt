@@ -1,5 +1,6 @@
 -- The new table is the tags that are kept and those that are new, and it fills the output from its start.
 -- Assumes nothing.
+use Rattle.std.specs.Prelude.{Ok, Err}
 use Prim.Native.Nat.{ℕ, ◌+◌, ◌<◌, ◌≤◌}
 use native.Mathlib.Omega.{arith}
 use mathlib.Core.Path.{◌≡◌, ap, sym, ◌∙◌}
@@ -17,10 +18,9 @@ use Rattle.parts.proofs.Laws.{there}
 use Rattle.apply.specs.declared.Walk.{Walk}
 use Rattle.pieces.specs.Added.{added_by}
 use Rattle.pieces.specs.declared.Side.TheVariants as side
-use Rattle.refusal.specs.Refusal.{plain}
+use Rattle.refusal.specs.declared.Refusal.TheVariants.{NoRoom, TableFull}
 use Rattle.apply.specs.Applied.{applying, applied_to, kept_from, tags_by, size_of, Written, Room}
 use Rattle.apply.specs.declared.Size.{Size}
-use Rattle.apply.specs.declared.Applied.TheVariants as applied
 use Rattle.apply.proofs.Stores.{sets-append}
 
 -- the new table by what is kept and what is new
@@ -111,12 +111,12 @@ module _ (table : List ℕ) (at : ℕ) (walk : Walk) (sheet places : List ℕ) (
       let b = new-length in
       record { room = omega arith }
 
-  pub apply-many : 1000 < K.tags + N.tags → applying (applied.Refused (plain 17)) out ≡ applied_to result out
+  pub apply-many : 1000 < K.tags + N.tags → applying (Err TableFull) out ≡ applied_to result out
   unfolding applied_to
   apply-many h = let a = tags-are in rw (lt-ltb most_tags (length result) (omega arith))
 
   pub apply-no-room : K.tags + N.tags ≤ 1000 → length out < 4 + K.bytes + N.bytes
-      → applying (applied.Refused (plain 9)) out ≡ applied_to result out
+      → applying (Err NoRoom) out ≡ applied_to result out
   unfolding applied_to
   apply-no-room h l =
       let a = tags-are in
@@ -125,7 +125,7 @@ module _ (table : List ℕ) (at : ℕ) (walk : Walk) (sheet places : List ℕ) (
 
   pub apply-done : (o : List ℕ) → K.tags + N.tags ≤ 1000 → 4 + K.bytes + N.bytes ≤ length out
       → o ≡ sets out 0 (bytes_of 4 (K.tags + N.tags) ++ (flat_map tag_bytes kept ++ flat_map tag_bytes new))
-      → applying (applied.Table (4 + K.bytes + N.bytes)) o ≡ applied_to result out
+      → applying (Ok (4 + K.bytes + N.bytes)) o ≡ applied_to result out
   unfolding applied_to filled
   apply-done o h l g =
       let a = tags-are in
@@ -138,7 +138,7 @@ module _ (table : List ℕ) (at : ℕ) (walk : Walk) (sheet places : List ℕ) (
       ∙ sets-eq (table_bytes result) out 0 (omega arith)
       ∙ ap (λ (z : ℕ). table_bytes result ++ drop z out) i in
       rw (le-ltb most_tags (length result) (omega arith), le-ltb (length out) (length (table_bytes result)) (omega arith), b)
-      (ap (applying (applied.Table (length (table_bytes result)))) c)
+      (ap (applying (Ok (length (table_bytes result)))) c)
 
 -- as many words as are lent of the list
 pub list_count : (list : List ℕ) (n : ℕ) → n ≤ length list → n ≡ length (take n list)

@@ -1,9 +1,13 @@
 -- What is kept from one listed tag to the next: the tags between them as they stand, and the piece of the listed one.
 -- Assumes nothing.
+use Rattle.std.specs.Prelude.{Option, Some, None}
 use Prim.Native.Nat.{ℕ, zero, suc, ◌+◌, ◌*◌, ◌-◌, ◌^◌, ◌<◌, ◌≤◌}
 use native.Mathlib.Omega.{arith}
 use mathlib.Core.Path.{◌≡◌, refl, ap, sym, ◌∙◌}
+use mathlib.Core.Bool.{Bool, true, false}
 use mathlib.Core.List.{List, [], ◌∷◌, ◌++◌, flat_map, append-nil, append_assoc}
+use lib.Dec.{ltb}
+use borrow.Author.Tests.{ltb-true, ltb-false}
 use lib.ListN.{length, take, drop, get_or, length-append, length-drop, drop_of_length-le}
 use lib.Seq.{drop-drop, take-add, get_or-drop}
 use mir.Syntax.{w8, w64}
@@ -11,22 +15,19 @@ use mir.Val.{Fits}
 use Rattle.layout.specs.Recording.{Tag, tag_bytes}
 use Rattle.layout.specs.Reading.{Parsed, bad, good}
 use Rattle.layout.proofs.Lists.{flat_map-append}
-use Rattle.rows.specs.Rows.{row_name, row_of}
+use Rattle.rows.specs.Rows.{row_name, row_whole, row_of}
 use Rattle.rows.specs.declared.Row.TheVariants as row
-use Rattle.rows.specs.declared.RowPlace.TheVariants as row_place
-use Rattle.rows.proofs.Laws.{row-broken}
+use Rattle.rows.proofs.Laws.{row-broken, row-same}
 use Rattle.names.specs.declared.NameFound.{NameFound}
-use Rattle.names.specs.declared.NameFound.TheVariants as found
 use Rattle.places.specs.Places.{place_found, change_found, change_place, named_in, Listed, listing, words_for, ahead, listed_by}
 use Rattle.apply.specs.declared.Walk.{Walk}
 use Rattle.places.proofs.Finding.{no_names, names-next}
 use Rattle.places.proofs.Listed.{list-end, list-broken, list-more}
 use Rattle.sheet.proofs.Values.{tag-row-parts}
-use Rattle.pieces.specs.Pieces.{piece_at, kept_at, kept_row}
+use Rattle.pieces.specs.Pieces.{piece, piece_at, kept_at, kept_row}
 use Rattle.pieces.specs.Added.{walked_in, row_adds, tags_in, piece_bytes, Makes}
 use Rattle.pieces.specs.declared.Side.TheVariants as side
 use Rattle.pieces.specs.declared.Piece.{Piece}
-use Rattle.pieces.specs.declared.Piece.TheVariants as piece
 use Rattle.pieces.proofs.Added.{tags-one, piece-makes, piece-row, piece-no-row, added-done, added_next}
 use Rattle.apply.specs.Applied.{kept_from}
 use Rattle.apply.specs.Runs.{Leads, Keeps}
@@ -56,32 +57,33 @@ module _ (t s : List ℕ) (k : ℕ) where
 
   module _ (w : (i : ℕ) → Fits w8 (get_or t i 0)) (y : (i : ℕ) → Fits w8 (get_or s i 0)) where
     -- one tag, by its piece
-    kept_row_lem : (place n m : ℕ) (name : List ℕ) (f v c e : ℕ) (p : Piece) → row_name row.Tag (drop place t) ≡ good name m
-        → p ≡ piece_at side.Kept t place s (change_place s k name) → p ≡ piece.Whole f v c e
-        → (e ≡ place + m) × (e ≤ length t) × (place < e)
+    kept_row_lem : (place n m : ℕ) (name : List ℕ) (p : Piece) (r : Option Piece) → row_name row.Tag (drop place t) ≡ good name m
+        → r ≡ piece_at side.Kept t place s (change_place s k name) → r ≡ Some p
+        → (p.end ≡ place + m) × (p.end ≤ length t) × (place < p.end)
         × (kept_from t place (suc n) s k ≡ row_adds side.Kept t s place (change_place s k name) ++ kept_from t (place + m) n s k)
-        × Makes t place s f v c (row_adds side.Kept t s place (change_place s k name))
+        × Makes t place s p.first p.value p.second (row_adds side.Kept t s place (change_place s k name))
     unfolding kept_from named_in row_of walked_in
-    kept_row_lem place n m name f v c e p h a b =
-        piece-row t s place (change_place s k name) f v c e p a b (λ len g.
-        let o : row_place.Whole (length name) (place + m) ≡ row_place.Whole len e = rw h at g in
-        let q : place + m ≡ e = cc in
-        let (i, j, x) = tag-row-parts t place len e g in (
+    kept_row_lem place n m name p r h a b =
+        piece-row t s place (change_place s k name) p r a b (λ x g d.
+        let o : row_whole (length name) (place + m) ≡ Some x = rw h at g in
+        let c : place + m ≡ x.end = (row-same (length name) (place + m) x.name x.end o).1 in
+        let q : place + m ≡ p.end = c ∙ d in
+        let (i, j, z) = tag-row-parts t place x g in (
           sym q,
-          j,
+          omega arith,
           omega arith,
           rw (names-next n (row_name row.Tag) t place name m h, q) (added_next side.Kept t s
-              (change_place s k name ∷ named_in t e n s k) place 0 f v c e p (omega arith) a b),
-          piece-makes side.Kept t s place (change_place s k name) f v c e p w y a b,
+              (change_place s k name ∷ named_in t p.end n s k) place 0 p r a b (omega arith)),
+          piece-makes side.Kept t s place (change_place s k name) p r a b w y,
         ))
 
     -- one more tag ahead of a run
-    ran-more : (place n m : ℕ) (name : List ℕ) (end left : ℕ) → row_name row.Tag (drop place t) ≡ good name m → change_found s k name ≡ found.Nothing
+    ran-more : (place n m : ℕ) (name : List ℕ) (end left : ℕ) → row_name row.Tag (drop place t) ≡ good name m → change_found s k name ≡ None
         → Ran (place + m) n end left → Ran place (suc n) end left
     unfolding change_place place_found piece_at kept_at kept_row row_of piece_bytes
     ran-more place n m name end left h e r =
         let o : change_place s k name ≡ 0 = ap place_found e in
-        let (a, b, c, d, g) = kept_row_lem place n m name (place + m - place) 0 0 (place + m) (piece.Whole (place + m - place) 0 0 (place + m)) h
+        let (a, b, c, d, g) = kept_row_lem place n m name (piece (place + m - place) 0 0 (place + m)) (Some (piece (place + m - place) 0 0 (place + m))) h
         (rw (o, h)) refl in
         let f = r.forward in
         let l : tags_in (place + m - place + 0) ≡ 1 = sym (tags-one _ (omega arith)) in
@@ -107,7 +109,7 @@ module _ (t s : List ℕ) (k : ℕ) where
 
     row-there : (place m : ℕ) (name : List ℕ) → row_name row.Tag (drop place t) ≡ good name m → place + m ≤ length t
     unfolding row_of
-    row-there place m name e = (tag-row-parts t place (length name) (place + m) (rw e)).1
+    row-there place m name e = (tag-row-parts t place (record { name = length name; end = place + m }) (rw e)).1
 
     -- where nothing is listed, all tags are one run
     ran-all : (n place passed tags end : ℕ) → place ≤ length t → tags ≡ passed + n → listing [] tags end ≡ listed_by (change_found s k) n t place passed
@@ -126,11 +128,11 @@ module _ (t s : List ℕ) (k : ℕ) where
             absurd (omega arith)
         go (good name m) f ih = pick (change_found s k name) refl (e ∙ list-more (change_found s k) n t place passed name m f)
           where
-            pick : (x : NameFound) → change_found s k name ≡ x
+            pick : (x : Option NameFound) → change_found s k name ≡ x
                 → listing [] tags end ≡ ahead (words_for x passed place) (listed_by (change_found s k) n t (place + m) (passed + 1)) → Ran place (suc n) end 0
-            pick found.Nothing g d =
+            pick None g d =
                 ran-more place n m name end 0 f g (ih (place + m) (passed + 1) tags end (row-there place m name f) (omega arith) d)
-            pick (found.At c q) g d = let z = ap (λ (z : Listed). length z.words) d in absurd (omega arith)
+            pick (Some q) g d = let z = ap (λ (z : Listed). length z.words) d in absurd (omega arith)
 
     -- the run up to the tag that is listed first, and what is listed behind that
     record Stops (l : List ℕ) (place n passed tags end : ℕ) : Type 0 where
@@ -164,10 +166,10 @@ module _ (t s : List ℕ) (k : ℕ) where
             absurd (omega arith)
         go (good name m) f ih = pick (change_found s k name) refl (e ∙ list-more (change_found s k) n t place passed name m f)
           where
-            pick : (x : NameFound) → change_found s k name ≡ x
+            pick : (x : Option NameFound) → change_found s k name ≡ x
                 → listing l tags end ≡ ahead (words_for x passed place) (listed_by (change_found s k) n t (place + m) (passed + 1))
                 → Stops l place (suc n) passed tags end
-            pick found.Nothing g d =
+            pick None g d =
                 let r = ih (place + m) (passed + 1) tags end o (row-there place m name f) d in
                 let a = r.reached in
                 record {
@@ -185,13 +187,13 @@ module _ (t s : List ℕ) (k : ℕ) where
                   named = r.named;
                   onward = r.onward;
                 }
-            pick (found.At c q) g d =
+            pick (Some q) g d =
                 let a = ap (λ (z : Listed). z.tags) d in
                 let b = ap (λ (z : Listed). z.end) d in
                 record {
                   number = passed;
                   tag = place;
-                  change = q;
+                  change = q.place;
                   rest = (listed_by (change_found s k) n t (place + m) (passed + 1)).words;
                   left = n;
                   name = name;
@@ -208,119 +210,126 @@ module _ (t s : List ℕ) (k : ℕ) where
 
 module _ (t : List ℕ) (place passed : ℕ) (walk : Walk) (s list : List ℕ) (i : ℕ) (g : Leads t place passed walk s list i)
     (w : (i : ℕ) → Fits w8 (get_or t i 0)) (y : (i : ℕ) → Fits w8 (get_or s i 0)) where
-  pub lead-last : length list ≤ i → Ran t s walk.changes place (walk.tags - passed) walk.end 0
+  stops : i < length list → Stops t s walk.changes w y (drop i list) place (walk.tags - passed) passed walk.tags walk.end
+  stops h = ran_to t s walk.changes w y (walk.tags - passed) (drop i list) place passed walk.tags walk.end (simp length-drop (omega arith)) g.there g.listed
+
+  long : (h : i < length list) → i + 3 ≤ length list
+  long h = let a = ap length (stops h).words in let b = length-drop i list in omega arith
+
+  -- less than three words are none
+  ended : length list < i + 3 → length list ≤ i
+  ended h = go (ltb i (length list)) refl
+    where
+      go : (b : Bool) → ltb i (length list) ≡ b → length list ≤ i
+      go true e = let l = long (ltb-true i (length list) e) in absurd (omega arith)
+      go false e = ltb-false i (length list) e
+
+  pub lead-last : length list < i + 3 → Ran t s walk.changes place (walk.tags - passed) walk.end 0
   lead-last h =
       let a = g.within in
       ran-all t s walk.changes w y (walk.tags - passed) place passed walk.tags walk.end g.there (omega arith)
-      (sym (ap (λ (l : List ℕ). listing l walk.tags walk.end) (drop_of_length-le list {i = i} h)) ∙ g.listed)
+      (sym (ap (λ (l : List ℕ). listing l walk.tags walk.end) (drop_of_length-le list {i = i} (ended h))) ∙ g.listed)
 
-  pub last-forward : length list ≤ i → place ≤ walk.end
+  pub last-forward : length list < i + 3 → place ≤ walk.end
   last-forward h = (lead-last h).forward
 
   module _ (h : i < length list) where
-    stops : Stops t s walk.changes w y (drop i list) place (walk.tags - passed) passed walk.tags walk.end
-    stops = ran_to t s walk.changes w y (walk.tags - passed) (drop i list) place passed walk.tags walk.end (simp length-drop (omega arith)) g.there g.listed
+    abbrev stop : Stops t s walk.changes w y (drop i list) place (walk.tags - passed) passed walk.tags walk.end
+    stop = stops h
 
-    word-is : (j : ℕ) → get_or list (i + j) 0 ≡ get_or (stops.number ∷ stops.tag ∷ stops.change ∷ stops.rest) j 0
-    word-is j = sym (get_or-drop i list j 0) ∙ ap (λ (l : List ℕ). get_or l j 0) stops.words
+    word-is : (j : ℕ) → get_or list (i + j) 0 ≡ get_or (stop.number ∷ stop.tag ∷ stop.change ∷ stop.rest) j 0
+    word-is j = sym (get_or-drop i list j 0) ∙ ap (λ (l : List ℕ). get_or l j 0) stop.words
 
-    number_is : get_or list i 0 ≡ stops.number
+    number_is : get_or list i 0 ≡ stop.number
     number_is = let a : i ≡ i + 0 = omega arith in ap (λ (j : ℕ). get_or list j 0) a ∙ word-is 0
 
-    long : i + 3 ≤ length list
-    long = let a = ap length stops.words in let b = length-drop i list in omega arith
-
-    rest-is : drop (i + 3) list ≡ stops.rest
-    rest-is = sym (drop-drop 3 i list) ∙ ap (drop 3) stops.words
+    rest-is : drop (i + 3) list ≡ stop.rest
+    rest-is = sym (drop-drop 3 i list) ∙ ap (drop 3) stop.words
 
     pub lead-one : i + 1 < length list
-    lead-one = let a = long in omega arith
+    lead-one = let a = long h in omega arith
 
     pub lead-two : i + 2 < length list
-    lead-two = let a = long in omega arith
+    lead-two = let a = long h in omega arith
 
     pub lead-forward : place ≤ get_or list (i + 1) 0
-    lead-forward = let a = word-is 1 in let b = stops.run.forward in omega arith
+    lead-forward = let a = word-is 1 in let b = stop.run.forward in omega arith
 
     pub lead-number : passed ≤ get_or list i 0
     lead-number =
         let a = number_is in
-        let b = stops.reached in
-        let c = stops.run.count in
+        let b = stop.reached in
+        let c = stop.run.count in
         let d = g.within in
         omega arith
 
     pub lead-fits : (z : ℕ) → z ≤ 1 → Fits w64 (get_or list i 0 - passed + z)
     lead-fits z l =
         let a = number_is in
-        let b = stops.reached in
+        let b = stop.reached in
         let c = g.few in
         let d = g.within in
         record { fits = omega arith }
 
-    pub next_fits : length list < 2 ^ 64 → Fits w64 (i + 3)
-    next_fits l = let a = long in record { fits = omega arith }
+    module _ (r : Option Piece) (a : r ≡ piece_at side.Kept t (get_or list (i + 1) 0) s (get_or list (i + 2) 0)) where
+      told : r ≡ piece_at side.Kept t stop.tag s (change_place s walk.changes stop.name)
+      told = rw (← word-is 1, ← stop.named, ← word-is 2) a
 
-    module _ (p : Piece) (a : p ≡ piece_at side.Kept t (get_or list (i + 1) 0) s (get_or list (i + 2) 0)) where
-      told : p ≡ piece_at side.Kept t stops.tag s (change_place s walk.changes stops.name)
-      told = rw (← word-is 1, ← stops.named, ← word-is 2) a
-
-      pub part-broken : p ≡ piece.Broken → Keeps t place passed walk s list i
-          (record { first = 0; value = 0; second = 0; end = get_or list (i + 1) 0; tags = 0 })
+      pub part-broken : r ≡ None → Keeps t place passed walk s list i (record { piece = piece 0 0 0 (get_or list (i + 1) 0); tags = 0 })
       part-broken b =
-          let (j, c) = row-broken (row_name row.Tag (drop stops.tag t)) stops.tag
-          (piece-no-row t s stops.tag (change_place s walk.changes stops.name) p told b) in
-          let d = stops.stands in
+          let (j, c) = row-broken (row_name row.Tag (drop stop.tag t)) stop.tag
+          (piece-no-row t s stop.tag (change_place s walk.changes stop.name) r told b) in
+          let d = stop.stands in
           let z : ◌≡◌ {A = ℕ} 0 1 = cc in
           absurd (omega arith)
 
-      module _ (f v c e : ℕ) (b : p ≡ piece.Whole f v c e) where
-        row-parts : (e ≡ stops.tag + stops.size) × (e ≤ length t) × (stops.tag < e)
-            × (kept_from t stops.tag (suc stops.left) s walk.changes ≡ row_adds side.Kept t s stops.tag
-            (change_place s walk.changes stops.name) ++ kept_from t (stops.tag + stops.size) stops.left s walk.changes)
-            × Makes t stops.tag s f v c (row_adds side.Kept t s stops.tag (change_place s walk.changes stops.name))
-        row-parts = kept_row_lem t s walk.changes w y stops.tag stops.left stops.size stops.name f v c e p stops.stands told b
+      module _ (p : Piece) (b : r ≡ Some p) where
+        row-parts : (p.end ≡ stop.tag + stop.size) × (p.end ≤ length t) × (stop.tag < p.end)
+            × (kept_from t stop.tag (suc stop.left) s walk.changes ≡ row_adds side.Kept t s stop.tag
+            (change_place s walk.changes stop.name) ++ kept_from t (stop.tag + stop.size) stop.left s walk.changes)
+            × Makes t stop.tag s p.first p.value p.second (row_adds side.Kept t s stop.tag (change_place s walk.changes stop.name))
+        row-parts = kept_row_lem t s walk.changes w y stop.tag stop.left stop.size stop.name p r stop.stands told b
 
         abbrev row-tags : List Tag
-        row-tags = row_adds side.Kept t s stops.tag (change_place s walk.changes stops.name)
+        row-tags = row_adds side.Kept t s stop.tag (change_place s walk.changes stop.name)
 
-        pub part-fits : Fits w64 (f + c)
+        pub part-fits : Fits w64 (p.first + p.second)
         part-fits = let a = row-parts.4.short in record { fits = omega arith }
 
-        pub first_fits : length t < 2 ^ 64 → Fits w64 (get_or list (i + 1) 0 - place + f)
+        pub first_fits : length t < 2 ^ 64 → Fits w64 (get_or list (i + 1) 0 - place + p.first)
         first_fits l =
             let a = word-is 1 in
             let d = row-parts.4.first_there in
-            let r = stops.run.forward in
+            let r = stop.run.forward in
             record { fits = omega arith }
 
-        pub part-keeps : (z : ℕ) → z ≡ tags_in (f + c) → z ≤ 1 → Keeps t place passed walk s list i
-            (record { first = get_or list (i + 1) 0 - place + f; value = v; second = c; end = e; tags = get_or list i 0 - passed + z })
+        pub part-keeps : (z : ℕ) → z ≡ tags_in (p.first + p.second) → z ≤ 1 → Keeps t place passed walk s list i
+            (record { piece = piece (get_or list (i + 1) 0 - place + p.first) p.value p.second p.end; tags = get_or list i 0 - passed + z })
         unfolding piece_bytes
         part-keeps z l few =
             let (ends, there, more, adds, makes) = row-parts in
             let a = number_is in
             let d = word-is 1 in
-            let reached = stops.reached in
+            let reached = stop.reached in
             let within = g.within in
-            let count = stops.run.count in
-            let forward = stops.run.forward in
-            let short = stops.run.short in
+            let count = stop.run.count in
+            let forward = stop.run.forward in
+            let short = stop.run.short in
             let short₁ = makes.short in
             let first = makes.first_there in
             let one : z ≡ length row-tags = l ∙ makes.count in
-            let both = length-append stops.run.made row-tags in
-            let x : walk.tags - (get_or list i 0 + 1) ≡ stops.left = omega arith in
-            let n : get_or list (i + 1) 0 - place + f ≡ stops.tag - place + f = omega arith in
-            let m : place + (stops.tag - place) ≡ stops.tag = omega arith in
+            let both = length-append stop.run.made row-tags in
+            let x : walk.tags - (get_or list i 0 + 1) ≡ stop.left = omega arith in
+            let n : get_or list (i + 1) 0 - place + p.first ≡ stop.tag - place + p.first = omega arith in
+            let m : place + (stop.tag - place) ≡ stop.tag = omega arith in
             record {
-              made = stops.run.made ++ row-tags;
-              adds = rw (x, ends) (stops.run.adds ∙ ap (λ (l : List Tag). stops.run.made ++ l) adds
-                  ∙ sym (append_assoc stops.run.made row-tags (kept_from t (stops.tag + stops.size) stops.left s walk.changes)));
-              bytes = rw (n, take-add (stops.tag - place) f (drop place t), drop-drop (stops.tag - place) place t, m, stops.run.bytes)
-                  (append_assoc (flat_map tag_bytes stops.run.made) (take f (drop stops.tag t)) (take c (drop v s))
-                  ∙ ap (λ (l : List ℕ). flat_map tag_bytes stops.run.made ++ l) makes.bytes
-                  ∙ sym (flat_map-append tag_bytes stops.run.made row-tags));
+              made = stop.run.made ++ row-tags;
+              adds = rw (x, ends) (stop.run.adds ∙ ap (λ (l : List Tag). stop.run.made ++ l) adds
+                  ∙ sym (append_assoc stop.run.made row-tags (kept_from t (stop.tag + stop.size) stop.left s walk.changes)));
+              bytes = rw (n, take-add (stop.tag - place) p.first (drop place t), drop-drop (stop.tag - place) place t, m, stop.run.bytes)
+                  (append_assoc (flat_map tag_bytes stop.run.made) (take p.first (drop stop.tag t)) (take p.second (drop p.value s))
+                  ∙ ap (λ (l : List ℕ). flat_map tag_bytes stop.run.made ++ l) makes.bytes
+                  ∙ sym (flat_map-append tag_bytes stop.run.made row-tags));
               count = omega arith;
               first_there = omega arith;
               second_there = makes.second_there;
@@ -330,15 +339,12 @@ module _ (t : List ℕ) (place passed : ℕ) (walk : Walk) (s list : List ℕ) (
                 there = there;
                 few = g.few;
                 within = omega arith;
-                listed = rw (x, ends, a, rest-is) stops.onward;
+                listed = rw (x, ends, a, rest-is) stop.onward;
               };
             }
 
 -- ── The loops over the list ──
 
 module _ (t : List ℕ) (place passed : ℕ) (walk : Walk) (s list : List ℕ) (i : ℕ) (part : Part) (g : Keeps t place passed walk s list i part) where
-  pub word_fits : Fits w64 (get_or list i 0 + 1)
-  word_fits = let a = g.onward.within in let b = g.onward.few in record { fits = omega arith }
-
-  pub kept-onward : Leads t part.end (get_or list i 0 + 1) walk s list (i + 3)
-  kept-onward = g.onward
+  pub kept-onward : (j : ℕ) → j ≡ i + 3 → Leads t part.piece.end (get_or list i 0 + 1) walk s list j
+  kept-onward j e = rw e g.onward

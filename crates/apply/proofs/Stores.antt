@@ -1,5 +1,6 @@
 -- What is kept and what is new is stored piece by piece.
 -- Assumes nothing.
+use Rattle.std.specs.Prelude.{Option, Some, None}
 use Prim.Native.Nat.{ℕ, ◌+◌, ◌-◌, ◌<◌, ◌≤◌}
 use native.Mathlib.Omega.{arith}
 use mathlib.Core.Path.{◌≡◌, refl, ap, sym, ◌∙◌}
@@ -19,12 +20,11 @@ use Rattle.pieces.specs.Pieces.{piece_at}
 use Rattle.pieces.specs.Added.{added_by, walked_in, row_adds, piece_bytes, Makes}
 use Rattle.pieces.specs.declared.Side.TheVariants as side
 use Rattle.pieces.specs.declared.Piece.{Piece}
-use Rattle.pieces.specs.declared.Piece.TheVariants as piece
 use Rattle.pieces.proofs.Added.{piece-makes, added-done, added-stop, added_next}
 use Rattle.apply.specs.Applied.{kept_from, Written}
 use Rattle.apply.specs.Runs.{Leads, Keeps}
 use Rattle.apply.specs.declared.Part.{Part}
-use Rattle.apply.proofs.Runs.{Ran, kept-none, lead-last, last-forward, word_fits, next_fits, kept-onward}
+use Rattle.apply.proofs.Runs.{Ran, kept-none, lead-last}
 use Rattle.apply.proofs.Sizes.{piece-length}
 
 -- one part stored behind another
@@ -101,26 +101,27 @@ keep-start t s out at n k start h =
 module _ (t : List ℕ) (place passed : ℕ) (walk : Walk) (s list : List ℕ) (i : ℕ) (to : ℕ) (out before : List ℕ) (start : ℕ) (bytes : List ℕ)
     (g : Storing to (flat_map tag_bytes (kept_from t place (walk.tags - passed) s walk.changes)) out before start bytes) where
   module _ (part : Part) (j : Keeps t place passed walk s list i part) where
-    pub keep-first : place + part.first ≤ length t
+    keep-first : place + part.piece.first ≤ length t
     keep-first = j.first_there
 
-    pub keep-second : part.value + part.second ≤ length s
+    keep-second : part.piece.value + part.piece.second ≤ length s
     keep-second = j.second_there
 
-    joins : flat_map tag_bytes (kept_from t place (walk.tags - passed) s walk.changes) ≡ piece_bytes t place s part.first part.value
-        part.second ++ flat_map tag_bytes (kept_from t part.end (walk.tags - (get_or list i 0 + 1)) s walk.changes)
+    joins : flat_map tag_bytes (kept_from t place (walk.tags - passed) s walk.changes) ≡ piece_bytes t place s part.piece.first part.piece.value
+        part.piece.second ++ flat_map tag_bytes (kept_from t part.piece.end (walk.tags - (get_or list i 0 + 1)) s walk.changes)
     joins = ap (flat_map tag_bytes) j.adds ∙ flat_map-append tag_bytes j.made _
-        ∙ ap (λ (l : List ℕ). l ++ flat_map tag_bytes (kept_from t part.end (walk.tags - (get_or list i 0 + 1)) s walk.changes)) (sym j.bytes)
+        ∙ ap (λ (l : List ℕ). l ++ flat_map tag_bytes (kept_from t part.piece.end (walk.tags - (get_or list i 0 + 1)) s walk.changes)) (sym j.bytes)
 
-    pub keep-room : to + (part.first + part.second) ≤ length out
-    keep-room = pieces_room to _ _ out before start bytes g t place s part.first part.value part.second joins keep-first keep-second
+    pub keep-room : (place + part.piece.first ≤ length t) × (part.piece.value + part.piece.second ≤ length s)
+        × (to + (part.piece.first + part.piece.second) ≤ length out)
+    keep-room = (keep-first, keep-second, pieces_room to _ _ out before start bytes g t place s part.piece.first part.piece.value part.piece.second joins keep-first keep-second)
 
-    pub keep-step : (z : ℕ) (out₁ : List ℕ) → z ≡ to + (part.first + part.second)
-        → out₁ ≡ sets out to (piece_bytes t place s part.first part.value part.second)
-        → Storing z (flat_map tag_bytes (kept_from t part.end (walk.tags - (get_or list i 0 + 1)) s walk.changes)) out₁ before start bytes
-    keep-step = pieces-stored to _ _ out before start bytes g t place s part.first part.value part.second joins keep-first keep-second
+    pub keep-step : (z : ℕ) (out₁ : List ℕ) → z ≡ to + (part.piece.first + part.piece.second)
+        → out₁ ≡ sets out to (piece_bytes t place s part.piece.first part.piece.value part.piece.second)
+        → Storing z (flat_map tag_bytes (kept_from t part.piece.end (walk.tags - (get_or list i 0 + 1)) s walk.changes)) out₁ before start bytes
+    keep-step = pieces-stored to _ _ out before start bytes g t place s part.piece.first part.piece.value part.piece.second joins keep-first keep-second
 
-  module _ (j : Leads t place passed walk s list i) (w : (i : ℕ) → Fits w8 (get_or t i 0)) (y : (i : ℕ) → Fits w8 (get_or s i 0)) (h : length list ≤ i) where
+  module _ (j : Leads t place passed walk s list i) (w : (i : ℕ) → Fits w8 (get_or t i 0)) (y : (i : ℕ) → Fits w8 (get_or s i 0)) (h : length list < i + 3) where
     run : Ran t s walk.changes place (walk.tags - passed) walk.end 0
     run = lead-last t place passed walk s list i j w y h
 
@@ -129,11 +130,11 @@ module _ (t : List ℕ) (place passed : ℕ) (walk : Walk) (s list : List ℕ) (
     ends = ap (flat_map tag_bytes) (run.adds ∙ ap (λ (l : List Tag). run.made ++ l) (kept-none t s walk.changes walk.end))
         ∙ flat_map-append tag_bytes run.made [] ∙ ap (λ (l : List ℕ). l ++ []) (sym run.bytes ∙ sym (append-nil (take (walk.end - place) (drop place t))))
 
-    pub last-first : place + (walk.end - place) ≤ length t
+    last-first : place + (walk.end - place) ≤ length t
     last-first = let a = run.there in let b = run.forward in omega arith
 
-    pub last-room : to + (walk.end - place + 0) ≤ length out
-    last-room = pieces_room to _ _ out before start bytes g t place s (walk.end - place) 0 0 ends last-first (omega arith)
+    pub last-room : (place + (walk.end - place) ≤ length t) × (0 + 0 ≤ length s) × (to + (walk.end - place + 0) ≤ length out)
+    last-room = (last-first, omega arith, pieces_room to _ _ out before start bytes g t place s (walk.end - place) 0 0 ends last-first (omega arith))
 
     pub last_written : (z : ℕ) (out₁ : List ℕ) → z ≡ to + (walk.end - place + 0) → out₁ ≡ sets out to (piece_bytes t place s (walk.end - place) 0 0)
         → Written z before out₁ start bytes
@@ -146,62 +147,38 @@ pub write-start : (t others out : List ℕ) (at start : ℕ) → start + length 
     → Storing start (flat_map tag_bytes (added_by side.New t t at others)) out out start (flat_map tag_bytes (added_by side.New t t at others))
 write-start t others out at start h = record { room = h; place = refl; long = refl; stored = refl }
 
-module _ (t others : List ℕ) (place passed left to : ℕ) (out before : List ℕ) (start : ℕ) (bytes : List ℕ) (l : passed + left ≡ length others)
+module _ (t others : List ℕ) (place passed to : ℕ) (out before : List ℕ) (start : ℕ) (bytes : List ℕ)
     (g : Storing to (flat_map tag_bytes (added_by side.New t t place (drop passed others))) out before start bytes) where
-  pub write_done : left ≤ 0 → Written to before out start bytes
+  pub write_done : length others ≤ passed → Written to before out start bytes
   unfolding flat_map
-  write_done h = storing-end to _ out before start bytes (ap (flat_map tag_bytes) (added-done side.New t t others place passed (omega arith))) g
+  write_done h = storing-end to _ out before start bytes (ap (flat_map tag_bytes) (added-done side.New t t others place passed h)) g
 
-  module _ (p : Piece) (a : p ≡ piece_at side.New t place t (get_or others passed 0)) where
-    pub write-stop : p ≡ piece.Broken → Written to before out start bytes
+  module _ (r : Option Piece) (a : r ≡ piece_at side.New t place t (get_or others passed 0)) where
+    pub write-stop : r ≡ None → Written to before out start bytes
     unfolding flat_map
     write-stop e = storing-end to _ out before start bytes
-        (ap (flat_map tag_bytes) (added-stop side.New t t others place passed (get_or others passed 0) p a e)) g
+        (ap (flat_map tag_bytes) (added-stop side.New t t others place passed (get_or others passed 0) r a e)) g
 
-    module _ (f v n end : ℕ) (b : p ≡ piece.Whole f v n end) (w : (j : ℕ) → Fits w8 (get_or t j 0)) where
-      makes : Makes t place t f v n (row_adds side.New t t place (get_or others passed 0))
+    module _ (p : Piece) (b : r ≡ Some p) (w : (j : ℕ) → Fits w8 (get_or t j 0)) (l : passed < length others) where
+      makes : Makes t place t p.first p.value p.second (row_adds side.New t t place (get_or others passed 0))
       unfolding walked_in
-      makes = piece-makes side.New t t place (get_or others passed 0) f v n end p w w a b
+      makes = piece-makes side.New t t place (get_or others passed 0) p r a b w w
 
-      adds : 0 < left → flat_map tag_bytes (added_by side.New t t place (drop passed others)) ≡ piece_bytes t place t f v n ++ flat_map tag_bytes
-          (added_by side.New t t end (drop (passed + 1) others))
-      adds z = ap (flat_map tag_bytes) (added_next side.New t t others place passed f v n end p (omega arith) a b)
+      adds : flat_map tag_bytes (added_by side.New t t place (drop passed others)) ≡ piece_bytes t place t p.first p.value p.second ++ flat_map tag_bytes
+          (added_by side.New t t p.end (drop (passed + 1) others))
+      adds = ap (flat_map tag_bytes) (added_next side.New t t others place passed p r a b l)
           ∙ flat_map-append tag_bytes (row_adds side.New t t place (get_or others passed 0)) _
-          ∙ ap (λ (l : List ℕ). l ++ flat_map tag_bytes (added_by side.New t t end (drop (passed + 1) others))) (sym makes.bytes)
+          ∙ ap (λ (l : List ℕ). l ++ flat_map tag_bytes (added_by side.New t t p.end (drop (passed + 1) others))) (sym makes.bytes)
 
-      pub write-first : place + f ≤ length t
-      write-first = makes.first_there
+      pub write-room : (place + p.first ≤ length t) × (p.value + p.second ≤ length t) × (to + (p.first + p.second) ≤ length out)
+      write-room = (
+        makes.first_there,
+        makes.second_there,
+        pieces_room to _ _ out before start bytes g t place t p.first p.value p.second adds makes.first_there makes.second_there,
+      )
 
-      pub write-second : v + n ≤ length t
-      write-second = makes.second_there
+      pub write_step : (z : ℕ) (out₁ : List ℕ) → z ≡ to + (p.first + p.second) → out₁ ≡ sets out to (piece_bytes t place t p.first p.value p.second)
+          → Storing z (flat_map tag_bytes (added_by side.New t t p.end (drop (passed + 1) others))) out₁ before start bytes
+      write_step = pieces-stored to _ _ out before start bytes g t place t p.first p.value p.second adds makes.first_there makes.second_there
 
-      pub write-room : 0 < left → to + (f + n) ≤ length out
-      write-room z = pieces_room to _ _ out before start bytes g t place t f v n (adds z) write-first write-second
-
-      pub write_step : 0 < left → (z : ℕ) (out₁ : List ℕ) → z ≡ to + (f + n) → out₁ ≡ sets out to (piece_bytes t place t f v n)
-          → Storing z (flat_map tag_bytes (added_by side.New t t end (drop (passed + 1) others))) out₁ before start bytes
-      write_step z = pieces-stored to _ _ out before start bytes g t place t f v n (adds z) write-first write-second
-
-pub ruleset laws = (
-  rules,
-  put_both,
-  word_fits,
-  next_fits,
-  kept-onward,
-  last-forward,
-  keep-start,
-  keep-first,
-  keep-second,
-  keep-room,
-  keep-step,
-  last-first,
-  last-room,
-  last_written,
-  write-start,
-  write_done,
-  write-stop,
-  write-first,
-  write-second,
-  write-room,
-  write_step,
-)
+pub ruleset laws = (rules, put_both, keep-start, write-start, write_done, write-stop)

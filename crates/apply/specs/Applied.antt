@@ -1,5 +1,5 @@
 -- The new table by the places of its tags' changes and of its changes' tags, and what is left in the lent output.
-use Rattle.std.specs.Prelude.{ℕ, ◌+◌, ◌≤◌, ◌≡◌, cond, length, ltb}
+use Rattle.std.specs.Prelude.{ℕ, ◌+◌, ◌≤◌, ◌≡◌, cond, length, ltb, Result, Ok, Err}
 use mathlib.Core.List.{List, ◌++◌, flat_map}
 use Rattle.std.proofs.lemmas.List.Edits.{sets}
 use Rattle.layout.specs.Recording.{Tag, most_tags, tag_bytes, table_bytes}
@@ -8,25 +8,24 @@ use Rattle.places.specs.Places.{named_in}
 use Rattle.apply.specs.declared.Walk.{Walk}
 use Rattle.pieces.specs.Added.{added_by}
 use Rattle.pieces.specs.declared.Side.TheVariants as side
-use Rattle.refusal.specs.Refusal.{plain}
+use Rattle.refusal.specs.declared.Refusal.{Refusal}
+use Rattle.refusal.specs.declared.Refusal.TheVariants.{NoRoom, TableFull}
 use Rattle.apply.specs.declared.Size.{Size}
-use Rattle.apply.specs.declared.Applied.{Applied}
-use Rattle.apply.specs.declared.Applied.TheVariants as applied
 
 -- an answer, and the output as it is at the end
 pub record Applying : Type 0 where
-  pub answer : Applied
+  pub answer : Result ℕ Refusal
   pub out : List ℕ
 
-abbrev pub applying : Applied → List ℕ → Applying
+abbrev pub applying : Result ℕ Refusal → List ℕ → Applying
 applying r out = record { answer = r; out = out }
 
 -- the new table, 17 and 9 before it
 unfoldable pub applied_to : List Tag → (out : List ℕ) → Applying
 applied_to ts out =
-    cond (ltb most_tags (length ts)) (applying (applied.Refused (plain 17)) out)
-    (cond (no_room (length out) (length (table_bytes ts))) (applying (applied.Refused (plain 9)) out)
-    (applying (applied.Table (length (table_bytes ts))) (filled out (table_bytes ts))))
+    cond (ltb most_tags (length ts)) (applying (Err TableFull) out)
+    (cond (no_room (length out) (length (table_bytes ts))) (applying (Err NoRoom) out)
+    (applying (Ok (length (table_bytes ts))) (filled out (table_bytes ts))))
 
 -- what n tags from a place on leave, by the places of their changes
 unfoldable pub kept_from : (table : List ℕ) → (at n : ℕ) → (sheet : List ℕ) → (changes : ℕ) → List Tag

@@ -19,11 +19,11 @@ pub record Leads (table : List ℕ) (place passed : ℕ) (walk : Walk) (sheet li
 pub record Keeps (table : List ℕ) (place passed : ℕ) (walk : Walk) (sheet list : List ℕ) (i : ℕ) (part : Part) : Type 0 where
   pub made : List Tag
   pub adds : kept_from table place (walk.tags - passed) sheet walk.changes ≡ made
-      ++ kept_from table part.end (walk.tags - (get_or list i 0 + 1)) sheet walk.changes
-  pub bytes : piece_bytes table place sheet part.first part.value part.second ≡ flat_map tag_bytes made
+      ++ kept_from table part.piece.end (walk.tags - (get_or list i 0 + 1)) sheet walk.changes
+  pub bytes : piece_bytes table place sheet part.piece.first part.piece.value part.piece.second ≡ flat_map tag_bytes made
   pub count : part.tags ≡ length made
-  pub first_there : place + part.first ≤ length table
-  pub second_there : part.value + part.second ≤ length sheet
+  pub first_there : place + part.piece.first ≤ length table
+  pub second_there : part.piece.value + part.piece.second ≤ length sheet
   pub fewer : part.tags + passed ≤ get_or list i 0 + 1
-  pub short : part.first + part.second + 512 * passed ≤ 512 * (get_or list i 0 + 1)
-  pub onward : Leads table part.end (get_or list i 0 + 1) walk sheet list (i + 3)
+  pub short : part.piece.first + part.piece.second + 512 * passed ≤ 512 * (get_or list i 0 + 1)
+  pub onward : Leads table part.piece.end (get_or list i 0 + 1) walk sheet list (i + 3)

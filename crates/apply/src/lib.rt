@@ -1,5 +1,5 @@
 // The new user table: what a sheet keeps of the old one, and what it adds.
-#![tactic(auto)]
+#![tactic(auto, using(crate::proofs::Sizes::laws, crate::proofs::Stores::laws, crate::proofs::Applies::laws))]
 
 ghost use Rattle.std.specs.Prelude.{◌≡◌, ◌+◌, ◌*◌, ◌<◌, ◌≤◌, length, take};
 ghost use mathlib.Core.List.{◌++◌, flat_map};
@@ -17,7 +17,7 @@ use refusal::Refusal;
 
 // The tags of a table, as the list of those that changes name leads through them: for how many changes it is, and how many words it takes; how many tags there
 // are, which are whole, and where they end.
-#[derive(Clone, Copy)]
+#[derive(Clone, Copy, Debug, PartialEq, Eq)]
 pub struct Walk {
     pub changes: usize,
     pub words: usize,
@@ -25,15 +25,8 @@ pub struct Walk {
     pub end: usize,
 }
 
-// What applying a sheet answers: the length of the new table, or the refusal.
-#[derive(Clone, Copy)]
-pub enum Applied {
-    Table(usize),
-    Refused(Refusal),
-}
-
 // The number of tags that are added to a table, and of their bytes.
-#[derive(Clone, Copy)]
+#[derive(Clone, Copy, Debug, PartialEq, Eq)]
 struct Size {
     tags: usize,
     bytes: usize,
@@ -46,19 +39,15 @@ fn tags_in(bytes: usize) -> usize
     if 0 < bytes { 1 } else { 0 }
 }
 
-// What is kept at once: how many bytes of the table; the place and the number of bytes of a value of the sheet, which comes behind them; where the next tag
-// stands; and how many tags that are.
-#[derive(Clone, Copy)]
+// What is kept at once: its piece, and how many tags that are.
+#[derive(Clone, Copy, Debug, PartialEq, Eq)]
 struct Part {
-    first: usize,
-    value: usize,
-    second: usize,
-    end: usize,
+    piece: Piece,
     tags: usize,
 }
 
 // The tags from a place and a number on, up to the one that is listed next, which stay as they are; and what its change makes of that one. What stays of it
-// stands right behind them.
+// stands right behind them. Table, walk, sheet and list stay apart here and below: of a slice in a struct no proof knows that each of its bytes is below 256.
 fn part_at(
     table: &[u8],
     place: usize,
@@ -72,22 +61,26 @@ fn part_at(
     ensures { Keeps table.now place passed walk sheet.now list.now i result }
 {
     let tag = list[i + 1];
-    let piece = pieces::piece_at(Side::Kept, table, tag, sheet, list[i + 2]);
-    let Piece::Whole(first, value, second, end) = piece else {
+    let found = pieces::piece_at(Side::Kept, table, tag, sheet, list[i + 2]);
+    let Some(piece) = found else {
         return Part {
-            first: 0,
-            value: 0,
-            second: 0,
-            end: tag,
+            piece: Piece {
+                first: 0,
+                value: 0,
+                second: 0,
+                end: tag,
+            },
             tags: 0,
         };
     };
     Part {
-        first: tag - place + first,
-        value,
-        second,
-        end,
-        tags: list[i] - passed + tags_in(first + second),
+        piece: Piece {
+            first: tag - place + piece.first,
+            value: piece.value,
+            second: piece.second,
+            end: piece.end,
+        },
+        tags: list[i] - passed + tags_in(piece.first + piece.second),
     }
 }
 
@@ -100,14 +93,12 @@ fn kept_size(table: &[u8], at: usize, walk: Walk, sheet: &[u8], list: &[usize]) 
     let mut passed = 0;
     let mut tags = 0;
     let mut bytes = 0;
-    let mut i = 0;
-    while i < list.len() {
-        let part = part_at(table, place, passed, walk, sheet, list, i);
+    for k in 0..list.len() / 3 {
+        let part = part_at(table, place, passed, walk, sheet, list, 3 * k);
         tags += part.tags;
-        bytes += part.first + part.second;
-        place = part.end;
-        passed = list[i] + 1;
-        i += 3;
+        bytes += part.piece.first + part.piece.second;
+        place = part.piece.end;
+        passed = list[3 * k] + 1;
     }
     Size {
         tags: tags + (walk.tags - passed),
@@ -121,21 +112,16 @@ fn new_size(sheet: &[u8], places: &[usize]) -> Size
     ensures { (result ≡ size_of (added_by side.New sheet.now sheet.now 1 places.now)) × (result.tags ≤ length places.now) × (result.bytes ≤ 512 * length places.now) }
 {
     let mut place = 1;
-    let mut passed = 0;
     let mut tags = 0;
     let mut bytes = 0;
-    let mut left = places.len();
-    while 0 < left {
-        let piece = pieces::piece_at(Side::New, sheet, place, sheet, places[passed]);
-        let Piece::Whole(first, value, second, end) = piece else {
+    for tag in places {
+        let Some(piece) = pieces::piece_at(Side::New, sheet, place, sheet, *tag) else {
             return Size { tags, bytes };
         };
-        let more = first + second;
+        let more = piece.first + piece.second;
         tags += tags_in(more);
         bytes += more;
-        place = end;
-        passed += 1;
-        left -= 1;
+        place = piece.end;
     }
     Size { tags, bytes }
 }
@@ -144,19 +130,17 @@ fn new_size(sheet: &[u8], places: &[usize]) -> Size
 fn put_piece(
     from: &[u8],
     place: usize,
-    first: usize,
     sheet: &[u8],
-    value: usize,
-    second: usize,
+    piece: Piece,
     out: &mut [u8],
     to: usize,
 ) -> usize
-    requires { (place + first ≤ length from.now) × (value + second ≤ length sheet.now) × (to + (first + second) ≤ length out.old) }
-    ensures { (result ≡ to + (first + second)) × (out.new ≡ sets out.old to (piece_bytes from.now place sheet.now first value second)) }
+    requires { (place + piece.first ≤ length from.now) × (piece.value + piece.second ≤ length sheet.now) × (to + (piece.first + piece.second) ≤ length out.old) }
+    ensures { (result ≡ to + (piece.first + piece.second)) × (out.new ≡ sets out.old to (piece_bytes from.now place sheet.now piece.first piece.value piece.second)) }
 {
-    parts::copy(from, place, out, to, first);
-    parts::copy(sheet, value, out, to + first, second);
-    to + (first + second)
+    parts::copy(from, place, out, to, piece.first);
+    parts::copy(sheet, piece.value, out, to + piece.first, piece.second);
+    to + (piece.first + piece.second)
 }
 
 // Writes what is kept; where that ends.
@@ -175,24 +159,19 @@ fn write_kept(
     let mut place = at;
     let mut passed = 0;
     let mut to = start;
-    let mut i = 0;
-    while i < list.len() {
-        let part = part_at(table, place, passed, walk, sheet, list, i);
-        to = put_piece(
-            table,
-            place,
-            part.first,
-            sheet,
-            part.value,
-            part.second,
-            out,
-            to,
-        );
-        place = part.end;
-        passed = list[i] + 1;
-        i += 3;
+    for k in 0..list.len() / 3 {
+        let part = part_at(table, place, passed, walk, sheet, list, 3 * k);
+        to = put_piece(table, place, sheet, part.piece, out, to);
+        place = part.piece.end;
+        passed = list[3 * k] + 1;
     }
-    put_piece(table, place, walk.end - place, sheet, 0, 0, out, to)
+    let last = Piece {
+        first: walk.end - place,
+        value: 0,
+        second: 0,
+        end: walk.end,
+    };
+    put_piece(table, place, sheet, last, out, to)
 }
 
 // Writes what the changes add; where that ends.
@@ -201,18 +180,13 @@ fn write_new(sheet: &[u8], places: &[usize], out: &mut [u8], start: usize) -> us
     ensures { Written result out.old out.new start (flat_map tag_bytes (added_by side.New sheet.now sheet.now 1 places.now)) }
 {
     let mut place = 1;
-    let mut passed = 0;
     let mut to = start;
-    let mut left = places.len();
-    while 0 < left {
-        let piece = pieces::piece_at(Side::New, sheet, place, sheet, places[passed]);
-        let Piece::Whole(first, value, second, end) = piece else {
+    for tag in places {
+        let Some(piece) = pieces::piece_at(Side::New, sheet, place, sheet, *tag) else {
             return to;
         };
-        to = put_piece(sheet, place, first, sheet, value, second, out, to);
-        place = end;
-        passed += 1;
-        left -= 1;
+        to = put_piece(sheet, place, sheet, piece, out, to);
+        place = piece.end;
     }
     to
 }
@@ -245,7 +219,7 @@ fn apply_list(
     list: &[usize],
     places: &[usize],
     out: &mut [u8],
-) -> Applied
+) -> Result<usize, Refusal>
     requires { (length places.now ≤ 64) × Leads table.now at 0 walk sheet.now list.now 0 }
     ensures { applying result out.new ≡ applied_to (tags_by table.now at walk sheet.now places.now) out.old }
 {
@@ -253,18 +227,18 @@ fn apply_list(
     let new = new_size(sheet, places);
     let tags = kept.tags + new.tags;
     if Header::MOST_TAGS < tags {
-        return Applied::Refused(Refusal::TABLE_FULL);
+        return Err(Refusal::TableFull);
     }
     let bytes = 4 + kept.bytes + new.bytes;
     if out.len() < bytes {
-        return Applied::Refused(Refusal::NO_ROOM);
+        return Err(Refusal::NoRoom);
     }
     write_table(table, at, walk, sheet, list, places, out, tags as u64);
-    Applied::Table(bytes)
+    Ok(bytes)
 }
 
-// The new user table. `list` has the tags that changes name, as a walk of the table from `at` on finds them; `places` has for each change where its tag stands
-// in the table, or 0.
+// The length of the new user table. `list` has the tags that changes name, as a walk of the table from `at` on finds them; `places` has for each change where
+// its tag stands in the table, or 0.
 pub fn apply(
     table: &[u8],
     at: usize,
@@ -273,7 +247,7 @@ pub fn apply(
     list: &[usize],
     places: &[usize],
     out: &mut [u8],
-) -> Applied
+) -> Result<usize, Refusal>
     requires { (length places.now ≤ 64) × (walk.words ≤ length list.now) × Leads table.now at 0 walk sheet.now (take walk.words list.now) 0 }
     ensures { applying result out.new ≡ applied_to (tags_by table.now at walk sheet.now places.now) out.old }
 {

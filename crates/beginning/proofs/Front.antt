@@ -1,5 +1,6 @@
 -- The opening piece: where its parts stand, and how they are stored one behind the other.
 -- Assumes nothing.
+use Rattle.std.specs.Prelude.{Option, Some, None}
 use Prim.Native.Nat.{ℕ, zero, suc, ◌+◌, ◌*◌, ◌-◌, ◌^◌, ◌<◌, ◌≤◌}
 use native.Mathlib.Omega.{arith}
 use mathlib.Core.Path.{◌≡◌, refl, ap, sym, ◌∙◌}
@@ -7,6 +8,7 @@ use mathlib.Core.Bool.{false}
 use mathlib.Core.List.{List, [], ◌∷◌, ◌++◌, flat_map}
 use lib.ListN.{length, take, drop, length-drop, length-append}
 use lib.Seq.{sets, length-sets, drop-cons, length-take-le, take-length, append_snoc}
+use borrow.Author.Rules.{rules}
 use mir.Syntax.{w64}
 use mir.Val.{Fits}
 use Rattle.number.specs.Number.{bytes_of, read_at, write_at}
@@ -21,7 +23,6 @@ use Rattle.parts.proofs.Laws.{copied-there}
 use Rattle.rows.specs.Rows.{row_name, row_of}
 use Rattle.rows.specs.declared.Row.TheVariants.{SetUp}
 use Rattle.rows.specs.declared.RowPlace.{RowPlace}
-use Rattle.rows.specs.declared.RowPlace.TheVariants.{Whole, Broken}
 use Rattle.parts.proofs.Times.{times-parts}
 use Rattle.names.proofs.Readers.{set-up-row}
 use Rattle.setup.specs.SetUp.{rows}
@@ -32,147 +33,157 @@ use Rattle.setup.proofs.SetUp.{RowRead, row_read, row-none, rows-done, rows-stop
 
 -- ── One section more ──
 
-module _ (s : List ℕ) (at n end left : ℕ) (r : RowPlace) (f : r ≡ row_of at (row_name SetUp (drop at s))) (g : r ≡ Whole n end) (h : 0 < left) where
-  abbrev o : RowRead s at n end
-  o = row_read s at n end r f g
+module _ (s : List ℕ) (at : ℕ) (row : RowPlace) (r : Option RowPlace) (f : r ≡ row_of at (row_name SetUp (drop at s))) (g : r ≡ Some row) where
+  abbrev o : RowRead s at row.name row.end
+  o = row_read s at row r f g
 
   abbrev size : ℕ
-  size = end - (at + 3 + n)
+  size = row.end - (at + 3 + row.name)
 
   abbrev name : List ℕ
-  name = take n (drop (at + 1) s)
+  name = take row.name (drop (at + 1) s)
 
   abbrev configuration : List ℕ
-  configuration = take size (drop (at + 3 + n) s)
+  configuration = take size (drop (at + 3 + row.name) s)
 
   size_is : o.size ≡ size
   size_is = omega (arith, o.ends)
 
-  name-length : length name ≡ n
-  name-length = length-take-le n (drop (at + 1) s) (rw (length-drop (at + 1) s) (omega (arith, o.ends, o.inside)))
+  name-length : length name ≡ row.name
+  name-length = length-take-le row.name (drop (at + 1) s) (rw (length-drop (at + 1) s) (omega (arith, o.ends, o.inside)))
 
   configuration-length : length configuration ≡ size
-  configuration-length = length-take-le size (drop (at + 3 + n) s) (rw (length-drop (at + 3 + n) s) (omega (arith, o.ends, o.inside)))
-
-  -- the section that stands there, and those behind it
-  next-rows : rows left (drop at s) ≡ record { name = name; configuration = configuration } ∷ rows (left - 1) (drop end s)
-  next-rows =
-      let i : at + (3 + n + o.size) ≡ end = omega (arith, o.ends) in
-      rows_step left s at (3 + n + o.size) (record { name = name; configuration = take o.size (drop (at + 3 + n) s) }) h o.read
-      ∙ rw (i, size_is)
+  configuration-length = length-take-le size (drop (at + 3 + row.name) s) (rw (length-drop (at + 3 + row.name) s) (omega (arith, o.ends, o.inside)))
 
   -- its name with the length byte, as it stands in the list
-  name-bytes : short_string name ≡ take (1 + n) (drop at s)
+  name-bytes : short_string name ≡ take (1 + row.name) (drop at s)
   unfolding short_string
   name-bytes =
-      let e : 1 + n ≡ suc n = omega arith in
+      let e : 1 + row.name ≡ suc row.name = omega arith in
       let k : at + 1 ≡ suc at = omega arith in
       let l : at < length s = omega (arith, o.ends, o.inside) in
       rw (name-length, e, drop-cons s at 0 l, ← o.byte, k)
 
-  next-definitions : (a : ℕ) → definition_list_bytes a (rows left (drop at s)) ≡ take (1 + n) (drop at s) ++ bytes_of 8 a
-      ++ definition_list_bytes (a + size) (rows (left - 1) (drop end s))
-  unfolding definition_list_bytes
-  next-definitions a = rw (next-rows, definition_list_bytes, name-bytes, configuration-length)
-
-  next-configurations : configurations_bytes (rows left (drop at s)) ≡ configuration ++ configurations_bytes (rows (left - 1) (drop end s))
-  unfolding configurations_bytes flat_map
-  next-configurations = rw next-rows
-
-  definition-length : (a : ℕ) → length (definition_list_bytes a (rows left (drop at s))) ≡ 9 + n + length
-      (definition_list_bytes (a + size) (rows (left - 1) (drop end s)))
-  definition-length a =
-      let l : length (take (1 + n) (drop at s)) ≡ 1 + n = length-take-le (1 + n) (drop at s)
-      (rw (length-drop at s) (omega (arith, o.ends, o.inside))) in
-      rw (next-definitions a) (simp (length-append, length-bytes_of, l) (omega arith))
-
-  configurations-length : length (configurations_bytes (rows left (drop at s))) ≡ size + length (configurations_bytes (rows (left - 1) (drop end s)))
-  configurations-length = rw next-configurations (length-append configuration (configurations_bytes (rows (left - 1) (drop end s)))
-      ∙ ap (λ (i : ℕ). i + length (configurations_bytes (rows (left - 1) (drop end s)))) configuration-length)
-
-  -- ── Where the definitions end ──
-
-  pub ends-step : (x all : ℕ) → x + length (definition_list_bytes 0 (rows left (drop at s))) ≡ all
-      → x + 9 + n + length (definition_list_bytes 0 (rows (left - 1) (drop end s))) ≡ all
-  ends-step x all e = omega (arith, definition-length 0, length-definitions (0 + size) 0 (rows (left - 1) (drop end s)))
-
-  pub ends_more : (x k : ℕ) → x + 6 * left ≤ 33 + 6 * k + at → x + 9 + n + 6 * (left - 1) ≤ 33 + 6 * k + end
-  ends_more x k e = omega (arith, o.ends)
-
-  pub ends-within : end ≤ length s + 1
+  pub ends-within : row.end ≤ length s + 1
   ends-within = omega (arith, o.inside)
-
-  pub ends-fits : (x k : ℕ) → x + 6 * left ≤ 33 + 6 * k + at → k ≤ 8 → length s * 1 < 2 ^ 63 → Fits w64 (x + 9)
-  ends-fits x k e l b = record { fits = omega (arith, o.ends, o.inside) }
-
-  pub ends-name-fits : (x k : ℕ) → x + 6 * left ≤ 33 + 6 * k + at → k ≤ 8 → length s * 1 < 2 ^ 63 → Fits w64 (x + 9 + n)
-  ends-name-fits x k e l b = record { fits = omega (arith, o.ends, o.inside) }
-
-  -- ── The definitions ──
 
   pub place-fits : length s < 2 ^ 64 → Fits w64 (at + 3)
   place-fits b = record { fits = omega (arith, o.ends, o.inside) }
 
-  pub behind-name-fits : length s < 2 ^ 64 → Fits w64 (at + 3 + n)
+  pub behind-name-fits : length s < 2 ^ 64 → Fits w64 (at + 3 + row.name)
   behind-name-fits b = record { fits = omega (arith, o.ends, o.inside) }
 
-  pub behind-name : at + 3 + n ≤ end
+  pub behind-name : at + 3 + row.name ≤ row.end
   behind-name = omega (arith, o.ends)
 
-  pub name-there : at + 1 + n ≤ length s
+  pub name-there : at + 1 + row.name ≤ length s
   name-there = omega (arith, o.ends, o.inside)
 
-  pub definition-room : (out : List ℕ) (to offset : ℕ) → to + length (definition_list_bytes offset (rows left (drop at s))) ≤ length out
-      → to + 1 + n + 8 ≤ length out
-  definition-room out to offset e = omega (arith, definition-length offset)
+  -- with so many rows from there on
+  module _ (left : ℕ) (h : 0 < left) where
+    -- the section that stands there, and those behind it
+    next-rows : rows left (drop at s) ≡ record { name = name; configuration = configuration } ∷ rows (left - 1) (drop row.end s)
+    next-rows =
+        let i : at + (3 + row.name + o.size) ≡ row.end = omega (arith, o.ends) in
+        rows_step left (left - 1) s at (3 + row.name + o.size) (record { name = name; configuration = take o.size (drop (at + 3 + row.name) s) }) (omega arith) o.read
+        ∙ rw (i, size_is)
 
-  pub to-fits : (out lent : List ℕ) (to offset : ℕ) → to + length (definition_list_bytes offset (rows left (drop at s))) ≤ length out
-      → length out ≡ length lent → length lent < 2 ^ 64 → Fits w64 (to + 1)
-  to-fits out lent to offset e k b = record { fits = omega (arith, definition-length offset) }
+    next-definitions : (a : ℕ) → definition_list_bytes a (rows left (drop at s)) ≡ take (1 + row.name) (drop at s) ++ bytes_of 8 a
+        ++ definition_list_bytes (a + size) (rows (left - 1) (drop row.end s))
+    unfolding definition_list_bytes
+    next-definitions a = rw (next-rows, definition_list_bytes, name-bytes, configuration-length)
 
-  pub to-name-fits : (out lent : List ℕ) (to offset : ℕ) → to + length (definition_list_bytes offset (rows left (drop at s))) ≤ length out
-      → length out ≡ length lent → length lent < 2 ^ 64 → Fits w64 (to + 1 + n)
-  to-name-fits out lent to offset e k b = record { fits = omega (arith, definition-length offset) }
+    next-configurations : configurations_bytes (rows left (drop at s)) ≡ configuration ++ configurations_bytes (rows (left - 1) (drop row.end s))
+    unfolding configurations_bytes flat_map
+    next-configurations = rw next-rows
 
-  pub to-offset-fits : (out lent : List ℕ) (to offset : ℕ) → to + length (definition_list_bytes offset (rows left (drop at s))) ≤ length out
-      → length out ≡ length lent → length lent < 2 ^ 64 → Fits w64 (to + 1 + n + 8)
-  to-offset-fits out lent to offset e k b = record { fits = omega (arith, definition-length offset) }
+    definition-length : (a : ℕ) → length (definition_list_bytes a (rows left (drop at s))) ≡ 9 + row.name + length
+        (definition_list_bytes (a + size) (rows (left - 1) (drop row.end s)))
+    definition-length a =
+        let l : length (take (1 + row.name) (drop at s)) ≡ 1 + row.name = length-take-le (1 + row.name) (drop at s)
+        (rw (length-drop at s) (omega (arith, o.ends, o.inside))) in
+        rw (next-definitions a) (simp (length-append, length-bytes_of, l) (omega arith))
 
-  pub size_fits : (out lent : List ℕ) (offset : ℕ) → offset + length (configurations_bytes (rows left (drop at s))) ≤ length out
-      → length out ≡ length lent → length lent < 2 ^ 64 → Fits w64 (offset + (end - (at + 3 + n)))
-  size_fits out lent offset e k b = record { fits = omega (arith, configurations-length) }
+    configurations-length : length (configurations_bytes (rows left (drop at s))) ≡ size + length (configurations_bytes (rows (left - 1) (drop row.end s)))
+    configurations-length = rw next-configurations (length-append configuration (configurations_bytes (rows (left - 1) (drop row.end s)))
+        ∙ ap (λ (i : ℕ). i + length (configurations_bytes (rows (left - 1) (drop row.end s)))) configuration-length)
 
-  pub defined-step : (out x all : List ℕ) (to offset : ℕ) → sets out to (definition_list_bytes offset (rows left (drop at s))) ≡ all
-      → x ≡ sets out to (take (1 + n) (drop at s) ++ bytes_of 8 offset)
-      → sets x (to + 1 + n + 8) (definition_list_bytes (offset + (end - (at + 3 + n))) (rows (left - 1) (drop end s))) ≡ all
-  defined-step out x all to offset e p =
-      let part = take (1 + n) (drop at s) ++ bytes_of 8 offset in
-      let l : length (take (1 + n) (drop at s)) ≡ 1 + n = length-take-le (1 + n) (drop at s)
-      (rw (length-drop at s) (omega (arith, o.ends, o.inside))) in
-      let k : to + length part ≡ to + 1 + n + 8 = simp (length-append, length-bytes_of, l) (omega arith) in
-      sym (sets-append out to part (definition_list_bytes (offset + size) (rows (left - 1) (drop end s))) ∙ rw (k, ← p))
-      ∙ rw (← next-definitions offset) e
+    -- ── Where the definitions end ──
 
-  pub defined-room : (out x : List ℕ) (to offset : ℕ) → length x ≡ length out
-      → to + length (definition_list_bytes offset (rows left (drop at s))) ≤ length out
-      → to + 1 + n + 8 + length (definition_list_bytes (offset + (end - (at + 3 + n))) (rows (left - 1) (drop end s))) ≤ length x
-  defined-room out x to offset p e = omega (arith, definition-length offset)
+    pub ends-step : (x all later : ℕ) → x + length (definition_list_bytes 0 (rows left (drop at s))) ≡ all → left ≡ later + 1
+        → x + 9 + row.name + length (definition_list_bytes 0 (rows later (drop row.end s))) ≡ all
+    ends-step x all later e l =
+        let k : later ≡ left - 1 = omega arith in
+        rw k (omega (arith, definition-length 0, length-definitions (0 + size) 0 (rows (left - 1) (drop row.end s))))
 
-  pub configured-room : (out x : List ℕ) (offset : ℕ) → length x ≡ length out
-      → offset + length (configurations_bytes (rows left (drop at s))) ≤ length out
-      → offset + (end - (at + 3 + n)) + length (configurations_bytes (rows (left - 1) (drop end s))) ≤ length x
-  configured-room out x offset p e = omega (arith, configurations-length)
+    pub ends_more : (x k later : ℕ) → x + 6 * left ≤ 33 + 6 * k + at → left ≡ later + 1 → x + 9 + row.name + 6 * later ≤ 33 + 6 * k + row.end
+    ends_more x k later e l = omega (arith, o.ends)
 
-  -- ── The configurations ──
+    pub ends-fits : (x k : ℕ) → x + 6 * left ≤ 33 + 6 * k + at → k ≤ 8 → length s * 1 < 2 ^ 63 → Fits w64 (x + 9)
+    ends-fits x k e l b = record { fits = omega (arith, o.ends, o.inside) }
 
-  pub configured-step : (out x all : List ℕ) (to : ℕ) → to + length (configurations_bytes (rows left (drop at s))) ≤ length out
-      → x ≡ copied s (at + 3 + n) out to (end - (at + 3 + n)) → sets out to (configurations_bytes (rows left (drop at s))) ≡ all
-      → sets x (to + (end - (at + 3 + n))) (configurations_bytes (rows (left - 1) (drop end s))) ≡ all
-  configured-step out x all to q p e =
-      let w : x ≡ sets out to configuration = p ∙ copied-there s out (at + 3 + n) to size (omega (arith, o.ends, o.inside))
-      (omega (arith, configurations-length)) in
-      sym (sets-append out to configuration (configurations_bytes (rows (left - 1) (drop end s))) ∙ rw (configuration-length, ← w))
-      ∙ rw (← next-configurations) e
+    pub ends-name-fits : (x k : ℕ) → x + 6 * left ≤ 33 + 6 * k + at → k ≤ 8 → length s * 1 < 2 ^ 63 → Fits w64 (x + 9 + row.name)
+    ends-name-fits x k e l b = record { fits = omega (arith, o.ends, o.inside) }
+
+    -- ── The definitions ──
+
+    pub definition-room : (out : List ℕ) (to offset : ℕ) → to + length (definition_list_bytes offset (rows left (drop at s))) ≤ length out
+        → to + 1 + row.name + 8 ≤ length out
+    definition-room out to offset e = omega (arith, definition-length offset)
+
+    pub to-fits : (out lent : List ℕ) (to offset : ℕ) → to + length (definition_list_bytes offset (rows left (drop at s))) ≤ length out
+        → length out ≡ length lent → length lent < 2 ^ 64 → Fits w64 (to + 1)
+    to-fits out lent to offset e k b = record { fits = omega (arith, definition-length offset) }
+
+    pub to-name-fits : (out lent : List ℕ) (to offset : ℕ) → to + length (definition_list_bytes offset (rows left (drop at s))) ≤ length out
+        → length out ≡ length lent → length lent < 2 ^ 64 → Fits w64 (to + 1 + row.name)
+    to-name-fits out lent to offset e k b = record { fits = omega (arith, definition-length offset) }
+
+    pub to-offset-fits : (out lent : List ℕ) (to offset : ℕ) → to + length (definition_list_bytes offset (rows left (drop at s))) ≤ length out
+        → length out ≡ length lent → length lent < 2 ^ 64 → Fits w64 (to + 1 + row.name + 8)
+    to-offset-fits out lent to offset e k b = record { fits = omega (arith, definition-length offset) }
+
+    pub size_fits : (out lent : List ℕ) (offset : ℕ) → offset + length (configurations_bytes (rows left (drop at s))) ≤ length out
+        → length out ≡ length lent → length lent < 2 ^ 64 → Fits w64 (offset + (row.end - (at + 3 + row.name)))
+    size_fits out lent offset e k b = record { fits = omega (arith, configurations-length) }
+
+    pub defined-step : (out x all : List ℕ) (to offset later : ℕ) → sets out to (definition_list_bytes offset (rows left (drop at s))) ≡ all
+        → x ≡ sets out to (take (1 + row.name) (drop at s) ++ bytes_of 8 offset) → left ≡ later + 1
+        → sets x (to + 1 + row.name + 8) (definition_list_bytes (offset + (row.end - (at + 3 + row.name))) (rows later (drop row.end s))) ≡ all
+    defined-step out x all to offset later e p j =
+        let i : later ≡ left - 1 = omega arith in
+        let part = take (1 + row.name) (drop at s) ++ bytes_of 8 offset in
+        let l : length (take (1 + row.name) (drop at s)) ≡ 1 + row.name = length-take-le (1 + row.name) (drop at s)
+        (rw (length-drop at s) (omega (arith, o.ends, o.inside))) in
+        let k : to + length part ≡ to + 1 + row.name + 8 = simp (length-append, length-bytes_of, l) (omega arith) in
+        rw i (sym (sets-append out to part (definition_list_bytes (offset + size) (rows (left - 1) (drop row.end s))) ∙ rw (k, ← p))
+        ∙ rw (← next-definitions offset) e)
+
+    pub defined-room : (out x : List ℕ) (to offset later : ℕ) → length x ≡ length out → left ≡ later + 1
+        → to + length (definition_list_bytes offset (rows left (drop at s))) ≤ length out
+        → to + 1 + row.name + 8 + length (definition_list_bytes (offset + (row.end - (at + 3 + row.name))) (rows later (drop row.end s))) ≤ length x
+    defined-room out x to offset later p l e =
+        let k : later ≡ left - 1 = omega arith in
+        rw k (omega (arith, definition-length offset))
+
+    pub configured-room : (out x : List ℕ) (offset later : ℕ) → length x ≡ length out → left ≡ later + 1
+        → offset + length (configurations_bytes (rows left (drop at s))) ≤ length out
+        → offset + (row.end - (at + 3 + row.name)) + length (configurations_bytes (rows later (drop row.end s))) ≤ length x
+    configured-room out x offset later p l e =
+        let k : later ≡ left - 1 = omega arith in
+        rw k (omega (arith, configurations-length))
+
+    -- ── The configurations ──
+
+    pub configured-step : (out x all : List ℕ) (to later : ℕ) → to + length (configurations_bytes (rows left (drop at s))) ≤ length out
+        → x ≡ copied s (at + 3 + row.name) out to (row.end - (at + 3 + row.name)) → sets out to (configurations_bytes (rows left (drop at s))) ≡ all
+        → left ≡ later + 1 → sets x (to + (row.end - (at + 3 + row.name))) (configurations_bytes (rows later (drop row.end s))) ≡ all
+    configured-step out x all to later q p e l =
+        let k : later ≡ left - 1 = omega arith in
+        let w : x ≡ sets out to configuration = p ∙ copied-there s out (at + 3 + row.name) to size (omega (arith, o.ends, o.inside))
+        (omega (arith, configurations-length)) in
+        rw k (sym (sets-append out to configuration (configurations_bytes (rows (left - 1) (drop row.end s))) ∙ rw (configuration-length, ← w))
+        ∙ rw (← next-configurations) e)
 
 -- ── Where the rows stop ──
 
@@ -181,7 +192,7 @@ module _ (s : List ℕ) (at left : ℕ) where
   unfolding definition_list_bytes
   ends-done x all h e = omega (arith, rw (rows-done left (drop at s) h) at e)
 
-  pub ends-stop : (x all : ℕ) (r : RowPlace) → 0 < left → r ≡ row_of at (row_name SetUp (drop at s)) → r ≡ Broken
+  pub ends-stop : (x all : ℕ) (r : Option RowPlace) → 0 < left → r ≡ row_of at (row_name SetUp (drop at s)) → r ≡ None
       → x + length (definition_list_bytes 0 (rows left (drop at s))) ≡ all → x ≡ all
   unfolding definition_list_bytes
   ends-stop x all r h f g e = omega (arith, rw (rows-stop left (drop at s) (row-none s at r f g).1) at e)
@@ -191,7 +202,7 @@ module _ (s : List ℕ) (at left : ℕ) where
   unfolding definition_list_bytes
   defined-done out all to offset h e = rw (rows-done left (drop at s) h) at e
 
-  pub defined-stop : (out all : List ℕ) (to offset : ℕ) (r : RowPlace) → 0 < left → r ≡ row_of at (row_name SetUp (drop at s)) → r ≡ Broken
+  pub defined-stop : (out all : List ℕ) (to offset : ℕ) (r : Option RowPlace) → 0 < left → r ≡ row_of at (row_name SetUp (drop at s)) → r ≡ None
       → sets out to (definition_list_bytes offset (rows left (drop at s))) ≡ all → out ≡ all
   unfolding definition_list_bytes
   defined-stop out all to offset r h f g e = rw (rows-stop left (drop at s) (row-none s at r f g).1) at e
@@ -200,7 +211,7 @@ module _ (s : List ℕ) (at left : ℕ) where
   unfolding configurations_bytes flat_map
   configured-done out all to h e = rw (rows-done left (drop at s) h) at e
 
-  pub configured-stop : (out all : List ℕ) (to : ℕ) (r : RowPlace) → 0 < left → r ≡ row_of at (row_name SetUp (drop at s)) → r ≡ Broken
+  pub configured-stop : (out all : List ℕ) (to : ℕ) (r : Option RowPlace) → 0 < left → r ≡ row_of at (row_name SetUp (drop at s)) → r ≡ None
       → sets out to (configurations_bytes (rows left (drop at s))) ≡ all → out ≡ all
   unfolding configurations_bytes flat_map
   configured-stop out all to r h f g e = rw (rows-stop left (drop at s) (row-none s at r f g).1) at e
@@ -225,7 +236,7 @@ set-up-taken : (t : List ℕ) (x : Section) (j : ℕ) → set_up_section t ≡ g
 unfolding row_of
 set-up-taken t x j e =
     let q = set-up-row t x j e in
-    let o = row_read t 0 (length x.name) (0 + j) (Whole (length x.name) (0 + j)) (rw q) refl in
+    let o = row_read t 0 (record { name = length x.name; end = 0 + j }) (row_of 0 (row_name SetUp t)) refl (rw q) in
     let l : length (take o.size (drop (0 + 3 + length x.name) t)) ≡ o.size =
     length-take-le o.size (drop (0 + 3 + length x.name) t)
     (rw (length-drop (0 + 3 + length x.name) t) (omega (arith, o.ends, o.inside))) in
@@ -375,7 +386,8 @@ module _ (s system out : List ℕ) (place n first : ℕ) (h : bad_set_up (sectio
         (omega (arith, count-few s n count h)) first-is) in
         copy-behind out d e (hd ++ cs) 0 place (length system) w (omega arith) fits system 0 (omega arith) copy ∙ ap (sets out 0) p
 
-pub ruleset fronts = (
+pub ruleset laws = (
+  rules,
   ends-step,
   ends_more,
   ends-within,

@@ -1,4 +1,3 @@
 pub mod Front
 pub mod Pieces
-pub mod Laws
 pub mod Outcomes

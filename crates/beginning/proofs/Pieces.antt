@@ -1,5 +1,6 @@
 -- The first piece: its lines of refusal, and its answer.
 -- Assumes nothing.
+use Rattle.std.specs.Prelude.{Result, Ok, Err, ⊤}
 use Prim.Native.Nat.{ℕ, zero, suc, ◌+◌, ◌-◌, ◌^◌, ◌<◌, ◌≤◌}
 use native.Mathlib.Omega.{arith}
 use mathlib.Core.Path.{◌≡◌, refl, ap, sym, ◌∙◌}
@@ -8,7 +9,8 @@ use mathlib.Core.List.{List, [], ◌∷◌}
 use lib.ListN.{length}
 use lib.Seq.{sets}
 use lib.Dec.{ltb}
-use borrow.Author.Tests.{lt-ltb, le-ltb, ltb-false}
+use borrow.Author.Rules.{rules}
+use borrow.Author.Tests.{not-true, not-false, lt-ltb, le-ltb, ltb-false}
 use mir.Syntax.{w64}
 use mir.Val.{Fits}
 use Rattle.number.specs.Number.{read_at}
@@ -21,18 +23,24 @@ use Rattle.layout.proofs.Lines.{line-pass, line-holds, line_clear}
 use Rattle.layout.proofs.Orders.{no_lines}
 use Rattle.layout.proofs.Fronts.{length_front}
 use Rattle.layout.proofs.Outputs.{filled_is}
-use Rattle.refusal.specs.Refusal.{placed, plain}
+use Rattle.refusal.specs.Refusal.{placed, unless}
 use Rattle.refusal.specs.declared.Refusal.{Refusal}
+use Rattle.refusal.specs.declared.Refusal.TheVariants as refused
 use Rattle.setup.specs.SetUp.{list_refusal, list_refused, system_refusal, system_refused}
 use Rattle.beginning.specs.Front.{table_start}
-use Rattle.beginning.specs.Pieces.{piece_refusal, piece_refused, made, piece_by, first_piece_of, refusal_of}
-use Rattle.beginning.specs.declared.FirstPiece.{FirstPiece}
-use Rattle.beginning.specs.declared.FirstPiece.TheVariants.{Written, Refused}
+use Rattle.beginning.specs.Pieces.{piece_refusal, piece_refused, made, written, piece_by, first_piece_of}
 use Rattle.setup.proofs.SetUp.{legal-list, sections-count}
 
--- a refusal's number, whatever its place
-pub placed-number : (n : Refusal) (m p : ℕ) → n ≡ placed m p → n.number ≡ m
-placed-number n m p e = ap (λ (x : Refusal). x.number) e
+-- what is refused with no number is not refused, and the other way
+pub unless-ok : {A : Type 0} (n p : ℕ) (x y : A) → unless n p x ≡ Ok y → n ≡ 0
+unfolding unless
+unless-ok zero p x y e = refl
+unless-ok (suc n) p x y e = let z : ◌≡◌ {A = ℕ} 0 1 = cc in absurd (omega arith)
+
+pub unless-err : {A : Type 0} (n p : ℕ) (x : A) (r : Refusal) → unless n p x ≡ Err r → (m : ℕ) × (n ≡ suc m) × (r ≡ placed n p)
+unfolding unless
+unless-err zero p x r e = let z : ◌≡◌ {A = ℕ} 0 1 = cc in absurd (omega arith)
+unless-err (suc n) p x r e = (n, refl, cc)
 
 first-length : (s system : List ℕ) → length (first_piece s system) ≡ table_start (sections_of s) + length system
 unfolding first_piece table_start
@@ -60,35 +68,31 @@ module _ (s system : List ℕ) (notes room : ℕ) where
   unfolding piece_refusal
   piece-lines = rw (first-length s system)
 
-  -- a number that no place goes with
-  no_place : (n : ℕ) → piece_refusal s system notes room ≡ n → begin_place n s system ≡ 0 → plain n ≡ piece_refused s system notes room
-  unfolding piece_refused
-  no_place n e f = rw (e, f)
-
   -- the list's own numbers come first
-  pub piece-listed : (n : Refusal) → n ≡ list_refused s → (n.number ≡ 0 → ⊥) → n ≡ piece_refused s system notes room
+  pub piece-listed : (l r : Result ⊤ Refusal) (x : Refusal) → l ≡ list_refused s → l ≡ Err x → r ≡ Err x → r ≡ piece_refused s system notes room
   unfolding list_refused list_refusal piece_refused begin_place
-  piece-listed n e h = go (is_bad (exactly set_up_list s)) (bad_set_up (sections_of s)) refl refl
+  piece-listed l r x e h k = k ∙ go (is_bad (exactly set_up_list s)) (bad_set_up (sections_of s)) refl refl
     where
-      go : (x y : Bool) → is_bad (exactly set_up_list s) ≡ x → bad_set_up (sections_of s) ≡ y → n ≡ piece_refused s system notes room
-      go true y f g =
+      go : (y z : Bool) → is_bad (exactly set_up_list s) ≡ y → bad_set_up (sections_of s) ≡ z → Err x ≡ piece_refused s system notes room
+      go true z f g =
           let a : list_refusal s ≡ 10 = line-holds 10 _ _ f in
           let b : piece_refusal s system notes room ≡ 10 = sym piece-lines ∙ line-holds 10 _ _ f in
-          e ∙ rw (a, b)
+          sym h ∙ e ∙ rw (a, b)
       go false true f g =
           let a : list_refusal s ≡ 3 = line-pass 10 _ _ f ∙ line-holds 3 _ _ g in
           let b : piece_refusal s system notes room ≡ 3 = sym piece-lines ∙ line-pass 10 _ _ f ∙ line-holds 3 _ _ g in
-          e ∙ rw (a, b)
+          sym h ∙ e ∙ rw (a, b)
       go false false f g =
           let a : list_refusal s ≡ 0 = line-pass 10 _ _ f ∙ line-pass 3 _ _ g ∙ no_lines in
-          absurd (h (placed-number n _ _ e ∙ a))
+          let (m, n, o) = unless-err (list_refusal s) _ _ x (sym e ∙ h) in
+          absurd (omega arith)
 
   -- the set-up list is complete and legal
-  module _ (n : Refusal) (ne : n ≡ list_refused s) (nh : n.number ≡ 0) where
+  module _ (l : Result ⊤ Refusal) (u : ⊤) (le : l ≡ list_refused s) (lh : l ≡ Ok u) where
     passed : (is_bad (exactly set_up_list s) ≡ false) × (bad_set_up (sections_of s) ≡ false)
     unfolding list_refused list_refusal
     passed =
-        let b = line_clear 9 (is_bad (exactly set_up_list s)) (line 3 (bad_set_up (sections_of s)) ∷ []) (sym (placed-number n _ _ ne) ∙ nh) in
+        let b = line_clear 9 (is_bad (exactly set_up_list s)) _ (unless-ok (list_refusal s) _ _ u (sym le ∙ lh)) in
         let c = line_clear 2 (bad_set_up (sections_of s)) [] b.1 in
         (b.0, c.0)
 
@@ -100,52 +104,54 @@ module _ (s system : List ℕ) (notes room : ℕ) where
         ∙ piece-lines
 
     -- what the system table is refused with
-    module _ (x : Refusal) (xe : x ≡ system_refused system) where
-      pub piece-table : (x.number ≡ 0 → ⊥) → x ≡ piece_refused s system notes room
+    module _ (t : Result ⊤ Refusal) (te : t ≡ system_refused system) where
+      pub piece-table : (r : Result ⊤ Refusal) (x : Refusal) → t ≡ Err x → r ≡ Err x → r ≡ piece_refused s system notes room
       unfolding system_refused system_refusal piece_refused begin_place
-      piece-table h = go (is_bad (exactly table system)) refl
+      piece-table r x h k = k ∙ go (is_bad (exactly table system)) refl
         where
-          go : (y : Bool) → is_bad (exactly table system) ≡ y → x ≡ piece_refused s system notes room
+          go : (y : Bool) → is_bad (exactly table system) ≡ y → Err x ≡ piece_refused s system notes room
           go true f =
               let a : system_refusal system ≡ 4 = line-holds 4 _ _ f in
               let b : piece_refusal s system notes room ≡ 4 = sym onward4 ∙ line-holds 4 _ _ f in
-              xe ∙ rw (a, b)
+              sym h ∙ te ∙ rw (a, b)
           go false f =
               let a : system_refusal system ≡ 0 = line-pass 4 _ _ f ∙ no_lines in
-              absurd (h (placed-number x _ _ xe ∙ a))
+              let (m, n, o) = unless-err (system_refusal system) _ _ x (sym te ∙ h) in
+              absurd (omega arith)
 
-      -- the system table is a table
-      module _ (xh : x.number ≡ 0) where
-        onward9 : first_of lines9 ≡ piece_refusal s system notes room
+      -- the system table is a table: what is left is the room
+      module _ (w : ⊤) (h : t ≡ Ok w) where
+        room-alone : first_of lines9 ≡ piece_refusal s system notes room
         unfolding system_refused system_refusal
-        onward9 = sym (line-pass 4 (is_bad (exactly table system)) lines9 (line_clear 3 (is_bad (exactly table system)) []
-            (sym (placed-number x _ _ xe) ∙ xh)).0) ∙ onward4
+        room-alone =
+            sym (line-pass 4 (is_bad (exactly table system)) lines9 (line_clear 3 (is_bad (exactly table system)) []
+            (unless-ok (system_refusal system) _ _ w (sym te ∙ h))).0) ∙ onward4
 
-        no_room : short ≡ true → plain 9 ≡ piece_refused s system notes room
-        unfolding begin_place
-        no_room h = no_place 9 (sym onward9 ∙ line-holds 9 short [] h) refl
+        no_room : short ≡ true → Err refused.NoRoom ≡ piece_refused s system notes room
+        unfolding piece_refused begin_place unless
+        no_room e =
+            let n : piece_refusal s system notes room ≡ 9 = sym room-alone ∙ line-holds 9 short [] e in
+            rw n
 
-        by-room : room < start + length system → plain 9 ≡ piece_refused s system notes room
-        by-room h = no_room (or_left (ltb room (start + length system)) (ltb notes 4) (lt-ltb room (start + length system) h))
+        by-room : room < start + length system → Err refused.NoRoom ≡ piece_refused s system notes room
+        by-room e = no_room (or_left (ltb room (start + length system)) (ltb notes 4) (lt-ltb room (start + length system) e))
 
-        pub piece-no-room : room < length system → plain 9 ≡ piece_refused s system notes room
-        piece-no-room h = by-room (omega arith)
+        pub piece-no-room : room < length system → Err refused.NoRoom ≡ piece_refused s system notes room
+        piece-no-room e = by-room (omega arith)
 
-        pub piece-less-room : (p : ℕ) → p ≡ table_start (sections_of s) → room - length system < p → plain 9 ≡ piece_refused s system notes room
-        piece-less-room p e h = by-room (omega arith)
+        pub piece-less-room : (p : ℕ) → p ≡ table_start (sections_of s) → room - length system < p → Err refused.NoRoom ≡ piece_refused s system notes room
+        piece-less-room p e k = by-room (omega arith)
 
-        pub piece-notes : notes < 4 → plain 9 ≡ piece_refused s system notes room
-        piece-notes h = no_room (or_right (ltb room (start + length system)) (ltb notes 4) (lt-ltb notes 4 h))
+        pub piece-notes : notes < 4 → Err refused.NoRoom ≡ piece_refused s system notes room
+        piece-notes e = no_room (or_right (ltb room (start + length system)) (ltb notes 4) (lt-ltb notes 4 e))
 
         pub piece-taken : (p : ℕ) → p ≡ table_start (sections_of s) → length system ≤ room → p ≤ room - length system → 4 ≤ notes
-            → plain 0 ≡ piece_refused s system notes room
-        unfolding begin_place
-        piece-taken p e l k i =
-            no_place 0
-            (sym onward9
-            ∙ line-pass 9 short [] (not-or (ltb room (start + length system)) (ltb notes 4) (le-ltb room (start + length system) (omega arith))
-            (le-ltb notes 4 i)) ∙ no_lines)
-            refl
+            → Ok tt ≡ piece_refused s system notes room
+        unfolding piece_refused unless
+        piece-taken p e k i o =
+            let b : short ≡ false = not-or (ltb room (start + length system)) (ltb notes 4) (le-ltb room (start + length system) (omega arith)) (le-ltb notes 4 o) in
+            let n : piece_refusal s system notes room ≡ 0 = sym room-alone ∙ line-pass 9 short [] b ∙ no_lines in
+            rw n
 
 -- what is known where no number is given
 pub record Writable (s system : List ℕ) (notes room : ℕ) : Type 0 where
@@ -164,70 +170,45 @@ writable s system notes room e =
 
 -- ── What is answered ──
 
-module _ (s system : List ℕ) (notes room : ℕ) (n : Refusal) (e : n ≡ piece_refused s system notes room) where
-  pub piece-number : n.number ≡ piece_refusal s system notes room
-  unfolding piece_refused
-  piece-number = placed-number n _ _ e
+module _ (s system : List ℕ) (notes room : ℕ) (r : Result ⊤ Refusal) (e : r ≡ piece_refused s system notes room) where
+  module _ (u : ⊤) (h : r ≡ Ok u) where
+    none : piece_refusal s system notes room ≡ 0
+    unfolding piece_refused
+    none = unless-ok (piece_refusal s system notes room) _ _ u (sym e ∙ h)
 
-module _ (s system : List ℕ) (notes room : ℕ) (n : Refusal) (e : n ≡ piece_refused s system notes room) (h : n.number ≡ 0) where
-  can : Writable s system notes room
-  can = writable s system notes room (sym (piece-number s system notes room n e) ∙ h)
+    can : Writable s system notes room
+    can = writable s system notes room none
 
-  pub piece-legal : bad_set_up (sections_of s) ≡ false
-  piece-legal = can.legal
+    pub piece-legal : bad_set_up (sections_of s) ≡ false
+    piece-legal = can.legal
 
-  pub piece-fits : (p : ℕ) → p ≡ table_start (sections_of s) → room < 2 ^ 64 → Fits w64 (p + length system)
-  piece-fits p f b = let k = can.fits in record { fits = omega arith }
+    pub piece-fits : (p : ℕ) → p ≡ table_start (sections_of s) → room < 2 ^ 64 → Fits w64 (p + length system)
+    piece-fits p f b = let k = can.fits in record { fits = omega arith }
 
-  pub piece-room : (p : ℕ) → p ≡ table_start (sections_of s) → p + length system ≤ room
-  piece-room p f = let k = can.fits in omega arith
+    pub piece-room : (p : ℕ) → p ≡ table_start (sections_of s) → p + length system ≤ room
+    piece-room p f = let k = can.fits in omega arith
 
-pub piece-refused : (s system out : List ℕ) (notes : ℕ) (n : Refusal) → n ≡ piece_refused s system notes (length out) → (n.number ≡ 0 → ⊥)
-    → made (Refused n) out ≡ first_piece_of s system notes out
-unfolding first_piece_of piece_by piece_refused
-piece-refused s system out notes n e h = go (piece_refusal s system notes (length out)) e
-  where
-    go : (m : ℕ) → n ≡ placed m (begin_place m s system) → made (Refused n) out ≡ piece_by m s system out
-    go zero f = absurd (h (placed-number n _ _ f))
-    go (suc m) f = rw f
+module _ (s system out : List ℕ) (notes : ℕ) (r : Result ⊤ Refusal) (e : r ≡ piece_refused s system notes (length out)) where
+  pub piece-refused : (x : Refusal) → r ≡ Err x → made (Err x) out ≡ first_piece_of s system notes out
+  unfolding first_piece_of piece_by piece_refused
+  piece-refused x h = go (piece_refusal s system notes (length out)) (sym e ∙ h)
+    where
+      go : (m : ℕ) → unless m (begin_place m s system) (tt {0}) ≡ Err x → made (Err x) out ≡ piece_by m s system out
+      go zero f = let (m, n, o) = unless-err 0 _ _ x f in absurd (omega arith)
+      go (suc m) f = let (k, n, o) = unless-err (suc m) _ _ x f in rw o
 
-pub piece-written : (s system out v : List ℕ) (notes place count : ℕ) (n : Refusal) → n ≡ piece_refused s system notes (length out)
-    → n.number ≡ 0 → place ≡ table_start (sections_of s) → v ≡ sets out 0 (first_piece s system) → count ≡ read_at s 0 1
-    → made (Written count (place + length system)) v ≡ first_piece_of s system notes out
-unfolding first_piece_of piece_by
-piece-written s system out v notes place count n e h p y c =
-    let z : piece_refusal s system notes (length out) ≡ 0 = sym (piece-number s system notes (length out) n e) ∙ h in
-    let k = writable s system notes (length out) z in
-    let i : place + length system ≡ length (first_piece s system) = ap (λ (x : ℕ). x + length system) p ∙ sym (first-length s system) in
-    rw (
-      z,
-      i,
-      sections-count s count (legal-list s k.legal).whole c,
-      y
-          ∙ filled_is out (first_piece s system) (omega (arith, first-length s system, k.fits)),
-    )
+  pub piece-written : (u : ⊤) (v : List ℕ) (place count : ℕ) → r ≡ Ok u → place ≡ table_start (sections_of s) → v ≡ sets out 0 (first_piece s system)
+      → count ≡ read_at s 0 1 → made (written count (place + length system)) v ≡ first_piece_of s system notes out
+  unfolding first_piece_of piece_by
+  piece-written u v place count h p y c =
+      let k = can s system notes (length out) r e u h in
+      let i : place + length system ≡ length (first_piece s system) = ap (λ (x : ℕ). x + length system) p ∙ sym (first-length s system) in
+      rw (
+        none s system notes (length out) r e u h,
+        i,
+        sections-count s count (legal-list s k.legal).whole c,
+        y
+            ∙ filled_is out (first_piece s system) (omega (arith, first-length s system, k.fits)),
+      )
 
-pub none-refused : (r : FirstPiece) (sections len : ℕ) → r ≡ Written sections len → plain 0 ≡ refusal_of r
-unfolding refusal_of
-none-refused r sections len e = rw e
-
-pub refused-so : (r : FirstPiece) (n : Refusal) → r ≡ Refused n → n ≡ refusal_of r
-unfolding refusal_of
-refused-so r n e = rw e
-
-pub ruleset pieces = (
-  piece-listed,
-  list-legal,
-  piece-table,
-  piece-no-room,
-  piece-less-room,
-  piece-notes,
-  piece-taken,
-  piece-legal,
-  piece-fits,
-  piece-room,
-  piece-refused,
-  piece-written,
-  none-refused,
-  refused-so,
-)
+pub ruleset laws = (rules, not-true, not-false, piece-listed, list-legal, piece-table, piece-no-room, piece-less-room, piece-notes, piece-taken, piece-legal, piece-fits, piece-room, piece-refused, piece-written)

@@ -1,5 +1,5 @@
 // The first piece of a recording, which is everything up to its first frame.
-#![tactic(auto)]
+#![tactic(auto, using(crate::proofs::Front::laws, crate::proofs::Pieces::laws), unfolding(layout::specs::Opening::first_of, layout::specs::Recorder::begin_place, refusal::specs::Refusal::unless, crate::specs::Pieces::piece_refused, crate::specs::Pieces::refusal_of,))]
 
 ghost use Rattle.std.specs.Prelude.{◌≡◌, false, ◌+◌, ◌≤◌, length, take, drop, ◌++◌};
 ghost use Rattle.std.proofs.lemmas.List.Edits.{sets};
@@ -12,7 +12,7 @@ ghost use Rattle.beginning.specs.Pieces.{piece_refused, made, first_piece_of, re
 
 use header::Header;
 use refusal::Refusal;
-use rows::{Row, RowPlace};
+use rows::Row;
 
 // Where the system table stands: a section has six bytes more in the file than in the set-up list.
 fn system_place(setup: &[u8]) -> usize
@@ -29,15 +29,12 @@ fn definitions_end(setup: &[u8], n: usize) -> usize
 {
     let mut end = Header::LENGTH + 1;
     let mut place = 1;
-    let mut left = n;
-    while 0 < left {
-        let row = rows::row_at(setup, place, Row::SetUp);
-        let RowPlace::Whole(name, next) = row else {
+    for _ in 0..n {
+        let Some(row) = rows::row_at(setup, place, Row::SetUp) else {
             return end;
         };
-        end = end + 9 + name;
-        place = next;
-        left -= 1;
+        end = end + 9 + row.name;
+        place = row.end;
     }
     end
 }
@@ -87,17 +84,14 @@ fn write_definitions(setup: &[u8], n: usize, first: usize, out: &mut [u8])
     let mut offset = first;
     let mut to = Header::LENGTH + 1;
     let mut place = 1;
-    let mut left = n;
-    while 0 < left {
-        let row = rows::row_at(setup, place, Row::SetUp);
-        let RowPlace::Whole(name, next) = row else {
+    for _ in 0..n {
+        let Some(row) = rows::row_at(setup, place, Row::SetUp) else {
             return;
         };
-        write_definition(setup, place, name, offset, out, to);
-        to = to + 1 + name + 8;
-        offset += next - (place + 3 + name);
-        place = next;
-        left -= 1;
+        write_definition(setup, place, row.name, offset, out, to);
+        to = to + 1 + row.name + 8;
+        offset += row.end - (place + 3 + row.name);
+        place = row.end;
     }
 }
 
@@ -108,18 +102,15 @@ fn write_configurations(setup: &[u8], n: usize, first: usize, out: &mut [u8])
 {
     let mut to = first;
     let mut place = 1;
-    let mut left = n;
-    while 0 < left {
-        let row = rows::row_at(setup, place, Row::SetUp);
-        let RowPlace::Whole(name, next) = row else {
+    for _ in 0..n {
+        let Some(row) = rows::row_at(setup, place, Row::SetUp) else {
             return;
         };
-        let start = place + 3 + name;
-        let size = next - start;
+        let start = place + 3 + row.name;
+        let size = row.end - start;
         parts::copy(setup, start, out, to, size);
         to += size;
-        place = next;
-        left -= 1;
+        place = row.end;
     }
 }
 
@@ -145,63 +136,53 @@ fn write_front(setup: &[u8], system: &[u8], place: usize, out: &mut [u8])
     parts::copy(system, 0, out, place, system.len());
 }
 
-// The first piece of a recording: how many sections it defines, and its length, which stands at the start of the lent output; or the refusal.
-#[derive(Clone, Copy)]
-pub enum FirstPiece {
-    Written { sections: usize, length: usize },
-    Refused(Refusal),
+// The first piece of a recording: how many sections it defines, and its length, which stands at the start of the lent output.
+#[derive(Clone, Copy, Debug, PartialEq, Eq)]
+pub struct FirstPiece {
+    pub sections: usize,
+    pub length: usize,
 }
 
 // 10, 3, 4, 9, the first three with their places. `notes` and `room` are the lengths of what is lent.
-fn refusal_of(setup: &[u8], system: &[u8], notes: usize, room: usize) -> Refusal
+fn refusal_of(setup: &[u8], system: &[u8], notes: usize, room: usize) -> Result<(), Refusal>
     ensures { result ≡ piece_refused setup.now system.now notes room }
 {
-    let refused = setup::list_refusal(setup);
-    if refused.number != 0 {
-        return refused;
-    }
-    let table = setup::system_refusal(system);
-    if table.number != 0 {
-        return table;
-    }
+    setup::list_refusal(setup)?;
+    setup::system_refusal(system)?;
     if room < system.len() {
-        return Refusal::NO_ROOM;
+        return Err(Refusal::NoRoom);
     }
     if room - system.len() < system_place(setup) {
-        return Refusal::NO_ROOM;
+        return Err(Refusal::NoRoom);
     }
     if notes < 4 {
-        return Refusal::NO_ROOM;
+        return Err(Refusal::NoRoom);
     }
-    Refusal::NONE
+    Ok(())
 }
 
 // What a begin call does behind its stage; `notes` is the number of bytes that are lent for notes.
-pub fn first_piece(setup: &[u8], system: &[u8], notes: usize, out: &mut [u8]) -> FirstPiece
+pub fn first_piece(
+    setup: &[u8],
+    system: &[u8],
+    notes: usize,
+    out: &mut [u8],
+) -> Result<FirstPiece, Refusal>
     ensures { made result out.new ≡ first_piece_of setup.now system.now notes out.old }
 {
-    let refused = refusal_of(setup, system, notes, out.len());
-    if refused.number != 0 {
-        return FirstPiece::Refused(refused);
-    }
+    refusal_of(setup, system, notes, out.len())?;
     let place = system_place(setup);
     let length = place + system.len();
     write_front(setup, system, place, out);
-    FirstPiece::Written {
+    Ok(FirstPiece {
         sections: setup::count_of(setup),
         length,
-    }
+    })
 }
 
 // What a first piece is refused with.
-pub fn piece_refusal(piece: FirstPiece) -> Refusal
+pub fn piece_refusal(piece: Result<FirstPiece, Refusal>) -> Option<Refusal>
     ensures { result ≡ refusal_of piece }
 {
-    match piece {
-        FirstPiece::Written {
-            sections: _,
-            length: _,
-        } => Refusal::NONE,
-        FirstPiece::Refused(refusal) => refusal,
-    }
+    piece.err()
 }

@@ -1,6 +1,7 @@
 -- What the functions over card blocks answer.
 -- Assumes nothing.
-use Prim.Native.Nat.{ℕ, zero, suc, ◌+◌, ◌*◌, ◌-◌, ◌%◌, ◌^◌, ◌<◌, ◌≤◌}
+use Rattle.std.specs.Prelude.{Option, Some, None}
+use Prim.Native.Nat.{ℕ, zero, suc, ◌+◌, ◌-◌, ◌%◌, ◌^◌, ◌<◌, ◌≤◌}
 use native.Mathlib.Omega.{arith}
 use native.Mathlib.Nat.{add-zero}
 use mathlib.Core.Path.{◌≡◌, refl, ap, sym, ◌∙◌, subst}
@@ -12,7 +13,7 @@ use lib.Seq.{drop-drop, take-add, get_or-drop}
 use lib.Dec.{leb, eqb}
 use borrow.Author.Rules.{rules}
 use borrow.Author.Tests.{leb-true, eqb-true, eq-eqb, ne_eqb}
-use mir.Syntax.{w8, w64}
+use mir.Syntax.{w8}
 use mir.Val.{Fits}
 use Rattle.number.specs.Number.{bytes_of, has, read_at}
 use Rattle.number.proofs.Bytes.{both_true, slice-bytes, part-long}
@@ -26,30 +27,6 @@ use Rattle.parts.proofs.Same.{same-append, same_number}
 use Rattle.blocks.specs.Blocks.{align_name, block_of, legal_align, gap, gap_by, zeros_at, start_behind, start_at, is_align_name, block_at}
 
 -- ── Alignments ──
-
-pub close-legal : (a : ℕ) → a ≡ 1 → true ≡ legal_align a
-unfolding legal_align
-close-legal a e = rw e
-
-pub small-legal : (a : ℕ) → (a ≡ 1 → ⊥) → a ≡ 512 → true ≡ legal_align a
-unfolding legal_align
-small-legal a n e = rw e
-
-pub large-legal : (a : ℕ) → (a ≡ 1 → ⊥) → (a ≡ 512 → ⊥) → eqb a 4096 ≡ legal_align a
-unfolding legal_align
-large-legal a n m = rw (ne_eqb a 1 n, ne_eqb a 512 m)
-
-pub gap-small : (a at : ℕ) → a ≡ 512 → (512 - at % 512) % 512 ≡ gap_by a at
-unfolding gap_by gap
-gap-small a at e = rw e
-
-pub gap-large : (a at : ℕ) → (a ≡ 512 → ⊥) → a ≡ 4096 → (4096 - at % 4096) % 4096 ≡ gap_by a at
-unfolding gap_by gap
-gap-large a at n e = rw e
-
-pub gap_other : (a at : ℕ) → (a ≡ 512 → ⊥) → (a ≡ 4096 → ⊥) → 0 ≡ gap_by a at
-unfolding gap_by
-gap_other a at n m = rw (ne_eqb a 512 n, ne_eqb a 4096 m)
 
 -- the gap of an alignment that there is, is the layout's
 pub gap_is : (a at : ℕ) → legal_align a ≡ true → gap_by a at ≡ gap a at
@@ -72,18 +49,6 @@ gap-few a at = go (eqb a 512) (eqb a 4096)
     go false false = omega arith
 
 -- ── Zeros ──
-
-pub zeros-short : (s : List ℕ) (at n : ℕ) → length s < n → false ≡ zeros_at s at n
-unfolding zeros_at
-zeros-short s at n h = rw (not_there s at n (omega arith))
-
-pub zeros-far : (s : List ℕ) (at n : ℕ) → n ≤ length s → length s - n < at → false ≡ zeros_at s at n
-unfolding zeros_at
-zeros-far s at n h k = rw (not_there s at n (omega arith))
-
-pub zeros-none : (s : List ℕ) (at n : ℕ) → n ≤ length s → at ≤ length s - n → n ≡ 0 → true ≡ zeros_at s at n
-unfolding zeros_at same
-zeros-none s at n h k e = rw (there s at n (omega arith), e)
 
 -- a run of bytes begins with one that is no zero
 not_zeros : (n : ℕ) (t : List ℕ) → 0 < n → n ≤ length t → (get_or t 0 0 ≡ 0 → ⊥) → same (replicate n 0) (take n t) ≡ false
@@ -130,23 +95,6 @@ zeros-run s at n r h k p d e =
 
 -- ── Where a frame may start ──
 
-pub start-here : (s : List ℕ) (at a n : ℕ) → n ≡ gap_by a at → n ≡ 0 → at ≡ start_at s at a
-unfolding start_at start_behind
-start-here s at a n e z = rw (sym e ∙ z)
-
-start-behind : (s : List ℕ) (at n : ℕ) → (n ≡ 0 → ⊥) → start_behind s at n ≡ cond (zeros_at s at n) (at + n) (length s)
-unfolding start_behind
-start-behind s at zero h = absurd (h refl)
-start-behind s at (suc n) h = refl
-
-pub start-next : (s : List ℕ) (at a n : ℕ) (z : Bool) → n ≡ gap_by a at → (n ≡ 0 → ⊥) → z ≡ zeros_at s at n → z ≡ true → at + n ≡ start_at s at a
-unfolding start_at
-start-next s at a n z e h f t = rw (← e, start-behind s at n h, ← f, t)
-
-pub start_none : (s : List ℕ) (at a n : ℕ) (z : Bool) → n ≡ gap_by a at → (n ≡ 0 → ⊥) → z ≡ zeros_at s at n → z ≡ false → length s ≡ start_at s at a
-unfolding start_at
-start_none s at a n z e h f t = rw (← e, start-behind s at n h, ← f, t)
-
 -- zeros that stand there
 pub zeros-parts : (s : List ℕ) (at n : ℕ) → zeros_at s at n ≡ true → (at + n ≤ length s) × (same (replicate n 0) (take n (drop at s)) ≡ true)
 unfolding zeros_at
@@ -170,9 +118,6 @@ start-in s at a l = go (gap_by a at)
         pick true e = (zeros-parts s at (suc n) e).0
         pick false e = omega arith
 
-pub first-mark-fits : (s : List ℕ) (a at mark : ℕ) → length s * 1 < 2 ^ 63 → at ≤ length s → mark ≡ start_at s at a → Fits w64 (mark + 4)
-first-mark-fits s a at mark h l e = let i = start-in s at a l in record { fits = omega arith }
-
 -- ── The tag ──
 
 -- no bytes of one length are those of another
@@ -192,14 +137,6 @@ name-other s at n h = go (le-or-lt (at + n) (length s))
         let m : length (take n (drop at s)) ≡ n = part-long s at n l in
         rw (other_length (take n (drop at s)) align_name (λ e. h (sym m ∙ e)), and-false (has s at n))
     go (inr l) = rw (not_there s at n l)
-
-pub name-short : (s : List ℕ) (at n : ℕ) → n ≡ 11 → length s < 11 → false ≡ is_align_name s at n
-unfolding is_align_name
-name-short s at n e h = rw (not_there s at n (omega arith))
-
-pub name-far : (s : List ℕ) (at n : ℕ) → n ≡ 11 → 11 ≤ length s → length s - 11 < at → false ≡ is_align_name s at n
-unfolding is_align_name
-name-far s at n e h k = rw (not_there s at n (omega arith))
 
 -- the name by two numbers
 name-numbers : (s : List ℕ) (at : ℕ) → ((k : ℕ) → Fits w8 (get_or s k 0)) → at + 11 ≤ length s
@@ -225,12 +162,6 @@ name-second s at n x y b e h k p d q = rw (e, name-numbers s at b (omega arith),
 
 -- ── Its value ──
 
-pub said-it : (v k b : ℕ) → v ≡ k → b ≡ cond (eqb v k) b 0
-said-it v k b e = rw (eq-eqb v k e)
-
-pub said-other : (v k b : ℕ) → (v ≡ k → ⊥) → 0 ≡ cond (eqb v k) b 0
-said-other v k b e = rw (ne_eqb v k e)
-
 -- what the value of w bytes says, w being the number of bytes that say this block
 value-says : (w : ℕ) (s : List ℕ) (at k : ℕ) → ((k : ℕ) → Fits w8 (get_or s k 0)) → w ≤ 8 → k < 256 ^ w → at + w ≤ length s
     → same (take w (drop at s)) (bytes_of w k) ≡ eqb (read_at s at w) k
@@ -242,43 +173,43 @@ not-read : (w : ℕ) (s : List ℕ) (at : ℕ) → length s < at + w → read_at
 unfolding read_at
 not-read w s at h = rw (not_there s at w h, and-false (leb w 8))
 
-block-small : (s : List ℕ) (at : ℕ) → ((k : ℕ) → Fits w8 (get_or s k 0)) → cond (eqb (read_at s at 3) 0x323135) 512 0 ≡ block_at s at 3
+block-small : (s : List ℕ) (at : ℕ) → ((k : ℕ) → Fits w8 (get_or s k 0)) → cond (eqb (read_at s at 3) 0x323135) (Some 512) None ≡ block_at s at 3
 unfolding block_at block_of
 block-small s at b = go (le-or-lt (at + 3) (length s))
   where
     five : bytes_of 3 0x323135 ≡ 53 ∷ 49 ∷ 50 ∷ []
     five = unfold bytes_of in refl
 
-    go : (at + 3 ≤ length s) ⊎ (length s < at + 3) → cond (eqb (read_at s at 3) 0x323135) 512 0 ≡ block_at s at 3
+    go : (at + 3 ≤ length s) ⊎ (length s < at + 3) → cond (eqb (read_at s at 3) 0x323135) (Some 512) None ≡ block_at s at 3
     go (inl l) =
         let n : length (take 3 (drop at s)) ≡ 3 = part-long s at 3 l in
         rw (there s at 3 l, ← five, value-says 3 s at 0x323135 b (omega arith) (omega arith) l, other_length (take 3 (drop at s)) (52 ∷ 48 ∷ 57 ∷ 54 ∷ []) (λ e. omega arith))
     go (inr l) = rw (not_there s at 3 l, not-read 3 s at l)
 
-block-large : (s : List ℕ) (at : ℕ) → ((k : ℕ) → Fits w8 (get_or s k 0)) → cond (eqb (read_at s at 4) 0x36393034) 4096 0 ≡ block_at s at 4
+block-large : (s : List ℕ) (at : ℕ) → ((k : ℕ) → Fits w8 (get_or s k 0)) → cond (eqb (read_at s at 4) 0x36393034) (Some 4096) None ≡ block_at s at 4
 unfolding block_at block_of
 block-large s at b = go (le-or-lt (at + 4) (length s))
   where
     four : bytes_of 4 0x36393034 ≡ 52 ∷ 48 ∷ 57 ∷ 54 ∷ []
     four = unfold bytes_of in refl
 
-    go : (at + 4 ≤ length s) ⊎ (length s < at + 4) → cond (eqb (read_at s at 4) 0x36393034) 4096 0 ≡ block_at s at 4
+    go : (at + 4 ≤ length s) ⊎ (length s < at + 4) → cond (eqb (read_at s at 4) 0x36393034) (Some 4096) None ≡ block_at s at 4
     go (inl l) =
         let n : length (take 4 (drop at s)) ≡ 4 = part-long s at 4 l in
         rw (there s at 4 l, other_length (take 4 (drop at s)) (53 ∷ 49 ∷ 50 ∷ []) (λ e. omega arith), ← four, value-says 4 s at 0x36393034 b (omega arith) (omega arith) l)
     go (inr l) = rw (not_there s at 4 l, not-read 4 s at l)
 
-pub block-three : (s : List ℕ) (at n x r : ℕ) → ((k : ℕ) → Fits w8 (get_or s k 0)) → n ≡ 3 → x ≡ read_at s at 3 → r ≡ cond (eqb x 0x323135) 512 0 → r ≡ block_at s at n
+pub block-three : (s : List ℕ) (at n x : ℕ) (r : Option ℕ) → ((k : ℕ) → Fits w8 (get_or s k 0)) → n ≡ 3 → x ≡ read_at s at 3 → r ≡ cond (eqb x 0x323135) (Some 512) None → r ≡ block_at s at n
 block-three s at n x r b e p q = q ∙ rw (p, e) (block-small s at b)
 
-pub block-four : (s : List ℕ) (at n x r : ℕ) → ((k : ℕ) → Fits w8 (get_or s k 0)) → n ≡ 4 → x ≡ read_at s at 4 → r ≡ cond (eqb x 0x36393034) 4096 0 → r ≡ block_at s at n
+pub block-four : (s : List ℕ) (at n x : ℕ) (r : Option ℕ) → ((k : ℕ) → Fits w8 (get_or s k 0)) → n ≡ 4 → x ≡ read_at s at 4 → r ≡ cond (eqb x 0x36393034) (Some 4096) None → r ≡ block_at s at n
 block-four s at n x r b e p q = q ∙ rw (p, e) (block-large s at b)
 
-pub block-other : (s : List ℕ) (at n : ℕ) → (n ≡ 3 → ⊥) → (n ≡ 4 → ⊥) → 0 ≡ block_at s at n
+pub block-other : (s : List ℕ) (at n : ℕ) → (n ≡ 3 → ⊥) → (n ≡ 4 → ⊥) → None ≡ block_at s at n
 unfolding block_at block_of
 block-other s at n h k = go (le-or-lt (at + n) (length s))
   where
-    go : (at + n ≤ length s) ⊎ (length s < at + n) → 0 ≡ block_at s at n
+    go : (at + n ≤ length s) ⊎ (length s < at + n) → None ≡ block_at s at n
     go (inl l) =
         let m : length (take n (drop at s)) ≡ n = part-long s at n l in
         rw (there s at n l, other_length (take n (drop at s)) (53 ∷ 49 ∷ 50 ∷ []) (λ e. h (sym m ∙ e)), other_length (take n (drop at s)) (52 ∷ 48 ∷ 57 ∷ 54 ∷ []) (λ e. k (sym m ∙ e)))
@@ -286,28 +217,12 @@ block-other s at n h k = go (le-or-lt (at + n) (length s))
 
 pub ruleset laws = (
   rules,
-  close-legal,
-  small-legal,
-  large-legal,
-  gap-small,
-  gap-large,
-  gap_other,
-  zeros-short,
-  zeros-far,
-  zeros-none,
   zeros-other,
   zeros-run,
-  start-here,
-  start-next,
-  start_none,
   start_fits,
   name-other,
-  name-short,
-  name-far,
   name-first,
   name-second,
-  said-it,
-  said-other,
   block-three,
   block-four,
   block-other,

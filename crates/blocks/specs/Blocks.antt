@@ -1,5 +1,5 @@
 -- Card blocks: the alignments there are, the zeros up to the next block, and where a frame may start behind them.
-use Rattle.std.specs.Prelude.{ℕ, zero, suc, ◌+◌, ◌-◌, ◌%◌, Bool, ◌&&◌, ◌||◌, cond, List, [], ◌∷◌, length, take, drop, replicate, eqb}
+use Rattle.std.specs.Prelude.{ℕ, zero, suc, ◌+◌, ◌-◌, ◌%◌, Bool, ◌&&◌, ◌||◌, cond, List, [], ◌∷◌, length, take, drop, replicate, eqb, Option, Some, None}
 use Rattle.number.specs.Number.{has}
 use Rattle.layout.specs.Recording.{same}
 
@@ -7,8 +7,9 @@ use Rattle.layout.specs.Recording.{same}
 unfoldable pub align_name : List ℕ
 align_name = 70 ∷ 82 ∷ 65 ∷ 77 ∷ 69 ∷ 45 ∷ 65 ∷ 76 ∷ 73 ∷ 71 ∷ 78 ∷ []
 
-unfoldable pub block_of : (value : List ℕ) → ℕ
-block_of v = cond (same v (53 ∷ 49 ∷ 50 ∷ [])) 512 (cond (same v (52 ∷ 48 ∷ 57 ∷ 54 ∷ [])) 4096 0)
+-- the block that a value says, if it says one
+unfoldable pub block_of : (value : List ℕ) → Option ℕ
+block_of v = cond (same v (53 ∷ 49 ∷ 50 ∷ [])) (Some 512) (cond (same v (52 ∷ 48 ∷ 57 ∷ 54 ∷ [])) (Some 4096) None)
 
 unfoldable pub legal_align : ℕ → Bool
 legal_align a = eqb a 1 || eqb a 512 || eqb a 4096
@@ -37,6 +38,6 @@ start_at s at a = start_behind s at (gap_by a at)
 unfoldable pub is_align_name : List ℕ → (at n : ℕ) → Bool
 is_align_name s at n = has s at n && same (take n (drop at s)) align_name
 
--- the block that a value of n bytes at a place says; 0 where it says another, or is not all there
-unfoldable pub block_at : List ℕ → (at n : ℕ) → ℕ
-block_at s at n = cond (has s at n) (block_of (take n (drop at s))) 0
+-- the block that a value of n bytes at a place says; none where it says another, or is not all there
+unfoldable pub block_at : List ℕ → (at n : ℕ) → Option ℕ
+block_at s at n = cond (has s at n) (block_of (take n (drop at s))) None

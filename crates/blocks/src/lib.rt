@@ -1,8 +1,8 @@
 // Frames on card blocks: what the system tag FRAME-ALIGN says, the space up to the next block, and where a frame may start behind it.
-#![tactic(auto)]
+#![tactic(auto, using(crate::proofs::Laws::laws), unfolding(number::specs::Number::has, layout::specs::Recording::same, crate::specs::Blocks::legal_align, crate::specs::Blocks::gap, crate::specs::Blocks::gap_by, crate::specs::Blocks::zeros_at, crate::specs::Blocks::start_at, crate::specs::Blocks::start_behind, crate::specs::Blocks::is_align_name,))]
 
-ghost use Rattle.std.specs.Prelude.{◌≡◌, cond, eqb};
-ghost use Rattle.blocks.specs.Blocks.{legal_align, gap_by, zeros_at, start_at, is_align_name, block_at};
+ghost use Rattle.std.specs.Prelude.{◌≡◌, ◌<◌, cond, eqb, Some, None};
+ghost use Rattle.blocks.specs.Blocks.{legal_align, gap, gap_by, zeros_at, start_at, is_align_name, block_at};
 
 use header::Header;
 
@@ -10,29 +10,30 @@ use header::Header;
 pub fn is_legal(align: u64) -> bool
     ensures { result ≡ legal_align align }
 {
-    if align == 1 {
-        return true;
-    }
-    if align == Header::SMALL_BLOCK as u64 {
-        return true;
-    }
-    align == Header::LARGE_BLOCK as u64
+    align == 1 || align == Header::SMALL_BLOCK as u64 || align == Header::LARGE_BLOCK as u64
 }
 
-// The bytes from a place to the next multiple; none for an alignment that there is not. The two blocks are constants here, so that no division is left.
+// The bytes from a place to the next multiple of a block, which is a constant, so that no division is left.
+fn to_multiple<const BLOCK: usize>(at: usize) -> usize
+    requires { 0 < BLOCK }
+    ensures { result ≡ gap BLOCK at }
+{
+    (BLOCK - at % BLOCK) % BLOCK
+}
+
+// The bytes from a place to the next multiple; none for an alignment that there is not.
 pub fn gap(align: usize, at: usize) -> usize
     ensures { result ≡ gap_by align at }
 {
-    if align == Header::SMALL_BLOCK {
-        return (Header::SMALL_BLOCK - at % Header::SMALL_BLOCK) % Header::SMALL_BLOCK;
+    match align {
+        Header::SMALL_BLOCK => to_multiple::<{ Header::SMALL_BLOCK }>(at),
+        Header::LARGE_BLOCK => to_multiple::<{ Header::LARGE_BLOCK }>(at),
+        _ => 0,
     }
-    if align == Header::LARGE_BLOCK {
-        return (Header::LARGE_BLOCK - at % Header::LARGE_BLOCK) % Header::LARGE_BLOCK;
-    }
-    0
 }
 
-// Whether n bytes stand at a place and all are zeros: the first is, and each is as the one ahead of it.
+// Whether n bytes stand at a place and all are zeros: the first is, and each is as the one ahead of it. So they are compared in blocks, which a chain over
+// single bytes would not be.
 pub fn are_zeros(s: &[u8], at: usize, n: usize) -> bool
     ensures { result ≡ zeros_at s.now at n }
 {
@@ -78,24 +79,19 @@ pub fn is_name(s: &[u8], at: usize, n: usize) -> bool
     if s.len() - 11 < at {
         return false;
     }
-    if number::read(s, at, 8) != Header::ALIGN_NAME {
-        return false;
-    }
-    number::read(s, at + 8, 3) == Header::ALIGN_NAME_END
+    number::read(s, at, 8) == Header::ALIGN_NAME
+        && number::read(s, at + 8, 3) == Header::ALIGN_NAME_END
 }
 
-// A block, where the number of a value is the number that says it; else 0.
-fn said(value: u64, says: u64, block: usize) -> usize
-    ensures { result ≡ cond (eqb value says) block 0 }
+// A block, where the number of a value is the number that says it.
+fn said(value: u64, says: u64, block: usize) -> Option<usize>
+    ensures { result ≡ cond (eqb value says) (Some block) None }
 {
-    if value == says {
-        return block;
-    }
-    0
+    (value == says).then_some(block)
 }
 
-// The block that a value of n bytes at a place says, 512 or 4,096; 0 where it says another, or is not all there.
-pub fn block(s: &[u8], at: usize, n: usize) -> usize
+// The block that a value of n bytes at a place says, 512 or 4,096; none where it says another, or is not all there.
+pub fn block(s: &[u8], at: usize, n: usize) -> Option<usize>
     ensures { result ≡ block_at s.now at n }
 {
     match n {
@@ -109,6 +105,6 @@ pub fn block(s: &[u8], at: usize, n: usize) -> usize
             Header::LARGE_BLOCK_SAID,
             Header::LARGE_BLOCK,
         ),
-        _ => 0,
+        _ => None,
     }
 }

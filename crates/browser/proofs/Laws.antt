@@ -1,5 +1,8 @@
 -- What the functions of this crate leave to be shown, as laws about the definitions.
 -- Assumes nothing.
+use Rattle.std.specs.Prelude.{Option, Some, None, Ok, Err}
+use Rattle.parts.specs.declared.Fault.{Fault}
+use Rattle.refusal.specs.declared.Refusal.TheVariants.{UserTable}
 use Prim.Native.Nat.{ℕ, ◌+◌, ◌<◌, ◌≤◌}
 use native.Mathlib.Omega.{arith}
 use mathlib.Core.Path.{◌≡◌, refl, ap, sym, ◌∙◌}
@@ -20,66 +23,50 @@ use Rattle.rows.specs.Rows.{row_name}
 use Rattle.names.specs.Names.{found, find_name}
 use Rattle.tables.specs.Tables.{tags_of, tag_found}
 use Rattle.rows.specs.declared.Row.TheVariants as row
-use Rattle.tables.specs.declared.Tags.{Tags}
-use Rattle.tables.specs.declared.Tags.TheVariants as tags
 use Rattle.tables.specs.declared.TagFound.{TagFound}
-use Rattle.tables.specs.declared.TagFound.TheVariants as tag_found
 use Rattle.names.specs.declared.NameFound.{NameFound}
-use Rattle.names.specs.declared.NameFound.TheVariants as found
 use Rattle.names.proofs.Readers.{tag-row}
 use Rattle.tables.proofs.Alone.{tags-parts, tags-none}
 use Rattle.tables.proofs.Places.{table-read, tag-found-at, tag-found-past}
 use Rattle.names.proofs.Laws.{find-there}
 use Rattle.names.proofs.Finding.{find-nothing, find_at, number-none, number_at}
-use Rattle.refusal.specs.Refusal.{placed}
-use Rattle.refusal.specs.declared.Refusal.{Refusal}
-use Rattle.browser.specs.Browsing.{browsed_tag, browsed_as}
-use Rattle.browser.specs.declared.Browsed.{Browsed}
-use Rattle.browser.specs.declared.Browsed.TheVariants as browsed
+use Rattle.browser.specs.Browsing.{browsed_as}
 
--- ── A tag that was found ──
-
-pub found-tag : (f : TagFound) (a b c d : ℕ) → f ≡ tag_found.At a b c d → browsed.Tag a b c d ≡ browsed_tag f
-unfolding browsed_tag
-found-tag f a b c d e = rw e
-
-pub found_none : (f : TagFound) → f ≡ tag_found.Nothing → browsed.End ≡ browsed_tag f
-unfolding browsed_tag
-found_none f e = rw e
+-- ── A tag by its number ──
 
 -- tag number i of a legal table, or the end
 found-is : (t : List ℕ) (i m : ℕ) (ts : List Tag) → table t ≡ good ts m
-    → browsed_tag (tag_found t 0 i) ≡ browsed_as (cond (ltb i (length ts)) (tag_at ts i) layout.end)
-unfolding browsed_tag browsed_as tag_at
+    → Ok (tag_found t 0 i) ≡ browsed_as (cond (ltb i (length ts)) (tag_at ts i) layout.end)
+unfolding browsed_as tag_at
 found-is t i m ts e = go (ltb i (length ts)) refl
   where
-    go : (b : Bool) → ltb i (length ts) ≡ b → browsed_tag (tag_found t 0 i) ≡ browsed_as (cond b (tag_at ts i) layout.end)
+    go : (b : Bool) → ltb i (length ts) ≡ b → Ok (tag_found t 0 i) ≡ browsed_as (cond b (tag_at ts i) layout.end)
     go true h = rw (tag-found-at t 0 m i ts e (ltb-true i (length ts) h))
     go false h = rw (tag-found-past t 0 m i ts e (ltb-false i (length ts) h))
 
-pub browse-refused : (t : List ℕ) (i k : ℕ) (r : Tags) (q : Refusal) → r ≡ tags_of (exactly table t) → r ≡ tags.Broken k → q ≡ placed 7 k
-    → browsed.Refused q ≡ browsed_as (browse t i)
+pub browse-refused : (t : List ℕ) (i : ℕ) (f : Fault) → Err f ≡ tags_of (exactly table t) → Err (UserTable f.place) ≡ browsed_as (browse t i)
 unfolding browse browsed_as
-browse-refused t i k r q e f g = rw (tags-none (exactly table t) k (sym e ∙ f), browse, g)
+browse-refused t i f e = rw (tags-none (exactly table t) f (sym e), browse)
 
 browse-is : (t : List ℕ) (ts : List Tag) (m i : ℕ) → exactly table t ≡ good ts m
     → browsed_as (browse t i) ≡ browsed_as (cond (ltb i (length ts)) (tag_at ts i) layout.end)
 unfolding browse
 browse-is t ts m i e = rw (e, browse)
 
-pub browse-found : (t : List ℕ) (i n : ℕ) (r : Tags) (f : TagFound) (b : Browsed) → r ≡ tags_of (exactly table t) → r ≡ tags.Whole n
-    → f ≡ tag_found t 0 i → b ≡ browsed_tag f → b ≡ browsed_as (browse t i)
-browse-found t i n r f b e g h k =
-    let (ts, m, p, q) = tags-parts (exactly table t) n (sym e ∙ g) in
-    k ∙ ap browsed_tag h ∙ found-is t i m ts (exactly-good table t ts m p).0 ∙ sym (browse-is t ts m i p)
+pub browse-found : (t : List ℕ) (i n : ℕ) (f : Option TagFound) → Ok n ≡ tags_of (exactly table t) → f ≡ tag_found t 0 i
+    → Ok f ≡ browsed_as (browse t i)
+browse-found t i n f g h =
+    let (ts, m, p, q) = tags-parts (exactly table t) n (sym g) in
+    ap Ok h ∙ found-is t i m ts (exactly-good table t ts m p).0 ∙ sym (browse-is t ts m i p)
 
-pub named-refused : (t name : List ℕ) (k : ℕ) (r : Tags) (q : Refusal) → r ≡ tags_of (exactly table t) → r ≡ tags.Broken k → q ≡ placed 7 k
-    → browsed.Refused q ≡ browsed_as (tag_named t name)
+-- ── A tag by its name ──
+
+pub named-refused : (t name : List ℕ) (f : Fault) → Err f ≡ tags_of (exactly table t) → Err (UserTable f.place) ≡ browsed_as (tag_named t name)
 unfolding tag_named browsed_as
-named-refused t name k r q e f g = rw (tags-none (exactly table t) k (sym e ∙ f), tag_named, g)
+named-refused t name f e = rw (tags-none (exactly table t) f (sym e), tag_named)
 
 -- the bytes of the whole name
-whole-name : (name t : List ℕ) (n : ℕ) (f : NameFound) → f ≡ find_name name 0 (length name) t 4 n row.Tag → f ≡ found name n (row_name row.Tag) t 0 4
+whole-name : (name t : List ℕ) (n : ℕ) (f : Option NameFound) → f ≡ find_name name 0 (length name) t 4 n row.Tag → f ≡ found name n (row_name row.Tag) t 0 4
 whole-name name t n f e = e ∙ find-there name t 0 (length name) 4 n row.Tag (omega arith)
     ∙ ap (λ (v : List ℕ). found v n (row_name row.Tag) t 0 4) (take-length name)
 
@@ -88,34 +75,33 @@ named-is : (t name : List ℕ) (ts : List Tag) (m i : ℕ) → exactly table t �
 unfolding tag_named
 named-is t name ts m i e f = rw (e, tag_named, f)
 
-pub named_none : (t name : List ℕ) (n : ℕ) (r : Tags) (f : NameFound) → r ≡ tags_of (exactly table t) → r ≡ tags.Whole n
-    → f ≡ find_name name 0 (length name) t 4 n row.Tag → f ≡ found.Nothing → browsed.End ≡ browsed_as (tag_named t name)
+pub named-none : (t name : List ℕ) (n : ℕ) → Ok n ≡ tags_of (exactly table t) → None ≡ find_name name 0 (length name) t 4 n row.Tag
+    → Ok None ≡ browsed_as (tag_named t name)
 unfolding browsed_as tag_names
-named_none t name n r f e g h k =
-    let (ts, m, p, q) = tags-parts (exactly table t) n (sym e ∙ g) in
+named-none t name n g h =
+    let (ts, m, p, q) = tags-parts (exactly table t) n (sym g) in
     table-read t 0 m ts (exactly-good table t ts m p).0 (λ j l o w u.
     let a : among name (tag_names ts) ≡ false = find-nothing row.Tag tag (λ x. x.name) tag-row name t (length ts) 0 4 j ts w
-    (rw q (sym (whole-name name t n f h) ∙ k)) in
+    (rw q (sym (whole-name name t n None h))) in
     sym (named-is t name ts m (length ts) p (number-none name ts a) ∙ rw (le-ltb (length ts) (length ts) (omega arith))))
 
-pub named-found : (t name : List ℕ) (n i at : ℕ) (r : Tags) (f : NameFound) (d : TagFound) (b : Browsed) → r ≡ tags_of (exactly table t)
-    → r ≡ tags.Whole n → f ≡ find_name name 0 (length name) t 4 n row.Tag → f ≡ found.At i at → d ≡ tag_found t 0 i → b ≡ browsed_tag d
-    → b ≡ browsed_as (tag_named t name)
+pub named-found : (t name : List ℕ) (n : ℕ) (f : NameFound) (d : Option TagFound) → Ok n ≡ tags_of (exactly table t)
+    → Some f ≡ find_name name 0 (length name) t 4 n row.Tag → d ≡ tag_found t 0 f.number → Ok d ≡ browsed_as (tag_named t name)
 unfolding tag_names
-named-found t name n i at r f d b e g h k x y =
-    let (ts, m, p, q) = tags-parts (exactly table t) n (sym e ∙ g) in
+named-found t name n f d g h x =
+    let (ts, m, p, q) = tags-parts (exactly table t) n (sym g) in
     let c = (exactly-good table t ts m p).0 in
     table-read t 0 m ts c (λ j l o w u.
-    find_at row.Tag tag (λ z. z.name) tag-row name t no_tag (length ts) 0 4 j i at ts w (rw q (sym (whole-name name t n f h) ∙ k))
+    find_at row.Tag tag (λ z. z.name) tag-row name t no_tag (length ts) 0 4 j f.number f.place ts w (rw q (sym (whole-name name t n (Some f) h)))
     (λ z u' v' a l' am sm ti qq pp.
-    let s : number_of_tag name ts ≡ i = number_at name ts z l' am sm ∙ (omega arith) in
-    y ∙ ap browsed_tag x ∙ found-is t i m ts c ∙ sym (named-is t name ts m i p s)))
+    let s : number_of_tag name ts ≡ f.number = number_at name ts z l' am sm ∙ (omega arith) in
+    ap Ok x ∙ found-is t f.number m ts c ∙ sym (named-is t name ts m f.number p s)))
 
 -- ── The cursor ──
 
-pub cursor-refused : (t : List ℕ) (i k : ℕ) (r : Tags) → r ≡ tags_of (exactly table t) → r ≡ tags.Broken k → i ≡ cursor_after (browse t i) i
+pub cursor-refused : (t : List ℕ) (i : ℕ) (f : Fault) → Err f ≡ tags_of (exactly table t) → i ≡ cursor_after (browse t i) i
 unfolding browse cursor_after
-cursor-refused t i k r e f = rw (tags-none (exactly table t) k (sym e ∙ f), browse)
+cursor-refused t i f e = rw (tags-none (exactly table t) f (sym e), browse)
 
 cursor-is : (t : List ℕ) (ts : List Tag) (m i : ℕ) (b : Bool) → exactly table t ≡ good ts m → ltb i (length ts) ≡ b
     → cursor_after (browse t i) i ≡ cond b (i + 1) i
@@ -123,24 +109,22 @@ unfolding browse cursor_after tag_at
 cursor-is t ts m i true e f = rw (e, browse, f)
 cursor-is t ts m i false e f = rw (e, browse, f)
 
-pub cursor-tag : (t : List ℕ) (i n : ℕ) (r : Tags) → r ≡ tags_of (exactly table t) → r ≡ tags.Whole n → i < n → i + 1 ≡ cursor_after (browse t i) i
-cursor-tag t i n r e f h =
-    let (ts, m, p, q) = tags-parts (exactly table t) n (sym e ∙ f) in
+pub cursor-tag : (t : List ℕ) (i n : ℕ) → Ok n ≡ tags_of (exactly table t) → i < n → i + 1 ≡ cursor_after (browse t i) i
+cursor-tag t i n e h =
+    let (ts, m, p, q) = tags-parts (exactly table t) n (sym e) in
     sym (cursor-is t ts m i true p (lt-ltb i (length ts) (omega arith)))
 
-pub cursor-end : (t : List ℕ) (i n : ℕ) (r : Tags) → r ≡ tags_of (exactly table t) → r ≡ tags.Whole n → n ≤ i → i ≡ cursor_after (browse t i) i
-cursor-end t i n r e f h =
-    let (ts, m, p, q) = tags-parts (exactly table t) n (sym e ∙ f) in
+pub cursor-end : (t : List ℕ) (i n : ℕ) → Ok n ≡ tags_of (exactly table t) → n ≤ i → i ≡ cursor_after (browse t i) i
+cursor-end t i n e h =
+    let (ts, m, p, q) = tags-parts (exactly table t) n (sym e) in
     sym (cursor-is t ts m i false p (le-ltb i (length ts) (omega arith)))
 
 pub ruleset laws = (
   rules,
-  found-tag,
-  found_none,
   browse-refused,
   browse-found,
   named-refused,
-  named_none,
+  named-none,
   named-found,
   cursor-refused,
   cursor-tag,

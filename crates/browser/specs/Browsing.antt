@@ -1,17 +1,13 @@
 -- What the browser answers, by the layout's browser.
+use Rattle.std.specs.Prelude.{Option, Some, None, Result, Ok, Err}
 use Rattle.layout.specs.Browser as layout
 use Rattle.tables.specs.declared.TagFound.{TagFound}
-use Rattle.tables.specs.declared.TagFound.TheVariants as found
 use Rattle.refusal.specs.Refusal.{placed}
-use Rattle.browser.specs.declared.Browsed.{Browsed}
-use Rattle.browser.specs.declared.Browsed.TheVariants as browsed
+use Rattle.refusal.specs.declared.Refusal.{Refusal}
 
-unfoldable pub browsed_tag : TagFound → Browsed
-browsed_tag (found.At name name_length value value_length) = browsed.Tag name name_length value value_length
-browsed_tag found.Nothing = browsed.End
-
--- the layout's answer in the code's own enum
-unfoldable pub browsed_as : layout.Browsed → Browsed
-browsed_as (layout.tag name value) = browsed.Tag name.start name.len value.start value.len
-browsed_as layout.end = browsed.End
-browsed_as (layout.refused n p) = browsed.Refused (placed n p)
+-- the layout's answer in the code's own words
+unfoldable pub browsed_as : layout.Browsed → Result (Option TagFound) Refusal
+browsed_as (layout.tag name value) =
+    Ok (Some (record { name = name.start; name_length = name.len; value = value.start; value_length = value.len }))
+browsed_as layout.end = Ok None
+browsed_as (layout.refused n p) = Err (placed n p)

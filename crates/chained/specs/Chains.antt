@@ -1,5 +1,5 @@
 -- The code's calls in a row, each passed the recorder and the notes as the call before left them.
-use Rattle.std.specs.Prelude.{ℕ, ◌^◌, ◌<◌, ◌≡◌, true, List, [], ◌∷◌, ◌++◌, length, take, ℤ}
+use Rattle.std.specs.Prelude.{ℕ, ◌^◌, ◌<◌, ◌≡◌, true, List, [], ◌∷◌, ◌++◌, length, take, ℤ, Result, Ok, Err}
 use Rattle.std.proofs.Math.Pow.{are_bytes}
 use Rattle.std.specs.Int.{w64}
 use Rattle.std.proofs.Common.{SFits, of_z}
@@ -8,7 +8,7 @@ use Rattle.layout.specs.Storage as storage
 use Rattle.layout.specs.Storage.{Call, writes, stored}
 use Rattle.recorder.specs.Recorded.{Made, begin_of, add_of, close_of}
 use Rattle.recorder.specs.declared.Piece.{Piece}
-use Rattle.recorder.specs.declared.Piece.TheVariants.{Given, Refused}
+use Rattle.refusal.specs.declared.Refusal.{Refusal}
 use Rattle.recorder.specs.declared.Recorder.{Recorder}
 
 -- ── The code's calls in a row ──
@@ -26,9 +26,9 @@ pub record Chain : Type 0 where
   pub pieces : List layout.Piece
 
 -- the piece that a call names, its bytes taken from the output's start; a refused call hands out none
-unfoldable pub pieces_in : Piece → (out : List ℕ) → List layout.Piece
-pieces_in (Given place len) out = layout.piece place (take len out) ∷ []
-pieces_in (Refused n) out = []
+unfoldable pub pieces_in : Result Piece Refusal → (out : List ℕ) → List layout.Piece
+pieces_in (Ok p) out = layout.piece p.place (take p.length out) ∷ []
+pieces_in (Err n) out = []
 
 unfoldable pub after : Chain → Made → Chain
 after ch m = record { recorder = m.taken.state; notes = m.notes; pieces = ch.pieces ++ pieces_in m.taken.piece m.out }

@@ -1,5 +1,6 @@
 -- What the converter answers.
 -- Assumes nothing.
+use Rattle.std.specs.Prelude.{Result, Ok, Err}
 use Prim.Native.Nat.{ℕ, suc, ◌<◌, ◌≤◌}
 use native.Mathlib.Omega.{arith}
 use mathlib.Core.Path.{◌≡◌, refl, ap, sym, ◌∙◌}
@@ -23,23 +24,21 @@ use Rattle.layout.proofs.Outputs.{filled_is}
 use Rattle.layout.proofs.OldSheetBytes.{old-sheet-given}
 use Rattle.layout.proofs.Filled.{old-sheet-most}
 use Rattle.layout.proofs.Positions.{convert-within}
-use Rattle.refusal.specs.Refusal.{placed, plain}
+use Rattle.refusal.specs.Refusal.{placed, unless}
 use Rattle.refusal.specs.declared.Refusal.{Refusal}
+use Rattle.refusal.specs.declared.Refusal.TheVariants.{NoRoom}
 use Rattle.sheet.specs.Sheet.{sheet_up_to, sheet_of}
 use Rattle.sheet.specs.Rows.{tags_at}
 use Rattle.places.specs.Places.{placing, placed_by}
 use Rattle.places.proofs.Walks.{tags-placed, places-long}
-use Rattle.apply.specs.Applied.{Written}
+use Rattle.apply.specs.Applied.{applying, Written}
 use Rattle.saving.specs.Answers.{asked_by, asked_of}
 use Rattle.saving.specs.Begun.{Legal, Begun}
 use Rattle.saving.specs.declared.Asked.{Asked}
-use Rattle.saving.specs.declared.Asked.TheVariants as asked
 use Rattle.saving.proofs.Requests.{Asks, asks, refused-asked, sheet-is-bad}
 use Rattle.saving.proofs.Answered.{changes-count, begun}
 use Rattle.converting.specs.Filling.{sheet_filled, Old}
-use Rattle.converting.specs.Answers.{outcome, written_to, converted_in, converted_by, converted_as, convert_of}
-use Rattle.converting.specs.declared.Converted.{Converted}
-use Rattle.converting.specs.declared.Converted.TheVariants as converted
+use Rattle.converting.specs.Answers.{written_to, converted_in, converted_as, convert_of}
 use Rattle.converting.proofs.OldReads.{old-read, old-leads}
 use Rattle.converting.proofs.ByNames.{sheet-filled}
 
@@ -75,12 +74,12 @@ module _ (table : List ℕ) (at n : ℕ) (sheet ls₀ ps₀ ls ps : List ℕ) (w
         sheet-filled table at n b.legal.behind sheet ps (slice-bytes sheet w) (rw long o) (rw long p.lists)
 
     module _ (out : List ℕ) (size : ℕ) (h : size ≡ length (sheet_filled table sheet ps)) where
-      pub fill-short : (q : Refusal) → length out < size → q ≡ plain 9 → outcome (converted.Refused q) out ≡ converted_in table at n sheet out
+      pub fill-short : length out < size → applying (Err NoRoom) out ≡ converted_in table at n sheet out
       unfolding converted_in written_to
-      fill-short q l i = rw (← fills, ← h, lt-ltb (length out) size l, i)
+      fill-short l = rw (← fills, ← h, lt-ltb (length out) size l)
 
       pub fill-written : (r : ℕ) (o₁ : List ℕ) → size ≤ length out → Written r out o₁ 0 (sheet_filled table sheet ps)
-          → outcome (converted.Sheet r) o₁ ≡ converted_in table at n sheet out
+          → applying (Ok r) o₁ ≡ converted_in table at n sheet out
       unfolding converted_in written_to
       fill-written r o₁ l x =
           let a : r ≡ length (sheet_filled table sheet ps) = omega (arith, x.end) in
@@ -102,12 +101,12 @@ first f bytes out o h = opening-pass f _ (opens-passes f o) ∙ line-pass 10 _ _
 
 -- refused with a number and its place
 answer_at : (f bytes out : List ℕ) (n p : ℕ) (q : Refusal) → convert_refusal f bytes (length out) ≡ suc n → old_sheet_place (suc n) f bytes ≡ p
-    → q ≡ placed (suc n) p → outcome (converted.Refused q) out ≡ convert_of f bytes out
-unfolding convert_of converted_as converted_by convert convert_answer filled
+    → q ≡ placed (suc n) p → applying (Err q) out ≡ convert_of f bytes out
+unfolding convert_of converted_as unless convert convert_answer filled
 answer_at f bytes out n p q e h i = rw (e, h, i)
 
-pub convert-not : (f bytes out : List ℕ) (a : Asked) (q : Refusal) → a ≡ asked_of 2 f bytes → a ≡ asked.Refused q
-    → outcome (converted.Refused q) out ≡ convert_of f bytes out
+pub convert-not : (f bytes out : List ℕ) (a : Result Asked Refusal) (q : Refusal) → a ≡ asked_of 2 f bytes → a ≡ Err q
+    → applying (Err q) out ≡ convert_of f bytes out
 unfolding asked_of convert_refusal convert_lines refusal old_sheet_place opening_lines front_lines without
 convert-not f bytes out a q e g =
     refused-asked f (sheet_of (exactly (sheet_up_to 2) bytes)) q (refusal f) (sym e ∙ g)
@@ -116,41 +115,41 @@ convert-not f bytes out a q e g =
     answer_at f bytes out n (opening_place (suc n) f) q r (convert-within f bytes (length out) (suc n) r (not-ten n o)).0 i)
     (λ p o w i.
     let (b, c) = sheet-is-bad (exactly old_sheet bytes) p (sym (old-read bytes) ∙ w) in
-    answer_at f bytes out 9 p q (opening-pass f _ (opens-passes f o) ∙ line-holds 10 _ _ b) c i)
+    answer_at f bytes out 9 p.place q (opening-pass f _ (opens-passes f o) ∙ line-holds 10 _ _ b) c i)
   where
     not-ten : (n : ℕ) → refusal f ≡ suc n → suc n ≡ 10 → ⊥
     not-ten n o z = lines-not (opening_lines f) 10 refl (λ y. omega arith) (o ∙ z)
 
 -- 9, or the sheet
 written_as : (f bytes out : List ℕ) → refusal f ≡ 0 → bad_old_sheet bytes ≡ false → written_to (Layout.converted f bytes) out ≡ convert_of f bytes out
-unfolding written_to convert_of converted_as converted_by convert convert_answer old_sheet_place opening_place
+unfolding written_to convert_of converted_as unless convert convert_answer old_sheet_place opening_place
 written_as f bytes out o h = go (no_room (length out) (length (Layout.converted f bytes))) refl
   where
     number : convert_refusal f bytes (length out) ≡ first_of (line 9 (no_room (length out) (length (Layout.converted f bytes))) ∷ [])
     number = first f bytes out o h
 
     go : (b : Bool) → no_room (length out) (length (Layout.converted f bytes)) ≡ b
-        → cond b (outcome (converted.Refused (plain 9)) out) (outcome (converted.Sheet (length (Layout.converted f bytes))) (filled out (Layout.converted f bytes)))
+        → cond b (applying (Err NoRoom) out) (applying (Ok (length (Layout.converted f bytes))) (filled out (Layout.converted f bytes)))
         ≡ convert_of f bytes out
-    go true e = answer_at f bytes out 8 0 (plain 9) (number ∙ line-holds 9 _ _ e) refl refl
+    go true e = answer_at f bytes out 8 0 NoRoom (number ∙ line-holds 9 _ _ e) refl refl
     go false e = let r : convert_refusal f bytes (length out) ≡ 0 = number ∙ line-pass 9 _ _ e ∙ no_lines in rw r
 
 -- the changes that are asked for
-module _ (f bytes : List ℕ) (a : Asked) (at n k : ℕ) (e : a ≡ asked_of 2 f bytes) (g : a ≡ asked.Changes at n k) where
-  old : Asks old_seen_part f bytes at n k
+module _ (f bytes : List ℕ) (r : Result Asked Refusal) (a : Asked) (e : r ≡ asked_of 2 f bytes) (g : r ≡ Ok a) where
+  old : Asks old_seen_part f bytes a.at a.tags a.changes
   unfolding asked_of old_sheet
-  old = asks old_seen_part old-leads f bytes at n k (ap (asked_by (refusal f) f) (sym (old-read bytes)) ∙ sym e ∙ g)
+  old = asks old_seen_part old-leads f bytes a (ap (asked_by (refusal f) f) (sym (old-read bytes)) ∙ sym e ∙ g)
 
-  pub convert-legal : Legal f at n bytes k
+  pub convert-legal : Legal f a.at a.tags bytes a.changes
   convert-legal = old.legal
 
-  pub convert-old : Old bytes k
+  pub convert-old : Old bytes a.changes
   unfolding old_sheet old_changes_of value_or
   convert-old = let x = old.exact in record { whole = rw x; count = rw x old.count }
 
-  pub convert-changes : (out o : List ℕ) (r : Converted) → outcome r o ≡ converted_in f at n bytes out → outcome r o ≡ convert_of f bytes out
+  pub convert-changes : (out o : List ℕ) (t : Result ℕ Refusal) → applying t o ≡ converted_in f a.at a.tags bytes out → applying t o ≡ convert_of f bytes out
   unfolding converted_in Layout.converted
-  convert-changes out o r h = h ∙ rw old.tags (written_as f bytes out old.opens convert-old.whole)
+  convert-changes out o t h = h ∙ rw old.tags (written_as f bytes out old.opens convert-old.whole)
 
 pub ruleset laws = (
   rules,

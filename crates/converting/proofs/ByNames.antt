@@ -125,7 +125,7 @@ module _ (table : List ℕ) (at n : ℕ) (z : 0 < at) (s ps : List ℕ) (b : are
       let here : tag_entry table (get_or ps i 0) ≡ look_up x.name (tags_at table at n) = ap (tag_entry table) tag ∙ entry-by-place x.name table at n z in
       let u : drop a (drop p s) ≡ drop (p + a) s = drop-drop a p s in
       let next = rw u at (lists-next (tag_place table at n) ps i x.name (names k (row_name row.Change) (drop a (drop p s))) v) in
-      filled-step table s ps p i (suc k) (length x.name) (p + a) (row_of p (row_name row.Change (drop p s))) (omega arith) l refl (rw q)
+      filled-step table s ps p i (record { name = length x.name; end = p + a }) (row_of p (row_name row.Change (drop p s))) refl (rw q) (omega arith)
       ∙ rw (row-filled (tags_at table at n) table s p (get_or ps i 0) x a b f here, rows-filled k (i + 1) (p + a) xs j (omega arith) next (rw u at g), h))
 
   -- What was a sheet, filled in from the tags at the places of its changes, is the sheet filled in from the table.

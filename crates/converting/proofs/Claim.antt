@@ -1,5 +1,6 @@
 -- The request's claim about the calls: what a commit of the converted sheet answers and leaves is what a commit of the old sheet answered and left.
 -- Assumes nothing.
+use Rattle.std.specs.Prelude.{Ok}
 use Prim.Native.Nat.{ℕ, zero, suc}
 use native.Mathlib.Omega.{arith}
 use mathlib.Core.Path.{◌≡◌, refl, ap, sym, ◌∙◌}
@@ -13,15 +14,16 @@ use Rattle.layout.specs.Saving.{Commit}
 use Rattle.layout.specs.OldSheets.{old_commit, Convert, convert}
 use Rattle.layout.proofs.Converted.{convert-commits}
 use Rattle.saving.specs.Answers.{committed_as, commit_of}
-use Rattle.converting.specs.Answers.{outcome, converted_by, converted_as, convert_of}
-use Rattle.converting.specs.declared.Converted.TheVariants as converted
+use Rattle.converting.specs.Answers.{converted_as, convert_of}
+use Rattle.apply.specs.Applied.{applying}
+use Rattle.refusal.specs.Refusal.{unless}
 
 -- an accepted answer stands at the start of the output
-stands : (c : Convert) (n : ℕ) (out o : List ℕ) → outcome (converted.Sheet n) o ≡ converted_as c out → (c.refused ≡ 0) × (take n o ≡ c.sheet)
-unfolding converted_as converted_by filled
+stands : (c : Convert) (n : ℕ) (out o : List ℕ) → applying (Ok n) o ≡ converted_as c out → (c.refused ≡ 0) × (take n o ≡ c.sheet)
+unfolding converted_as unless filled
 stands c n out o e = go c.refused refl (ap (λ x. x.answer) e)
   where
-    go : (r : ℕ) → c.refused ≡ r → converted.Sheet n ≡ converted_by r c → (c.refused ≡ 0) × (take n o ≡ c.sheet)
+    go : (r : ℕ) → c.refused ≡ r → Ok n ≡ unless r c.place (length c.sheet) → (c.refused ≡ 0) × (take n o ≡ c.sheet)
     go zero h f =
         let l : n ≡ length c.sheet = cc in
         (h, ap (take n) (ap (λ x. x.out) e) ∙ take_at c.sheet _ n (sym l))
@@ -32,7 +34,7 @@ stands c n out o e = go c.refused refl (ap (λ x. x.answer) e)
 pub converted-commits : (f s out o out' : List ℕ) (n : ℕ)
     → are_bytes f ≡ true
     → are_bytes s ≡ true
-    → outcome (converted.Sheet n) o ≡ convert_of f s out
+    → applying (Ok n) o ≡ convert_of f s out
     → commit_of f (take n o) out' ≡ committed_as (old_commit f s (length out')) out'
 unfolding convert_of commit_of
 converted-commits f s out o out' n h k e =

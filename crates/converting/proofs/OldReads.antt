@@ -1,5 +1,6 @@
 -- A sheet in which the kinds of what was seen go up to 2 is read where an old one is: what differs is what is made of kind 2.
 -- Assumes nothing.
+use Rattle.std.specs.Prelude.{Ok}
 use Prim.Native.Nat.{ℕ, zero, suc}
 use native.Mathlib.Omega.{arith}
 use mathlib.Core.Path.{◌≡◌, refl, ap, sym, ◌∙◌}
@@ -17,7 +18,6 @@ use Rattle.rows.specs.Rows.{entry_up_to}
 use Rattle.names.proofs.Readers.{LeadsEntry, no_value, entry_value, entry-leads, kind-leads}
 use Rattle.parts.proofs.Taken.{give-parts}
 use Rattle.sheet.specs.Sheet.{sheet_up_to, sheet_of}
-use Rattle.sheet.specs.declared.Sheet.TheVariants as sheet
 use Rattle.sheet.proofs.Sheets.{counted-kept}
 
 -- ── Readers of which one makes more of what both read ──
@@ -179,7 +179,7 @@ sheet-maps =
 of-mapped : {A B : Type 0} (f : A → B) (r : Parsed (List A)) → sheet_of (mapped (map f) r) ≡ sheet_of r
 unfolding mapped sheet_of
 of-mapped f (bad m) = refl
-of-mapped f (good xs n) = ap sheet.Whole (length-map xs f)
+of-mapped f (good xs n) = ap Ok (length-map xs f)
 
 -- An old sheet has as many changes, or its first fault, where kinds up to 2 are read.
 pub old-read : (s : List ℕ) → sheet_of (exactly (sheet_up_to 2) s) ≡ sheet_of (exactly old_sheet s)

@@ -1,5 +1,6 @@
 -- How long the converted sheet is, change by change.
 -- Assumes nothing.
+use Rattle.std.specs.Prelude.{Option, Some, None}
 use Prim.Native.Nat.{ℕ, suc, ◌+◌, ◌-◌, ◌*◌, ◌<◌, ◌≤◌}
 use native.Mathlib.Omega.{arith}
 use mathlib.Core.Path.{◌≡◌, refl, ap, sym, ◌∙◌}
@@ -19,62 +20,63 @@ use Rattle.layout.proofs.Exact.{string-exact}
 use Rattle.rows.specs.Rows.{row_name, row_of}
 use Rattle.rows.specs.declared.Row.TheVariants as row
 use Rattle.rows.specs.declared.RowPlace.{RowPlace}
-use Rattle.rows.specs.declared.RowPlace.TheVariants as row_place
 use Rattle.sheet.specs.Rows.{tag_entry}
 use Rattle.sheet.specs.Values.{held_value, value_in, Stands}
 use Rattle.sheet.specs.declared.Value.{Value}
-use Rattle.sheet.specs.declared.Value.TheVariants as value
 use Rattle.sheet.proofs.Values.{string-stands, held-finds, change-there}
 use Rattle.converting.specs.Filling.{row_filled, filled_from, sheet_filled}
 
 -- ── What a tag holds, as an entry ──
 
-module _ (t : List ℕ) (tag : ℕ) (v : Value) (e : v ≡ held_value t tag) where
-  pub entry-none : v ≡ value.Nothing → entry_part_bytes (tag_entry t tag) ≡ 0 ∷ []
+module _ (t : List ℕ) (tag : ℕ) (v : Option Value) (e : v ≡ held_value t tag) where
+  pub entry-none : v ≡ None → entry_part_bytes (tag_entry t tag) ≡ 0 ∷ []
   unfolding value_in entry_part_bytes
   entry-none f = let w = held-finds t tag v e in rw (← w.found, f)
 
-  module _ (p n : ℕ) (f : v ≡ value.At p n) where
-    stands : string (drop p t) ≡ good (take n (drop (p + 1) t)) (1 + n)
+  pub seen_none : v ≡ None → 1 ≡ length (entry_part_bytes (tag_entry t tag))
+  seen_none f = sym (ap length (entry-none f))
+
+  module _ (x : Value) (f : v ≡ Some x) where
+    stands : string (drop x.place t) ≡ good (take x.length (drop (x.place + 1) t)) (1 + x.length)
     unfolding Stands
     stands = rw f at (held-finds t tag v e).there
 
-    pub value_there : p + (1 + n) ≤ length t
-    value_there = string-stands t p (1 + n) (take n (drop (p + 1) t)) stands (λ a b c. omega arith)
+    pub value_there : x.place + (1 + x.length) ≤ length t
+    value_there = string-stands t x.place (1 + x.length) (take x.length (drop (x.place + 1) t)) stands (λ a b c. omega arith)
 
-    pub entry_value : ((i : ℕ) → Fits w8 (get_or t i 0)) → entry_part_bytes (tag_entry t tag) ≡ 1 ∷ take (1 + n) (drop p t)
-    unfolding value_in entry_part_bytes
-    entry_value b =
-        let w = held-finds t tag v e in
-        let (l, m, d) = string-exact.gives (drop p t) (take n (drop (p + 1) t)) (1 + n) (bytes_drop p t (slice-bytes t b)) stands in
-        rw (← w.found, f) (ap (λ (l : List ℕ). 1 ∷ l) (sym (ap (take (1 + n)) d ∙ take_at (short_string (take n (drop (p + 1) t))) _ (1 + n) (sym m))))
+    module _ (b : (i : ℕ) → Fits w8 (get_or t i 0)) where
+      pub entry_value : entry_part_bytes (tag_entry t tag) ≡ 1 ∷ take (1 + x.length) (drop x.place t)
+      unfolding value_in entry_part_bytes
+      entry_value =
+          let w = held-finds t tag v e in
+          let (l, m, d) = string-exact.gives (drop x.place t) (take x.length (drop (x.place + 1) t)) (1 + x.length) (bytes_drop x.place t (slice-bytes t b)) stands in
+          rw (← w.found, f)
+          (ap (λ (l : List ℕ). 1 ∷ l)
+          (sym (ap (take (1 + x.length)) d ∙ take_at (short_string (take x.length (drop (x.place + 1) t))) _ (1 + x.length) (sym m))))
 
-    pub value-short : ((i : ℕ) → Fits w8 (get_or t i 0)) → n ≤ 255
-    unfolding short_string
-    value-short b =
-        let (l, m, d) = string-exact.gives (drop p t) (take n (drop (p + 1) t)) (1 + n) (bytes_drop p t (slice-bytes t b)) stands in
-        omega (arith, leb-true (length (take n (drop (p + 1) t))) 255 l, m)
+      value-short : x.length ≤ 255
+      unfolding short_string
+      value-short =
+          let (l, m, d) = string-exact.gives (drop x.place t) (take x.length (drop (x.place + 1) t)) (1 + x.length) (bytes_drop x.place t (slice-bytes t b)) stands in
+          omega (arith, leb-true (length (take x.length (drop (x.place + 1) t))) 255 l, m)
 
-  pub seen_none : v ≡ value.Nothing → 1 ≡ length (entry_part_bytes (tag_entry t tag))
-  seen_none f = sym (ap length (entry-none f))
+      pub seen_value : 2 + x.length ≡ length (entry_part_bytes (tag_entry t tag))
+      seen_value = omega (arith, ap length entry_value, part-long t x.place (1 + x.length) value_there)
 
-  pub seen_value : (p n : ℕ) → ((i : ℕ) → Fits w8 (get_or t i 0)) → v ≡ value.At p n → 2 + n ≡ length (entry_part_bytes (tag_entry t tag))
-  seen_value p n b f = omega (arith, ap length (entry_value p n f b), part-long t p (1 + n) (value_there p n f))
+      pub seen-fits : Fits w64 (2 + x.length)
+      seen-fits = record { fits = omega (arith, value-short) }
 
-  pub seen-fits : (p n : ℕ) → ((i : ℕ) → Fits w8 (get_or t i 0)) → v ≡ value.At p n → Fits w64 (2 + n)
-  seen-fits p n b f = record { fits = omega (arith, value-short p n f b) }
-
-  pub seen_few : (p n : ℕ) → ((i : ℕ) → Fits w8 (get_or t i 0)) → v ≡ value.At p n → 2 + n ≤ 257
-  seen_few p n b f = omega (arith, value-short p n f b)
+      pub seen_few : 2 + x.length ≤ 257
+      seen_few = omega (arith, value-short)
 
 -- ── A change that is there ──
 
-module _ (s : List ℕ) (at len end : ℕ) (r : RowPlace) (e : r ≡ row_of at (row_name row.Change (drop at s))) (f : r ≡ row_place.Whole len end) where
-  pub row-kinds : at + 1 + len + 1 ≤ end
-  row-kinds = (change-there s at len end r e f).0
+module _ (s : List ℕ) (at : ℕ) (p : RowPlace) (r : Option RowPlace) (e : r ≡ row_of at (row_name row.Change (drop at s))) (f : r ≡ Some p) where
+  pub row-kinds : at + 1 + p.name + 1 ≤ p.end
+  row-kinds = (change-there s at p r e f).0
 
-  pub row_ends : end ≤ length s
-  row_ends = (change-there s at len end r e f).1
+  pub row_ends : p.end ≤ length s
+  row_ends = (change-there s at p r e f).1
 
 -- ── How long a change is ──
 
@@ -95,75 +97,62 @@ module _ (t s : List ℕ) (at len end tag : ℕ) (k : at + 1 + len + 1 ≤ end) 
 
 -- ── Changes one by one ──
 
-pub filled-done : (t s ps : List ℕ) (at i left : ℕ) → left ≤ 0 → i + left ≡ length ps → filled_from t s at (drop i ps) ≡ []
+pub filled-done : (t s ps : List ℕ) (at i : ℕ) → length ps ≤ i → filled_from t s at (drop i ps) ≡ []
 unfolding filled_from
-filled-done t s ps at i left h l = let h : drop i ps ≡ [] = drop_of_length-le ps {i = i} (omega arith) in rw h
+filled-done t s ps at i h = let d : drop i ps ≡ [] = drop_of_length-le ps {i = i} h in rw d
 
-pub filled-stop : (t s ps : List ℕ) (at i left : ℕ) (r : RowPlace) → r ≡ row_of at (row_name row.Change (drop at s)) → r ≡ row_place.Broken
+pub filled-stop : (t s ps : List ℕ) (at i : ℕ) (r : Option RowPlace) → r ≡ row_of at (row_name row.Change (drop at s)) → r ≡ None
     → filled_from t s at (drop i ps) ≡ []
 unfolding filled_from
-filled-stop t s ps at i left r e f = go (drop i ps)
+filled-stop t s ps at i r e f = go (drop i ps)
   where
-    g : row_of at (row_name row.Change (drop at s)) ≡ row_place.Broken
+    g : row_of at (row_name row.Change (drop at s)) ≡ None
     g = sym e ∙ f
 
     go : (qs : List ℕ) → filled_from t s at qs ≡ []
     go [] = refl
     go (q ∷ qs) = rw (g, filled_from)
 
-pub filled-step : (t s ps : List ℕ) (at i left len end : ℕ) (r : RowPlace) → 0 < left → i + left ≡ length ps → r ≡ row_of at (row_name row.Change (drop at s))
-    → r ≡ row_place.Whole len end
-    → filled_from t s at (drop i ps) ≡ row_filled t s at len end (get_or ps i 0) ++ filled_from t s end (drop (i + 1) ps)
+pub filled-step : (t s ps : List ℕ) (at i : ℕ) (p : RowPlace) (r : Option RowPlace) → r ≡ row_of at (row_name row.Change (drop at s)) → r ≡ Some p
+    → i < length ps
+    → filled_from t s at (drop i ps) ≡ row_filled t s at p.name p.end (get_or ps i 0) ++ filled_from t s p.end (drop (i + 1) ps)
 unfolding filled_from
-filled-step t s ps at i left len end r h l e f =
+filled-step t s ps at i p r e f h =
     let j : i + 1 ≡ suc i = omega arith in
-    let g : row_of at (row_name row.Change (drop at s)) ≡ row_place.Whole len end = sym e ∙ f in
-    rw (drop-cons ps i 0 (omega arith), g, filled_from, j)
+    let g : row_of at (row_name row.Change (drop at s)) ≡ Some p = sym e ∙ f in
+    rw (drop-cons ps i 0 h, g, filled_from, j)
 
 -- ── The size so far ──
 
-pub size-start : (t s ps : List ℕ) → 1 ≤ length s → 1 + length (filled_from t s 1 (drop 0 ps)) ≡ length (sheet_filled t s ps)
-unfolding sheet_filled
-size-start t s ps h = omega (arith, length-append (take 1 s) (filled_from t s 1 ps), part-long s 0 1 (omega arith))
-
-module _ (t s ps : List ℕ) (at i left bytes all : ℕ) (l : i + left ≡ length ps) (g : bytes + length (filled_from t s at (drop i ps)) ≡ all) where
-  pub size-done : left ≤ 0 → bytes ≡ all
-  size-done h = omega (arith, g, ap length (filled-done t s ps at i left h l))
-
-  module _ (r : RowPlace) (e : r ≡ row_of at (row_name row.Change (drop at s))) where
-    pub size-stop : r ≡ row_place.Broken → bytes ≡ all
-    size-stop f = omega (arith, g, ap length (filled-stop t s ps at i left r e f))
-
-    pub size_step : (len end n : ℕ) → r ≡ row_place.Whole len end → 0 < left → n ≡ length (row_filled t s at len end (get_or ps i 0))
-        → bytes + n + length (filled_from t s end (drop (i + 1) ps)) ≡ all
-    size_step len end n f h k =
-        let a = ap length (filled-step t s ps at i left len end r h l e f) in
-        let b = length-append (row_filled t s at len end (get_or ps i 0)) (filled_from t s end (drop (i + 1) ps)) in
-        omega (arith, a, b, g, k)
-
 -- a change more makes a sheet longer by 256 bytes at most
-module _ (s : List ℕ) (at len end i bytes n : ℕ) (r : RowPlace) (e : r ≡ row_of at (row_name row.Change (drop at s))) (f : r ≡ row_place.Whole len end)
-    (h : bytes ≤ at + 256 * i) (k : n ≤ end - at + 256) where
-  pub size_less : bytes + n ≤ end + 256 * (i + 1)
-  size_less = omega (arith, row-kinds s at len end r e f)
+pub record Sizing (t s ps : List ℕ) (at i bytes : ℕ) : Type 0 where
+  pub short : bytes ≤ at + 256 * i
+  pub rest : bytes + length (filled_from t s at (drop i ps)) ≡ length (sheet_filled t s ps)
 
-  pub size_fits : (left m : ℕ) → i + left ≡ m → m ≤ 64 → length s ≤ 49281 → Fits w64 (bytes + n)
-  size_fits left m a b c = record { fits = omega (arith, row-kinds s at len end r e f, row_ends s at len end r e f) }
+module _ (t s ps : List ℕ) where
+  pub sizing_start : 1 ≤ length s → Sizing t s ps 1 0 1
+  unfolding sheet_filled
+  sizing_start h = record { short = omega arith; rest = omega (arith, length-append (take 1 s) (filled_from t s 1 ps), part-long s 0 1 (omega arith)) }
 
-pub ruleset laws = (
-  rules,
-  seen_none,
-  seen_value,
-  seen-fits,
-  seen_few,
-  row-kinds,
-  row_ends,
-  size-filled,
-  size_same,
-  size-start,
-  size-done,
-  size-stop,
-  size_step,
-  size_less,
-  size_fits,
-)
+  module _ (at i bytes : ℕ) (g : Sizing t s ps at i bytes) where
+    pub sized-all : length ps ≤ i → bytes ≡ length (sheet_filled t s ps)
+    sized-all h = omega (arith, g.rest, ap length (filled-done t s ps at i h))
+
+    module _ (r : Option RowPlace) (e : r ≡ row_of at (row_name row.Change (drop at s))) where
+      pub sized-stop : r ≡ None → bytes ≡ length (sheet_filled t s ps)
+      sized-stop f = omega (arith, g.rest, ap length (filled-stop t s ps at i r e f))
+
+      module _ (p : RowPlace) (f : r ≡ Some p) (h : i < length ps) (n : ℕ) (k : n ≤ p.end - at + 256) where
+        pub sizing_step : n ≡ length (row_filled t s at p.name p.end (get_or ps i 0)) → Sizing t s ps p.end (i + 1) (bytes + n)
+        sizing_step l =
+            let a = ap length (filled-step t s ps at i p r e f h) in
+            let b = length-append (row_filled t s at p.name p.end (get_or ps i 0)) (filled_from t s p.end (drop (i + 1) ps)) in
+            record {
+              short = omega (arith, row-kinds s at p r e f, g.short);
+              rest = omega (arith, a, b, g.rest, l);
+            }
+
+        pub sizing_fits : length ps ≤ 64 → length s ≤ 49281 → Fits w64 (bytes + n)
+        sizing_fits few short = record { fits = omega (arith, row-kinds s at p r e f, row_ends s at p r e f, g.short) }
+
+pub ruleset laws = (rules, seen_none, seen_value, seen-fits, seen_few, size-filled, size_same, sizing_start)

@@ -1,5 +1,6 @@
 -- The converted sheet is stored change by change.
 -- Assumes nothing.
+use Rattle.std.specs.Prelude.{Option, Some, None}
 use Prim.Native.Nat.{ℕ, ◌+◌, ◌-◌, ◌<◌, ◌≤◌, ◌^◌}
 use native.Mathlib.Omega.{arith}
 use mathlib.Core.Path.{◌≡◌, refl, ap, sym, ◌∙◌}
@@ -20,11 +21,9 @@ use Rattle.parts.proofs.Laws.{copied-there}
 use Rattle.rows.specs.Rows.{row_name, row_of}
 use Rattle.rows.specs.declared.Row.TheVariants as row
 use Rattle.rows.specs.declared.RowPlace.{RowPlace}
-use Rattle.rows.specs.declared.RowPlace.TheVariants as row_place
 use Rattle.sheet.specs.Rows.{tag_entry}
 use Rattle.sheet.specs.Values.{held_value}
 use Rattle.sheet.specs.declared.Value.{Value}
-use Rattle.sheet.specs.declared.Value.TheVariants as value
 use Rattle.apply.specs.Applied.{Written}
 use Rattle.apply.proofs.Stores.{sets-append, Storing, storing-end, storing-more}
 use Rattle.converting.specs.Filling.{row_filled, filled_from, sheet_filled}
@@ -51,36 +50,37 @@ byte-stored o o₁ to b h k e = e ∙ write-is o to 1 b k ∙ ap (sets o to) (on
 
 -- ── What a tag holds ──
 
-module _ (t : List ℕ) (tag : ℕ) (v : Value) (o : List ℕ) (to : ℕ) (e : v ≡ held_value t tag) (h : to + length (entry_part_bytes (tag_entry t tag)) ≤ length o) where
-  pub none_written : (o₁ : List ℕ) → v ≡ value.Nothing → o₁ ≡ write_at o to 1 0 → Written (to + 1) o o₁ to (entry_part_bytes (tag_entry t tag))
+module _ (t : List ℕ) (tag : ℕ) (v : Option Value) (o : List ℕ) (to : ℕ) (e : v ≡ held_value t tag)
+    (h : to + length (entry_part_bytes (tag_entry t tag)) ≤ length o) where
+  pub none_written : (o₁ : List ℕ) → v ≡ None → o₁ ≡ write_at o to 1 0 → Written (to + 1) o o₁ to (entry_part_bytes (tag_entry t tag))
   none_written o₁ f g =
       let a = seen_none t tag v e f in
       rw (entry-none t tag v e f) (written_one (to + 1) to 1 o o₁ (0 ∷ []) (byte-stored o o₁ to 0 (omega arith) (omega arith) g) refl refl)
 
-  pub none-fits : length o < 2 ^ 64 → v ≡ value.Nothing → Fits w64 (to + 1)
-  none-fits l f = let a = seen_none t tag v e f in record { fits = omega arith }
+  pub none-fits : v ≡ None → length o < 2 ^ 64 → Fits w64 (to + 1)
+  none-fits f l = let a = seen_none t tag v e f in record { fits = omega arith }
 
-  module _ (p n : ℕ) (b : (i : ℕ) → Fits w8 (get_or t i 0)) (f : v ≡ value.At p n) where
-    pub value_written : (o₁ o₂ : List ℕ) → o₁ ≡ write_at o to 1 1 → o₂ ≡ copied t p o₁ (to + 1) (1 + n)
-        → Written (to + 1 + (1 + n)) o o₂ to (entry_part_bytes (tag_entry t tag))
+  module _ (x : Value) (f : v ≡ Some x) (b : (i : ℕ) → Fits w8 (get_or t i 0)) where
+    pub value_written : (o₁ o₂ : List ℕ) → o₁ ≡ write_at o to 1 1 → o₂ ≡ copied t x.place o₁ (to + 1) (1 + x.length)
+        → Written (to + 1 + (1 + x.length)) o o₂ to (entry_part_bytes (tag_entry t tag))
     value_written o₁ o₂ g k =
-        let a = seen_value t tag v e p n b f in
+        let a = seen_value t tag v e x f b in
         let c = byte-stored o o₁ to 1 (omega arith) (omega arith) g in
         let d : length o₁ ≡ length o = ap length c ∙ length-sets o to (1 ∷ []) in
-        rw (entry_value t tag v e p n f b)
-        (written-more (to + 1 + (1 + n)) to (to + 1) (1 + n) o o₁ o₂ (1 ∷ []) (take (1 + n) (drop p t))
+        rw (entry_value t tag v e x f b)
+        (written-more (to + 1 + (1 + x.length)) to (to + 1) (1 + x.length) o o₁ o₂ (1 ∷ []) (take (1 + x.length) (drop x.place t))
         (written_one (to + 1) to 1 o o₁ (1 ∷ []) c refl refl)
-        (k ∙ copied-there t o₁ p (to + 1) (1 + n) (value_there t tag v e p n f) (omega arith))
-        (sym (part-long t p (1 + n) (value_there t tag v e p n f))) refl)
+        (k ∙ copied-there t o₁ x.place (to + 1) (1 + x.length) (value_there t tag v e x f) (omega arith))
+        (sym (part-long t x.place (1 + x.length) (value_there t tag v e x f))) refl)
 
     pub value-fits : length o < 2 ^ 64 → Fits w64 (to + 1)
-    value-fits l = let a = seen_value t tag v e p n b f in record { fits = omega arith }
+    value-fits l = let a = seen_value t tag v e x f b in record { fits = omega arith }
 
-    pub value-size-fits : length o < 2 ^ 64 → Fits w64 (1 + n)
-    value-size-fits l = let a = seen_value t tag v e p n b f in record { fits = omega arith }
+    pub value-size-fits : length o < 2 ^ 64 → Fits w64 (1 + x.length)
+    value-size-fits l = let a = seen_value t tag v e x f b in record { fits = omega arith }
 
-    pub value-end-fits : length o < 2 ^ 64 → Fits w64 (to + 1 + (1 + n))
-    value-end-fits l = let a = seen_value t tag v e p n b f in record { fits = omega arith }
+    pub value-end-fits : length o < 2 ^ 64 → Fits w64 (to + 1 + (1 + x.length))
+    value-end-fits l = let a = seen_value t tag v e x f b in record { fits = omega arith }
 
 -- ── A change ──
 
@@ -139,29 +139,29 @@ pub rows_start : (t s ps o : List ℕ) (start : ℕ) → start + length (filled_
     → Storing start (filled_from t s 1 (drop 0 ps)) o o start (filled_from t s 1 ps)
 rows_start t s ps o start h = record { room = h; place = refl; long = refl; stored = refl }
 
-module _ (t s ps : List ℕ) (at i left to : ℕ) (out before : List ℕ) (start : ℕ) (bytes : List ℕ) (l : i + left ≡ length ps)
+module _ (t s ps : List ℕ) (at i to : ℕ) (out before : List ℕ) (start : ℕ) (bytes : List ℕ)
     (g : Storing to (filled_from t s at (drop i ps)) out before start bytes) where
-  pub rows-done : left ≤ 0 → Written to before out start bytes
-  rows-done h = storing-end to _ out before start bytes (filled-done t s ps at i left h l) g
+  pub rows-done : length ps ≤ i → Written to before out start bytes
+  rows-done h = storing-end to _ out before start bytes (filled-done t s ps at i h) g
 
-  module _ (r : RowPlace) (e : r ≡ row_of at (row_name row.Change (drop at s))) where
-    pub rows-stop : r ≡ row_place.Broken → Written to before out start bytes
-    rows-stop f = storing-end to _ out before start bytes (filled-stop t s ps at i left r e f) g
+  module _ (r : Option RowPlace) (e : r ≡ row_of at (row_name row.Change (drop at s))) where
+    pub rows-stop : r ≡ None → Written to before out start bytes
+    rows-stop f = storing-end to _ out before start bytes (filled-stop t s ps at i r e f) g
 
-    module _ (len end : ℕ) (f : r ≡ row_place.Whole len end) (h : 0 < left) where
-      pub rows-room : to + length (row_filled t s at len end (get_or ps i 0)) ≤ length out
+    module _ (p : RowPlace) (f : r ≡ Some p) (h : i < length ps) where
+      pub rows-room : (at + 1 + p.name + 1 ≤ p.end) × (p.end ≤ length s) × (to + length (row_filled t s at p.name p.end (get_or ps i 0)) ≤ length out)
       rows-room =
-          let a = ap length (filled-step t s ps at i left len end r h l e f) in
-          let b = length-append (row_filled t s at len end (get_or ps i 0)) (filled_from t s end (drop (i + 1) ps)) in
+          let a = ap length (filled-step t s ps at i p r e f h) in
+          let b = length-append (row_filled t s at p.name p.end (get_or ps i 0)) (filled_from t s p.end (drop (i + 1) ps)) in
           let c = g.place in
           let d = g.room in
           let m = g.long in
-          omega arith
+          (row-kinds s at p r e f, row_ends s at p r e f, omega arith)
 
-      pub rows_step : (z : ℕ) (out₁ : List ℕ) → Written z out out₁ to (row_filled t s at len end (get_or ps i 0))
-          → Storing z (filled_from t s end (drop (i + 1) ps)) out₁ before start bytes
-      rows_step z out₁ w = rw w.end (storing-more to (length (row_filled t s at len end (get_or ps i 0))) (row_filled t s at len end (get_or ps i 0))
-          (filled_from t s end (drop (i + 1) ps)) _ out out₁ before start bytes (filled-step t s ps at i left len end r h l e f) refl w.stored g)
+      pub rows_step : (z : ℕ) (out₁ : List ℕ) → Written z out out₁ to (row_filled t s at p.name p.end (get_or ps i 0))
+          → Storing z (filled_from t s p.end (drop (i + 1) ps)) out₁ before start bytes
+      rows_step z out₁ w = rw w.end (storing-more to (length (row_filled t s at p.name p.end (get_or ps i 0))) (row_filled t s at p.name p.end (get_or ps i 0))
+          (filled_from t s p.end (drop (i + 1) ps)) _ out out₁ before start bytes (filled-step t s ps at i p r e f h) refl w.stored g)
 
 -- ── The sheet ──
 
@@ -194,13 +194,9 @@ pub ruleset laws = (
   head-room,
   row_written,
   row_fits,
-  row-kinds,
-  row_ends,
   rows_start,
   rows-done,
   rows-stop,
-  rows-room,
-  rows_step,
   count_room,
   sheet-written,
 )

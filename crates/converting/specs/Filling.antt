@@ -1,10 +1,9 @@
 -- The converted sheet by the place of each change's tag, of bytes that may be no sheet at all.
-use Rattle.std.specs.Prelude.{ℕ, ◌+◌, ◌-◌, ◌≡◌, false, cond, List, [], ◌∷◌, ◌++◌, length, take, drop, get_or, eqb}
+use Rattle.std.specs.Prelude.{ℕ, ◌+◌, ◌-◌, ◌≡◌, false, cond, List, [], ◌∷◌, ◌++◌, length, take, drop, get_or, eqb, Some, None}
 use Rattle.layout.specs.Saving.{entry_part_bytes}
 use Rattle.layout.specs.OldSheets.{old_changes_of, bad_old_sheet}
 use Rattle.rows.specs.Rows.{row_name, row_of}
 use Rattle.rows.specs.declared.Row.TheVariants as row
-use Rattle.rows.specs.declared.RowPlace.TheVariants as row_place
 use Rattle.sheet.specs.Rows.{tag_entry}
 
 -- the change at a place, whose name has `len` bytes and which ends at `end`: where its seen kind is 2, an entry with what the tag holds stands for that byte
@@ -21,8 +20,8 @@ unfoldable pub filled_from : (table sheet : List ℕ) → (place : ℕ) → (tag
 filled_from table sheet place [] = []
 filled_from table sheet place (tag ∷ tags) =
     elim (row_of place (row_name row.Change (drop place sheet))) [
-      | row_place.Whole len end ↦ row_filled table sheet place len end tag ++ filled_from table sheet end tags
-      | row_place.Broken ↦ []
+      | Some r ↦ row_filled table sheet place r.name r.end tag ++ filled_from table sheet r.end tags
+      | None ↦ []
     ]
 
 -- the number of changes, and the changes

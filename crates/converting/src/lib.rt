@@ -1,26 +1,18 @@
 // The converter of sheets from before "nobody looked" was withdrawn: "writes it with kind 0 or 1 filled in from that file, all other changes as they were".
-#![tactic(auto)]
+#![tactic(auto, using(crate::proofs::Sizes::laws, crate::proofs::Stores::laws, crate::proofs::Answered::laws))]
 
 ghost use Rattle.std.specs.Prelude.{◌≡◌, ◌+◌, ◌-◌, ◌≤◌, length};
 ghost use Rattle.layout.specs.Saving.{entry_part_bytes};
 ghost use Rattle.sheet.specs.Rows.{tag_entry};
-ghost use Rattle.apply.specs.Applied.{Written};
+ghost use Rattle.apply.specs.Applied.{applying, Written};
 ghost use Rattle.saving.specs.Begun.{Legal, Begun};
 ghost use Rattle.converting.specs.Filling.{row_filled, filled_from, sheet_filled, Old};
-ghost use Rattle.converting.specs.Answers.{outcome, converted_in, convert_of};
+ghost use Rattle.converting.specs.Answers.{converted_in, convert_of};
 
 use header::Header;
 use refusal::Refusal;
 use rows::{Row, RowPlace};
 use saving::Asked;
-use sheet::Value;
-
-// What the converter answers: the length of the new sheet; or the refusal, whose place is in the file for 3, 4 and 7 and in the sheet for 10.
-#[derive(Clone, Copy)]
-pub enum Converted {
-    Sheet(usize),
-    Refused(Refusal),
-}
 
 // ── How long the new sheet is ──
 
@@ -28,22 +20,21 @@ pub enum Converted {
 fn seen_size(table: &[u8], tag: usize) -> usize
     ensures { (result ≡ length (entry_part_bytes (tag_entry table.now tag))) × (result ≤ 257) }
 {
-    let held = sheet::held_value(table, tag);
-    let Value::At(_, n) = held else {
+    let Some(held) = sheet::held_value(table, tag) else {
         return 1;
     };
-    2 + n
+    2 + held.length
 }
 
-// The number of bytes of a change, whose name has `len` bytes and which ends at `end`.
-fn row_size(table: &[u8], sheet: &[u8], place: usize, len: usize, end: usize, tag: usize) -> usize
-    requires { (place + 1 + len + 1 ≤ end) × (end ≤ length sheet.now) × (length sheet.now ≤ 49281) }
-    ensures { (result ≡ length (row_filled table.now sheet.now place len end tag)) × (result ≤ end - place + 256) }
+// The number of bytes of the change at a place, whose row was read.
+fn row_size(table: &[u8], sheet: &[u8], place: usize, row: RowPlace, tag: usize) -> usize
+    requires { (place + 1 + row.name + 1 ≤ row.end) × (row.end ≤ length sheet.now) × (length sheet.now ≤ 49281) }
+    ensures { (result ≡ length (row_filled table.now sheet.now place row.name row.end tag)) × (result ≤ row.end - place + 256) }
 {
-    if sheet[place + 1 + len] == 2 {
-        return end - place - 1 + seen_size(table, tag);
+    if sheet[place + 1 + row.name] == 2 {
+        return row.end - place - 1 + seen_size(table, tag);
     }
-    end - place
+    row.end - place
 }
 
 // The number of bytes of the new sheet. `places` has for each change where its tag stands in the table, or 0.
@@ -53,17 +44,12 @@ fn filled_size(table: &[u8], sheet: &[u8], places: &[usize]) -> usize
 {
     let mut bytes = 1;
     let mut place = 1;
-    let mut passed = 0;
-    let mut left = places.len();
-    while 0 < left {
-        let row = rows::row_at(sheet, place, Row::Change);
-        let RowPlace::Whole(len, end) = row else {
+    for tag in places {
+        let Some(row) = rows::row_at(sheet, place, Row::Change) else {
             return bytes;
         };
-        bytes += row_size(table, sheet, place, len, end, places[passed]);
-        place = end;
-        passed += 1;
-        left -= 1;
+        bytes += row_size(table, sheet, place, row, *tag);
+        place = row.end;
     }
     bytes
 }
@@ -75,39 +61,38 @@ fn put_seen(table: &[u8], tag: usize, out: &mut [u8], to: usize) -> usize
     requires { to + length (entry_part_bytes (tag_entry table.now tag)) ≤ length out.old }
     ensures { Written result out.old out.new to (entry_part_bytes (tag_entry table.now tag)) }
 {
-    let held = sheet::held_value(table, tag);
-    let Value::At(at, n) = held else {
+    let Some(held) = sheet::held_value(table, tag) else {
         number::write(out, to, 1, 0);
         return to + 1;
     };
     number::write(out, to, 1, 1);
-    parts::copy(table, at, out, to + 1, 1 + n);
-    to + 1 + (1 + n)
+    let length = 1 + held.length;
+    parts::copy(table, held.place, out, to + 1, length);
+    to + 1 + length
 }
 
-// Writes a change; where it ends.
+// Writes the change at a place, whose row was read; where it ends.
 fn put_row(
     table: &[u8],
     sheet: &[u8],
     place: usize,
-    len: usize,
-    end: usize,
+    row: RowPlace,
     tag: usize,
     out: &mut [u8],
     to: usize,
 ) -> usize
-    requires { (place + 1 + len + 1 ≤ end) × (end ≤ length sheet.now) × (to + length (row_filled table.now sheet.now place len end tag) ≤ length out.old) }
-    ensures { Written result out.old out.new to (row_filled table.now sheet.now place len end tag) }
+    requires { (place + 1 + row.name + 1 ≤ row.end) × (row.end ≤ length sheet.now) × (to + length (row_filled table.now sheet.now place row.name row.end tag) ≤ length out.old) }
+    ensures { Written result out.old out.new to (row_filled table.now sheet.now place row.name row.end tag) }
 {
-    let seen = place + 1 + len;
+    let seen = place + 1 + row.name;
     if sheet[seen] == 2 {
-        parts::copy(sheet, place, out, to, 1 + len);
-        let next = put_seen(table, tag, out, to + (1 + len));
-        parts::copy(sheet, seen + 1, out, next, end - (seen + 1));
-        return next + (end - (seen + 1));
+        parts::copy(sheet, place, out, to, 1 + row.name);
+        let next = put_seen(table, tag, out, to + (1 + row.name));
+        parts::copy(sheet, seen + 1, out, next, row.end - (seen + 1));
+        return next + (row.end - (seen + 1));
     }
-    parts::copy(sheet, place, out, to, end - place);
-    to + (end - place)
+    parts::copy(sheet, place, out, to, row.end - place);
+    to + (row.end - place)
 }
 
 // Writes the changes from a place of the output on; where they end.
@@ -123,17 +108,12 @@ fn write_changes(
 {
     let mut to = start;
     let mut place = 1;
-    let mut passed = 0;
-    let mut left = places.len();
-    while 0 < left {
-        let row = rows::row_at(sheet, place, Row::Change);
-        let RowPlace::Whole(len, end) = row else {
+    for tag in places {
+        let Some(row) = rows::row_at(sheet, place, Row::Change) else {
             return to;
         };
-        to = put_row(table, sheet, place, len, end, places[passed], out, to);
-        place = end;
-        passed += 1;
-        left -= 1;
+        to = put_row(table, sheet, place, row, *tag, out, to);
+        place = row.end;
     }
     to
 }
@@ -149,7 +129,8 @@ fn write_sheet(table: &[u8], sheet: &[u8], places: &[usize], out: &mut [u8]) -> 
 
 // ── To convert ──
 
-// The new sheet, where it has room; nothing is written before that is known. `list` has room for the tags of all changes, `places` has a place for each change.
+// The length of the new sheet, where it has room; nothing is written before that is known. `list` has room for the tags of all changes, `places` has a place for
+// each change.
 fn fill_changes(
     table: &[u8],
     at: usize,
@@ -158,42 +139,38 @@ fn fill_changes(
     list: &mut [usize],
     places: &mut [usize],
     out: &mut [u8],
-) -> Converted
+) -> Result<usize, Refusal>
     requires { Begun table.now at n sheet.now list.old places.old × Old sheet.now (length places.old) }
-    ensures { outcome result out.new ≡ converted_in table.now at n sheet.now out.old }
+    ensures { applying result out.new ≡ converted_in table.now at n sheet.now out.old }
 {
     places::place_tags(table, at, n, sheet, list, places);
     if out.len() < filled_size(table, sheet, places) {
-        return Converted::Refused(Refusal::NO_ROOM);
+        return Err(Refusal::NoRoom);
     }
-    Converted::Sheet(write_sheet(table, sheet, places, out))
+    Ok(write_sheet(table, sheet, places, out))
 }
 
 // The same with places for the changes, and a list for their tags.
 fn convert_changes(
-    table: &[u8],
-    at: usize,
-    n: usize,
+    file: &[u8],
+    asked: Asked,
     sheet: &[u8],
-    changes: usize,
     out: &mut [u8],
-) -> Converted
-    requires { Legal table.now at n sheet.now changes × Old sheet.now changes }
-    ensures { outcome result out.new ≡ converted_in table.now at n sheet.now out.old }
+) -> Result<usize, Refusal>
+    requires { Legal file.now asked.at asked.tags sheet.now asked.changes × Old sheet.now asked.changes }
+    ensures { applying result out.new ≡ converted_in file.now asked.at asked.tags sheet.now out.old }
 {
     let mut list = [0; places::WORDS];
     let mut places = [0; Header::MOST_CHANGES];
-    fill_changes(table, at, n, sheet, &mut list, &mut places[..changes], out)
+    let lent = &mut places[..asked.changes];
+    fill_changes(file, asked.at, asked.tags, sheet, &mut list, lent, out)
 }
 
-// "The converter tests 1 to 7, then 10 for any other fault, then 9." The answer is the sheet with what the file's user table has for each tag that nobody looked at.
-pub fn convert(file: &[u8], sheet: &[u8], out: &mut [u8]) -> Converted
-    ensures { outcome result out.new ≡ convert_of file.now sheet.now out.old }
+// "The converter tests 1 to 7, then 10 for any other fault, then 9." The answer is the sheet with what the file's user table has for each tag that nobody looked
+// at: its length; the place of a refusal is in the file for 3, 4 and 7 and in the sheet for 10.
+pub fn convert(file: &[u8], sheet: &[u8], out: &mut [u8]) -> Result<usize, Refusal>
+    ensures { applying result out.new ≡ convert_of file.now sheet.now out.old }
 {
-    match saving::asked_of(file, sheet, sheet::MOST_SEEN_BEFORE) {
-        Asked::Changes { at, tags, changes } => {
-            convert_changes(file, at, tags, sheet, changes, out)
-        }
-        Asked::Refused(refusal) => Converted::Refused(refusal),
-    }
+    let asked = saving::asked_of(file, sheet, sheet::MOST_SEEN_BEFORE)?;
+    convert_changes(file, asked, sheet, out)
 }

@@ -1,5 +1,7 @@
 -- The calls of this crate, one after another, are the browser's: the cursor of `first_tag`, given to `next_tag` k times, shows what the browser
 -- gives for number k. Assumes nothing.
+use Rattle.std.specs.Prelude.{Option, Result}
+use Rattle.refusal.specs.declared.Refusal.{Refusal}
 use Prim.Native.Nat.{ℕ, zero, suc}
 use mathlib.Core.Path.{◌≡◌, refl, ap, ◌∙◌}
 use mathlib.Core.List.{List}
@@ -11,7 +13,7 @@ use Rattle.cursor.specs.Cursors.{cursor_as, next_as}
 use Rattle.cursor.specs.declared.Cursor.{Cursor}
 
 -- `next_tag` called k times
-unfoldable pub called : (s : List ℕ) → (k : ℕ) → Cursor → Cursor
+unfoldable pub called : (s : List ℕ) → (k : ℕ) → Result (Option Cursor) Refusal → Result (Option Cursor) Refusal
 called s zero c = c
 called s (suc k) c = called s k (next_as s c)
 

@@ -1,7 +1,8 @@
 -- The flat answer of opening, by cases on the answer of the call behind it.
-use Rattle.std.specs.Prelude.{ℕ}
-use Rattle.opening.specs.declared.Opening.{Opening}
-use Rattle.opening.specs.declared.Opening.TheVariants as opening
+use Rattle.std.specs.Prelude.{ℕ, Result, Ok, Err}
+use Rattle.opening.specs.declared.Held.{Held}
+use Rattle.refusal.specs.Refusal.{number_of, place_of}
+use Rattle.refusal.specs.declared.Refusal.{Refusal}
 use Rattle.face_opening.specs.declared.FstfOpened.{FstfOpened}
 
 -- an opening that was refused: its number and its place
@@ -9,8 +10,8 @@ abbrev pub opened_not : (number place : ℕ) → FstfOpened
 opened_not n place =
     record { refused = n; place = place; frames = 0; sections = 0; system_tags = 0; user_tags = 0; system = 0; start = 0; index = 0; user = 0 }
 
-abbrev pub opened_flat : Opening → FstfOpened
-opened_flat (opening.Opened h) =
+abbrev pub opened_flat : Result Held Refusal → FstfOpened
+opened_flat (Ok h) =
     record {
       refused = 0;
       place = 0;
@@ -23,4 +24,4 @@ opened_flat (opening.Opened h) =
       index = h.index;
       user = h.user;
     }
-opened_flat (opening.Refused n) = opened_not n.number n.place
+opened_flat (Err n) = opened_not (number_of n) (place_of n)

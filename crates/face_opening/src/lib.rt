@@ -3,10 +3,12 @@
 #![tactic(auto)]
 
 ghost use Rattle.std.specs.Prelude.{◌≡◌};
+ghost use Rattle.refusal.specs.Refusal.{number_of, place_of};
 ghost use Rattle.opening.specs.Opened.{open_of};
 ghost use Rattle.face_opening.specs.Face.{opened_not, opened_flat};
 
-use opening::Opening;
+use opening::Held;
+use refusal::Refusal;
 
 // What a file holds, in numbers, and where its system table, its frames, its index and its user table start; refused, all else is 0.
 #[repr(C)]
@@ -24,45 +26,49 @@ pub struct FstfOpened {
     pub user: u64,
 }
 
-fn opened_not(number: u64, place: u64) -> FstfOpened
-    ensures { result ≡ opened_not number place }
-{
-    FstfOpened {
-        refused: number,
-        place,
-        frames: 0,
-        sections: 0,
-        system_tags: 0,
-        user_tags: 0,
-        system: 0,
-        start: 0,
-        index: 0,
-        user: 0,
+impl From<Refusal> for FstfOpened {
+    ghost from_gives = { λ refusal made. made ≡ opened_not (number_of refusal) (place_of refusal) };
+
+    fn from(refusal: Refusal) -> FstfOpened {
+        FstfOpened {
+            refused: refusal.number() as u64,
+            place: refusal.place() as u64,
+            frames: 0,
+            sections: 0,
+            system_tags: 0,
+            user_tags: 0,
+            system: 0,
+            start: 0,
+            index: 0,
+            user: 0,
+        }
     }
 }
 
-fn opened_flat(answer: Opening) -> FstfOpened
-    ensures { result ≡ opened_flat answer }
-{
-    match answer {
-        Opening::Opened(held) => FstfOpened {
-            refused: 0,
-            place: 0,
-            frames: held.frames as u64,
-            sections: held.sections as u64,
-            system_tags: held.system_tags as u64,
-            user_tags: held.user_tags as u64,
-            system: held.system as u64,
-            start: held.start as u64,
-            index: held.index as u64,
-            user: held.user as u64,
-        },
-        Opening::Refused(refusal) => opened_not(refusal.number as u64, refusal.place as u64),
+impl From<Result<Held, Refusal>> for FstfOpened {
+    ghost from_gives = { λ answer made. made ≡ opened_flat answer };
+
+    fn from(answer: Result<Held, Refusal>) -> FstfOpened {
+        match answer {
+            Ok(held) => FstfOpened {
+                refused: 0,
+                place: 0,
+                frames: held.frames as u64,
+                sections: held.sections as u64,
+                system_tags: held.system_tags as u64,
+                user_tags: held.user_tags as u64,
+                system: held.system as u64,
+                start: held.start as u64,
+                index: held.index as u64,
+                user: held.user as u64,
+            },
+            Err(refusal) => refusal.into(),
+        }
     }
 }
 
 pub fn open(file: &[u8]) -> FstfOpened
     ensures { result ≡ opened_flat (open_of file.now) }
 {
-    opened_flat(opening::open(file))
+    opening::open(file).into()
 }

@@ -9,8 +9,9 @@ ghost use Rattle.face_reading.specs.Face.{held_asked, frame_not, frame_flat, fra
 use face_opening::FstfOpened;
 use items::{Found, FrameRead, Item};
 use opening::Held;
+use refusal::Refusal;
 
-// The numbers that opening gave, or any others.
+// The numbers that opening gave, or any others. Both types are of other crates, so that there can be no `From`.
 fn held_asked(opened: FstfOpened) -> Held
     ensures { result ≡ held_asked opened }
 {
@@ -51,31 +52,28 @@ fn frame_not(number: u64, place: u64) -> FstfFrame
     }
 }
 
-fn frame_flat(answer: FrameRead) -> FstfFrame
-    ensures { result ≡ frame_flat answer }
-{
-    match answer {
-        FrameRead::Frame {
-            place,
-            length,
-            time,
-            exposure,
-        } => FstfFrame {
-            refused: 0,
-            place: 0,
-            start: place as u64,
-            length: length as u64,
-            time,
-            exposure: exposure as u64,
-        },
-        FrameRead::Refused(refusal) => frame_not(refusal.number as u64, refusal.place as u64),
+impl From<Result<FrameRead, Refusal>> for FstfFrame {
+    ghost from_gives = { λ answer made. made ≡ frame_flat answer };
+
+    fn from(answer: Result<FrameRead, Refusal>) -> FstfFrame {
+        match answer {
+            Ok(frame) => FstfFrame {
+                refused: 0,
+                place: 0,
+                start: frame.place as u64,
+                length: frame.length as u64,
+                time: frame.time,
+                exposure: frame.exposure as u64,
+            },
+            Err(refusal) => frame_not(refusal.number() as u64, refusal.place() as u64),
+        }
     }
 }
 
 pub fn frame(file: &[u8], i: u64) -> FstfFrame
     ensures { result ≡ frame_flat (frame_read_of file.now i) }
 {
-    frame_flat(reading::frame(file, i))
+    reading::frame(file, i).into()
 }
 
 // A frame by the numbers of an opening that went ahead, whose refusal is passed through.
@@ -85,7 +83,7 @@ pub fn frame_of(file: &[u8], opened: FstfOpened, i: u64) -> FstfFrame
     if opened.refused != 0 {
         return frame_not(opened.refused, opened.place);
     }
-    frame_flat(items::frame_of(file, held_asked(opened), i))
+    items::frame_of(file, held_asked(opened), i).into()
 }
 
 // Where the bytes of an item stand in the file; refused, "the empty part at the file's start".
@@ -109,17 +107,19 @@ fn part_not(number: u64, place: u64) -> FstfPart
     }
 }
 
-fn part_flat(answer: Found) -> FstfPart
-    ensures { result ≡ part_flat answer }
-{
-    match answer {
-        Found::At { start, len } => FstfPart {
-            refused: 0,
-            place: 0,
-            start: start as u64,
-            length: len as u64,
-        },
-        Found::Refused(refusal) => part_not(refusal.number as u64, refusal.place as u64),
+impl From<Result<Found, Refusal>> for FstfPart {
+    ghost from_gives = { λ answer made. made ≡ part_flat answer };
+
+    fn from(answer: Result<Found, Refusal>) -> FstfPart {
+        match answer {
+            Ok(found) => FstfPart {
+                refused: 0,
+                place: 0,
+                start: found.start as u64,
+                length: found.len as u64,
+            },
+            Err(refusal) => part_not(refusal.number() as u64, refusal.place() as u64),
+        }
     }
 }
 
@@ -130,34 +130,22 @@ const NO_FRAME: u64 = 0xFFFF_FFFF_FFFF_FFFF;
 fn item_asked(kind: u64, i: u64, j: u64) -> Item
     ensures { result ≡ item_asked kind i j }
 {
-    if kind == 0 {
-        return Item::Section(i, j);
+    match kind {
+        0 => Item::Section(i, j),
+        1 => Item::SectionName(i),
+        2 => Item::Configuration(i),
+        3 => Item::SystemName(i),
+        4 => Item::SystemValue(i),
+        5 => Item::UserName(i),
+        6 => Item::UserValue(i),
+        _ => Item::Section(NO_FRAME, j),
     }
-    if kind == 1 {
-        return Item::SectionName(i);
-    }
-    if kind == 2 {
-        return Item::Configuration(i);
-    }
-    if kind == 3 {
-        return Item::SystemName(i);
-    }
-    if kind == 4 {
-        return Item::SystemValue(i);
-    }
-    if kind == 5 {
-        return Item::UserName(i);
-    }
-    if kind == 6 {
-        return Item::UserValue(i);
-    }
-    Item::Section(NO_FRAME, j)
 }
 
 pub fn part(file: &[u8], kind: u64, i: u64, j: u64) -> FstfPart
     ensures { result ≡ part_flat (find_of file.now (item_asked kind i j)) }
 {
-    part_flat(reading::find(file, item_asked(kind, i, j)))
+    reading::find(file, item_asked(kind, i, j)).into()
 }
 
 // An item by the numbers of an opening that went ahead, whose refusal is passed through.
@@ -167,5 +155,5 @@ pub fn part_of(file: &[u8], opened: FstfOpened, kind: u64, i: u64, j: u64) -> Fs
     if opened.refused != 0 {
         return part_not(opened.refused, opened.place);
     }
-    part_flat(items::find_of(file, held_asked(opened), item_asked(kind, i, j)))
+    items::find_of(file, held_asked(opened), item_asked(kind, i, j)).into()
 }

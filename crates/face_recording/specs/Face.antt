@@ -1,9 +1,10 @@
 -- The flat answers of recording, by cases on the answers of the calls behind them; and what a flat state asks for.
-use Rattle.std.specs.Prelude.{ℕ, cond, List, ltb, eqb}
+use Rattle.std.specs.Prelude.{ℕ, cond, List, ltb, eqb, Result, Ok, Err}
 use Rattle.stages.specs.declared.Stage.{Stage}
 use Rattle.stages.specs.declared.Stage.TheVariants as stage
 use Rattle.recorder.specs.declared.Piece.{Piece}
-use Rattle.recorder.specs.declared.Piece.TheVariants as piece
+use Rattle.refusal.specs.Refusal.{number_of, place_of}
+use Rattle.refusal.specs.declared.Refusal.{Refusal}
 use Rattle.recorder.specs.declared.Recorder.{Recorder}
 use Rattle.recorder.specs.declared.Taken.{Taken}
 use Rattle.recorder.specs.Recorded as recorder
@@ -58,9 +59,9 @@ abbrev pub taken_not : (given : FstfRecorder) (number place : ℕ) → FstfTaken
 taken_not given n place = record { refused = n; place = place; start = 0; length = 0; recorder = given }
 
 -- accepted, the next state goes with the piece
-abbrev pub piece_flat : (given next : FstfRecorder) → Piece → FstfTaken
-piece_flat given next (piece.Given start len) = record { refused = 0; place = 0; start = start; length = len; recorder = next }
-piece_flat given next (piece.Refused n) = taken_not given n.number n.place
+abbrev pub piece_flat : (given next : FstfRecorder) → Result Piece Refusal → FstfTaken
+piece_flat given next (Ok p) = record { refused = 0; place = 0; start = p.place; length = p.length; recorder = next }
+piece_flat given next (Err n) = taken_not given (number_of n) (place_of n)
 
 unfoldable pub taken_flat : (given : FstfRecorder) → Taken → FstfTaken
 taken_flat given t = piece_flat given (recorder_flat t.state) t.piece

@@ -1,12 +1,14 @@
 // The C face of recording: a flat state goes in and out, and answers are flat structs of numbers, with `refused` and the refusal's `place` ahead. The
 // crate `fstf` exports the calls, and include/fstf.h declares them.
-#![tactic(auto)]
+#![tactic(auto, using(crate::proofs::Laws::laws), unfolding(crate::specs::Face::closing_at, crate::specs::Face::stage_asked, crate::specs::Face::recorder_asked, crate::specs::Face::recorder_flat, crate::specs::Face::taken_flat,))]
 
 ghost use Rattle.std.specs.Prelude.{◌≡◌};
 ghost use Rattle.recorder.specs.Recorded.{fresh_recorder, begin_of, add_of, close_of};
-ghost use Rattle.face_recording.specs.Face.{closing_at, stage_asked, recorder_asked, stage_number, piece_number, recorder_flat, taken_not, piece_flat, taken_flat, recorded, recorded_flat};
+ghost use Rattle.refusal.specs.Refusal.{number_of, place_of};
+ghost use Rattle.face_recording.specs.Face.{closing_at, stage_asked, recorder_asked, stage_number, piece_number, recorder_flat, taken_not, taken_flat, recorded, recorded_flat};
 
-use recorder::{Piece, Recorder, Taken};
+use recorder::{Recorder, Taken};
+use refusal::Refusal;
 use stages::Stage;
 
 // The recorder's state in numbers. Stage: 0 fresh, 1 running, 2 closing at `piece`, 3 closed.
@@ -44,33 +46,30 @@ fn closing_at(piece: u64) -> Stage
     Stage::Closing(piece as u8)
 }
 
-// A number that names no stage takes no call, as 3.
+// C hands a stage over as a number. One that names no stage takes no call, as 3.
 fn stage_asked(stage: u64, piece: u64) -> Stage
     ensures { result ≡ stage_asked stage piece }
 {
-    if stage == 0 {
-        return Stage::Fresh;
+    match stage {
+        0 => Stage::Fresh,
+        1 => Stage::Running,
+        2 => closing_at(piece),
+        _ => Stage::Closed,
     }
-    if stage == 1 {
-        return Stage::Running;
-    }
-    if stage == 2 {
-        return closing_at(piece);
-    }
-    Stage::Closed
 }
 
-fn recorder_asked(recorder: FstfRecorder) -> Recorder
-    ensures { result ≡ recorder_asked recorder }
-{
-    let stage = stage_asked(recorder.stage, recorder.piece);
-    Recorder {
-        stage,
-        sections: recorder.sections,
-        frames: recorder.frames,
-        first: recorder.first,
-        last: recorder.last,
-        end: recorder.end,
+impl From<FstfRecorder> for Recorder {
+    ghost from_gives = { λ flat r. r ≡ recorder_asked flat };
+
+    fn from(flat: FstfRecorder) -> Recorder {
+        Recorder {
+            stage: stage_asked(flat.stage, flat.piece),
+            sections: flat.sections,
+            frames: flat.frames,
+            first: flat.first,
+            last: flat.last,
+            end: flat.end,
+        }
     }
 }
 
@@ -89,37 +88,36 @@ fn piece_number(stage: Stage) -> u64
     ensures { result ≡ piece_number stage }
 {
     match stage {
-        Stage::Fresh => 0,
-        Stage::Running => 0,
         Stage::Closing(piece) => piece as u64,
-        Stage::Closed => 0,
+        _ => 0,
     }
 }
 
-fn recorder_flat(recorder: Recorder) -> FstfRecorder
-    ensures { result ≡ recorder_flat recorder }
-{
-    let stage = recorder.stage;
-    FstfRecorder {
-        stage: stage_number(stage),
-        piece: piece_number(stage),
-        sections: recorder.sections,
-        frames: recorder.frames,
-        first: recorder.first,
-        last: recorder.last,
-        end: recorder.end,
+impl From<Recorder> for FstfRecorder {
+    ghost from_gives = { λ recorder flat. flat ≡ recorder_flat recorder };
+
+    fn from(recorder: Recorder) -> FstfRecorder {
+        FstfRecorder {
+            stage: stage_number(recorder.stage),
+            piece: piece_number(recorder.stage),
+            sections: recorder.sections,
+            frames: recorder.frames,
+            first: recorder.first,
+            last: recorder.last,
+            end: recorder.end,
+        }
     }
 }
 
 // The states of an answer are written out by their fields: a choice between two whole ones would go through memory.
 
 // Refused, the state is handed back as it was given, also where it is none.
-fn taken_not(given: FstfRecorder, number: u64, place: u64) -> FstfTaken
-    ensures { result ≡ taken_not given number place }
+fn taken_not(given: FstfRecorder, refusal: Refusal) -> FstfTaken
+    ensures { result ≡ taken_not given (number_of refusal) (place_of refusal) }
 {
     FstfTaken {
-        refused: number,
-        place,
+        refused: refusal.number() as u64,
+        place: refusal.place() as u64,
         start: 0,
         length: 0,
         recorder: FstfRecorder {
@@ -134,15 +132,16 @@ fn taken_not(given: FstfRecorder, number: u64, place: u64) -> FstfTaken
     }
 }
 
-fn piece_flat(given: FstfRecorder, next: FstfRecorder, piece: Piece) -> FstfTaken
-    ensures { result ≡ piece_flat given next piece }
+fn taken_flat(given: FstfRecorder, taken: Taken) -> FstfTaken
+    ensures { result ≡ taken_flat given taken }
 {
-    match piece {
-        Piece::Given { place, length } => FstfTaken {
+    let next = FstfRecorder::from(taken.state);
+    match taken.piece {
+        Ok(piece) => FstfTaken {
             refused: 0,
             place: 0,
-            start: place,
-            length: length as u64,
+            start: piece.place,
+            length: piece.length as u64,
             recorder: FstfRecorder {
                 stage: next.stage,
                 piece: next.piece,
@@ -153,22 +152,14 @@ fn piece_flat(given: FstfRecorder, next: FstfRecorder, piece: Piece) -> FstfTake
                 end: next.end,
             },
         },
-        Piece::Refused(refusal) => taken_not(given, refusal.number as u64, refusal.place as u64),
+        Err(refusal) => taken_not(given, refusal),
     }
-}
-
-fn taken_flat(given: FstfRecorder, taken: Taken) -> FstfTaken
-    ensures { result ≡ taken_flat given taken }
-{
-    let state = taken.state;
-    let piece = taken.piece;
-    piece_flat(given, recorder_flat(state), piece)
 }
 
 pub fn new() -> FstfRecorder
     ensures { result ≡ recorder_flat fresh_recorder }
 {
-    recorder_flat(Recorder::new())
+    FstfRecorder::from(Recorder::new())
 }
 
 pub fn begin(
@@ -180,9 +171,10 @@ pub fn begin(
 ) -> FstfTaken
     ensures { recorded result notes.new out.new ≡ recorded_flat recorder (begin_of (recorder_asked recorder) setup.now system.now notes.old out.old) }
 {
-    let asked = recorder_asked(recorder);
-    let taken = asked.begin(setup, system, notes, out);
-    taken_flat(recorder, taken)
+    taken_flat(
+        recorder,
+        Recorder::from(recorder).begin(setup, system, notes, out),
+    )
 }
 
 pub fn add(
@@ -195,15 +187,14 @@ pub fn add(
 ) -> FstfTaken
     ensures { recorded result notes.new out.new ≡ recorded_flat recorder (add_of (recorder_asked recorder) time exposure sections.now notes.old out.old) }
 {
-    let asked = recorder_asked(recorder);
-    let taken = asked.add(time, exposure, sections, notes, out);
-    taken_flat(recorder, taken)
+    taken_flat(
+        recorder,
+        Recorder::from(recorder).add(time, exposure, sections, notes, out),
+    )
 }
 
 pub fn close(recorder: FstfRecorder, notes: &[u8], out: &mut [u8]) -> FstfTaken
     ensures { recorded result notes.now out.new ≡ recorded_flat recorder (close_of (recorder_asked recorder) notes.now out.old) }
 {
-    let asked = recorder_asked(recorder);
-    let taken = asked.close(notes, out);
-    taken_flat(recorder, taken)
+    taken_flat(recorder, Recorder::from(recorder).close(notes, out))
 }

@@ -1,18 +1,18 @@
 -- The flat answer of repair, by cases on the answer of the call behind it.
-use Rattle.std.specs.Prelude.{ℕ, List}
+use Rattle.std.specs.Prelude.{ℕ, List, Result, Ok, Err}
+use Rattle.refusal.specs.Refusal.{number_of, place_of}
+use Rattle.refusal.specs.declared.Refusal.{Refusal}
 use Rattle.repair.specs.declared.Repaired.{Repaired}
-use Rattle.repair.specs.declared.Repaired.TheVariants as repair
 use Rattle.repair.specs.Repaired as repairing
 use Rattle.face_repair.specs.declared.FstfRepaired.{FstfRepaired}
 
 -- a repair that was refused: its number and its place
-abbrev pub repaired_not : (number place : ℕ) → FstfRepaired
-repaired_not n place = record { refused = n; place = place; kept = 0; count = 0; index = 0; user = 0; tail = 0 }
+abbrev pub repaired_not : Refusal → FstfRepaired
+repaired_not r = record { refused = number_of r; place = place_of r; kept = 0; count = 0; index = 0; user = 0; tail = 0 }
 
-abbrev pub repaired_flat : Repaired → FstfRepaired
-repaired_flat (repair.Kept kept count index user tail) =
-    record { refused = 0; place = 0; kept = kept; count = count; index = index; user = user; tail = tail }
-repaired_flat (repair.Refused n) = repaired_not n.number n.place
+abbrev pub repaired_flat : Result Repaired Refusal → FstfRepaired
+repaired_flat (Ok r) = record { refused = 0; place = 0; kept = r.kept; count = r.count; index = r.index; user = r.user; tail = r.tail }
+repaired_flat (Err r) = repaired_not r
 
 -- an answer, and what the call leaves in the lent output
 pub record Mended : Type 0 where

@@ -1,20 +1,21 @@
 // The C face of look, commit, the converter and tags: answers are flat structs of numbers, each with `refused` and the refusal's `place` ahead. The crate `fstf` exports
 // the calls, and include/fstf.h declares them.
-#![tactic(auto)]
+#![tactic(auto, using(crate::proofs::Laws::laws))]
 
 ghost use Rattle.std.specs.Prelude.{◌≡◌};
+ghost use Rattle.refusal.specs.Refusal.{number_of, place_of};
 ghost use Rattle.layout.specs.Browser.{browse, tag_named};
 ghost use Rattle.layout.specs.Cursor.{first_tag};
 ghost use Rattle.saving.specs.Answers.{look_of, commit_of};
 ghost use Rattle.converting.specs.Answers.{convert_of};
 ghost use Rattle.browser.specs.Browsing.{browsed_as};
 ghost use Rattle.cursor.specs.Cursors.{cursor_as};
-ghost use Rattle.face_tags.specs.Face.{looked_not, looked_flat, committed_not, committed_flat, kept, outcome_flat, converted_not, converted_flat, conversion_flat, tag_not, tag_flat, cursor_not, cursor_flat, cursor_asked, cursor_next};
+ghost use Rattle.face_tags.specs.Face.{looked_not, looked_flat, committed_flat, kept, outcome_flat, converted_flat, conversion_flat, tag_not, tag_flat, cursor_not, cursor_flat, cursor_asked, cursor_next};
 
-use browser::Browsed;
-use converting::Converted;
 use cursor::Cursor;
-use saving::{Committed, Looked};
+use refusal::Refusal;
+use saving::Looked;
+use tables::TagFound;
 
 // ── To look and to commit ──
 
@@ -29,35 +30,39 @@ pub struct FstfLooked {
     pub conflicts: u64,
 }
 
-fn looked_not(number: u64, place: u64) -> FstfLooked
-    ensures { result ≡ looked_not number place }
-{
-    FstfLooked {
-        refused: number,
-        place,
-        changes: 0,
-        conflicts: 0,
+impl From<Refusal> for FstfLooked {
+    ghost from_gives = { λ refusal flat. flat ≡ looked_not refusal };
+
+    fn from(refusal: Refusal) -> FstfLooked {
+        FstfLooked {
+            refused: refusal.number() as u64,
+            place: refusal.place() as u64,
+            changes: 0,
+            conflicts: 0,
+        }
     }
 }
 
-fn looked_flat(answer: Looked) -> FstfLooked
-    ensures { result ≡ looked_flat answer }
-{
-    match answer {
-        Looked::Changes(changes, conflicts) => FstfLooked {
-            refused: 0,
-            place: 0,
-            changes: changes as u64,
-            conflicts,
-        },
-        Looked::Refused(refusal) => looked_not(refusal.number as u64, refusal.place as u64),
+impl From<Result<Looked, Refusal>> for FstfLooked {
+    ghost from_gives = { λ answer flat. flat ≡ looked_flat answer };
+
+    fn from(answer: Result<Looked, Refusal>) -> FstfLooked {
+        match answer {
+            Ok(looked) => FstfLooked {
+                refused: 0,
+                place: 0,
+                changes: looked.changes as u64,
+                conflicts: looked.conflicts,
+            },
+            Err(refusal) => refusal.into(),
+        }
     }
 }
 
 pub fn look(file: &[u8], sheet: &[u8]) -> FstfLooked
     ensures { result ≡ looked_flat (look_of file.now sheet.now) }
 {
-    looked_flat(saving::look(file, sheet))
+    saving::look(file, sheet).into()
 }
 
 // The length of the new user table, which stands at the start of the lent output; refused, 0. The places are look's; 11's is the number of the change.
@@ -69,33 +74,29 @@ pub struct FstfCommitted {
     pub length: u64,
 }
 
-fn committed_not(number: u64, place: u64) -> FstfCommitted
-    ensures { result ≡ committed_not number place }
-{
-    FstfCommitted {
-        refused: number,
-        place,
-        length: 0,
-    }
-}
+impl From<Result<usize, Refusal>> for FstfCommitted {
+    ghost from_gives = { λ answer flat. flat ≡ committed_flat answer };
 
-fn committed_flat(answer: Committed) -> FstfCommitted
-    ensures { result ≡ committed_flat answer }
-{
-    match answer {
-        Committed::Table(length) => FstfCommitted {
-            refused: 0,
-            place: 0,
-            length: length as u64,
-        },
-        Committed::Refused(refusal) => committed_not(refusal.number as u64, refusal.place as u64),
+    fn from(answer: Result<usize, Refusal>) -> FstfCommitted {
+        match answer {
+            Ok(length) => FstfCommitted {
+                refused: 0,
+                place: 0,
+                length: length as u64,
+            },
+            Err(refusal) => FstfCommitted {
+                refused: refusal.number() as u64,
+                place: refusal.place() as u64,
+                length: 0,
+            },
+        }
     }
 }
 
 pub fn commit(file: &[u8], sheet: &[u8], out: &mut [u8]) -> FstfCommitted
     ensures { kept result out.new ≡ outcome_flat (commit_of file.now sheet.now out.old) }
 {
-    committed_flat(saving::commit(file, sheet, out))
+    saving::commit(file, sheet, out).into()
 }
 
 // ── To convert ──
@@ -110,33 +111,29 @@ pub struct FstfConverted {
     pub length: u64,
 }
 
-fn converted_not(number: u64, place: u64) -> FstfConverted
-    ensures { result ≡ converted_not number place }
-{
-    FstfConverted {
-        refused: number,
-        place,
-        length: 0,
-    }
-}
+impl From<Result<usize, Refusal>> for FstfConverted {
+    ghost from_gives = { λ answer flat. flat ≡ converted_flat answer };
 
-fn converted_flat(answer: Converted) -> FstfConverted
-    ensures { result ≡ converted_flat answer }
-{
-    match answer {
-        Converted::Sheet(length) => FstfConverted {
-            refused: 0,
-            place: 0,
-            length: length as u64,
-        },
-        Converted::Refused(refusal) => converted_not(refusal.number as u64, refusal.place as u64),
+    fn from(answer: Result<usize, Refusal>) -> FstfConverted {
+        match answer {
+            Ok(length) => FstfConverted {
+                refused: 0,
+                place: 0,
+                length: length as u64,
+            },
+            Err(refusal) => FstfConverted {
+                refused: refusal.number() as u64,
+                place: refusal.place() as u64,
+                length: 0,
+            },
+        }
     }
 }
 
 pub fn convert(file: &[u8], sheet: &[u8], out: &mut [u8]) -> FstfConverted
     ensures { kept result out.new ≡ conversion_flat (convert_of file.now sheet.now out.old) }
 {
-    converted_flat(converting::convert(file, sheet, out))
+    converting::convert(file, sheet, out).into()
 }
 
 // ── Tags ──
@@ -173,39 +170,36 @@ fn tag_not(number: u64, place: u64) -> FstfTag
     }
 }
 
-fn tag_flat(answer: Browsed) -> FstfTag
-    ensures { result ≡ tag_flat answer }
-{
-    match answer {
-        Browsed::Tag {
-            name,
-            name_length,
-            value,
-            value_length,
-        } => FstfTag {
-            refused: 0,
-            place: 0,
-            found: FOUND,
-            name: name as u64,
-            name_length: name_length as u64,
-            value: value as u64,
-            value_length: value_length as u64,
-        },
-        Browsed::End => tag_not(0, 0),
-        Browsed::Refused(refusal) => tag_not(refusal.number as u64, refusal.place as u64),
+impl From<Result<Option<TagFound>, Refusal>> for FstfTag {
+    ghost from_gives = { λ answer flat. flat ≡ tag_flat answer };
+
+    fn from(answer: Result<Option<TagFound>, Refusal>) -> FstfTag {
+        match answer {
+            Ok(Some(tag)) => FstfTag {
+                refused: 0,
+                place: 0,
+                found: FOUND,
+                name: tag.name as u64,
+                name_length: tag.name_length as u64,
+                value: tag.value as u64,
+                value_length: tag.value_length as u64,
+            },
+            Ok(None) => tag_not(0, 0),
+            Err(refusal) => tag_not(refusal.number() as u64, refusal.place() as u64),
+        }
     }
 }
 
 pub fn tag_at(table: &[u8], number: u64) -> FstfTag
     ensures { result ≡ tag_flat (browsed_as (browse table.now number)) }
 {
-    tag_flat(browser::tag_at(table, number))
+    browser::tag_at(table, number).into()
 }
 
 pub fn tag_named(table: &[u8], name: &[u8]) -> FstfTag
     ensures { result ≡ tag_flat (browsed_as (tag_named table.now name.now)) }
 {
-    tag_flat(browser::tag_named(table, name))
+    browser::tag_named(table, name).into()
 }
 
 // ── One tag after another ──
@@ -241,48 +235,48 @@ fn cursor_not(number: u64, place: u64) -> FstfCursor
     }
 }
 
-fn cursor_flat(answer: Cursor) -> FstfCursor
-    ensures { result ≡ cursor_flat answer }
-{
-    match answer {
-        Cursor::Tag {
-            name,
-            name_length,
-            value,
-            value_length,
-            left,
-        } => FstfCursor {
-            refused: 0,
-            place: 0,
-            found: FOUND,
-            name: name as u64,
-            name_length: name_length as u64,
-            value: value as u64,
-            value_length: value_length as u64,
-            left: left as u64,
-        },
-        Cursor::End => cursor_not(0, 0),
-        Cursor::Refused(refusal) => cursor_not(refusal.number as u64, refusal.place as u64),
+impl From<Result<Option<Cursor>, Refusal>> for FstfCursor {
+    ghost from_gives = { λ answer flat. flat ≡ cursor_flat answer };
+
+    fn from(answer: Result<Option<Cursor>, Refusal>) -> FstfCursor {
+        match answer {
+            Ok(Some(at)) => FstfCursor {
+                refused: 0,
+                place: 0,
+                found: FOUND,
+                name: at.tag.name as u64,
+                name_length: at.tag.name_length as u64,
+                value: at.tag.value as u64,
+                value_length: at.tag.value_length as u64,
+                left: at.left as u64,
+            },
+            Ok(None) => cursor_not(0, 0),
+            Err(refusal) => cursor_not(refusal.number() as u64, refusal.place() as u64),
+        }
     }
 }
 
 // The numbers of a cursor at a tag, or any others.
-fn cursor_asked(at: FstfCursor) -> Cursor
-    ensures { result ≡ cursor_asked at }
-{
-    Cursor::Tag {
-        name: at.name as usize,
-        name_length: at.name_length as usize,
-        value: at.value as usize,
-        value_length: at.value_length as usize,
-        left: at.left as usize,
+impl From<FstfCursor> for Cursor {
+    ghost from_gives = { λ at cursor. cursor ≡ cursor_asked at };
+
+    fn from(at: FstfCursor) -> Cursor {
+        Cursor {
+            tag: TagFound {
+                name: at.name as usize,
+                name_length: at.name_length as usize,
+                value: at.value as usize,
+                value_length: at.value_length as usize,
+            },
+            left: at.left as usize,
+        }
     }
 }
 
 pub fn first_tag(table: &[u8]) -> FstfCursor
     ensures { result ≡ cursor_flat (cursor_as (first_tag table.now)) }
 {
-    cursor_flat(cursor::first_tag(table))
+    cursor::first_tag(table).into()
 }
 
 // The cursor behind the tag that one stands at. A refusal is passed through, and the end stays.
@@ -295,5 +289,5 @@ pub fn next_tag(table: &[u8], at: FstfCursor) -> FstfCursor
     if at.found == 0 {
         return cursor_not(0, 0);
     }
-    cursor_flat(cursor::next_tag(table, cursor_asked(at)))
+    cursor::next_tag(table, Ok(Some(at.into()))).into()
 }

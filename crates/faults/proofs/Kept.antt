@@ -17,13 +17,13 @@ use Rattle.layout.specs.Reading.{Parsed, bad, good, Reader, rows_fault}
 use Rattle.layout.proofs.Lists.{bytes_take, bytes_drop}
 use Rattle.rows.specs.declared.Row.{Row}
 use Rattle.order.specs.Order.{key, name_of, name_at, keys, seek, inserted}
-use Rattle.order.specs.declared.Seat.{Seat}
-use Rattle.order.specs.declared.Seat.TheVariants as seat
 use Rattle.order.proofs.Keys.{key-same}
 use Rattle.order.proofs.Seats.{ascend, holds, or_swap, seek-met, seek-new, inserted-holds, length_inserted}
 use Rattle.faults.specs.Faults.{rule_of, name_by, rest_by, rest_of, passed_by, seated_by, row_passed}
-use Rattle.faults.specs.declared.Passing.{Passing}
-use Rattle.faults.specs.declared.Passing.TheVariants as passing
+use Rattle.faults.specs.declared.Passed.{Passed}
+use Rattle.parts.specs.Parts.{broken_at}
+use Rattle.parts.specs.declared.Fault.{Fault}
+use Rattle.std.specs.Prelude.{Option, Some, None, Result, Ok, Err}
 use Rattle.faults.proofs.Laws.{read-parts}
 
 -- ── The first fault of rows, by the first of them ──
@@ -72,13 +72,14 @@ pub record Kept (ps s : List ℕ) (k : Row) (passed place left before all : ℕ)
   pub known : (x : List ℕ) → are_bytes x ≡ true → holds (key x) (keys s (take passed ps)) ≡ among x names
   pub fault : place + rows_fault left (name_by k) (rest_by k) before names (drop place s) ≡ all
 
-pub kept-none : (ps s : List ℕ) (k : Row) (at n before : ℕ) → n ≤ 1000 → length ps ≡ 1000
-    → Kept ps s k 0 at n before (at + rows_fault n (name_by k) (rest_by k) before [] (drop at s))
+pub kept-none : (ps s : List ℕ) (k : Row) (at n left before : ℕ) → n ≤ 1000 → length ps ≡ 1000 → left ≡ n
+    → Kept ps s k 0 at left before (at + rows_fault n (name_by k) (rest_by k) before [] (drop at s))
 unfolding ascend holds keys among
-kept-none ps s k at n before h l = record { room = omega arith; names = []; ascending = refl; known = λ x b. refl; fault = refl }
+kept-none ps s k at n left before h l e =
+    record { room = omega arith; names = []; ascending = refl; known = λ x b. refl; fault = rw e }
 
-pub kept-done : (ps s : List ℕ) (k : Row) (passed place left before all : ℕ) → left ≤ 0 → Kept ps s k passed place left before all → place ≡ all
-kept-done ps s k passed place left before all h o =
+pub kept-done : (ps s : List ℕ) (k : Row) (passed place left before all : ℕ) → Kept ps s k passed place left before all → left ≤ 0 → place ≡ all
+kept-done ps s k passed place left before all o h =
     omega (arith, faults-none (name_by k) (rest_by k) before o.names (drop place s) left h, o.fault)
 
 among-more : (x n : List ℕ) (ns : List (List ℕ)) → (same x n || among x ns) ≡ among x (ns ++ n ∷ [])
@@ -99,54 +100,56 @@ module _ (s : List ℕ) (k : Row) (place : ℕ) (v : List ℕ) (m : ℕ) (e : na
       ap are_bytes p ∙ bytes_take (length v) (drop (place + 1) s) (bytes_drop (place + 1) s (slice-bytes s b))
 
 -- how a row was passed
-row-fault : (s ps : List ℕ) (passed place : ℕ) (k : Row) (before p : ℕ) {G : Type 0} → row_passed s ps passed place k before ≡ passing.Fault p
-    → ((m : ℕ) → name_by k (drop place s) ≡ bad m → p ≡ place + m → G)
-    → ((v : List ℕ) (m : ℕ) → name_by k (drop place s) ≡ good v m → seek s ps passed place ≡ seat.Nothing → p ≡ place → G)
-    → ((v : List ℕ) (m i j : ℕ) → name_by k (drop place s) ≡ good v m → seek s ps passed place ≡ seat.At i
-    → rest_by k before (drop (place + m) s) ≡ bad j → p ≡ place + m + j → G) → G
+row-fault : (s ps : List ℕ) (passed place : ℕ) (k : Row) (before : ℕ) (p : Fault) {G : Type 0} → row_passed s ps passed place k before ≡ Err p
+    → ((m : ℕ) → name_by k (drop place s) ≡ bad m → p.place ≡ place + m → G)
+    → ((v : List ℕ) (m : ℕ) → name_by k (drop place s) ≡ good v m → seek s ps passed place ≡ None → p.place ≡ place → G)
+    → ((v : List ℕ) (m i j : ℕ) → name_by k (drop place s) ≡ good v m → seek s ps passed place ≡ Some i
+    → rest_by k before (drop (place + m) s) ≡ bad j → p.place ≡ place + m + j → G) → G
 unfolding row_passed seated_by passed_by rest_of
 row-fault s ps passed place k before p {G} e f g h = go (name_by k (drop place s)) refl e
   where
-    behind : (v : List ℕ) (m i : ℕ) (r : Parsed ℕ) → name_by k (drop place s) ≡ good v m → seek s ps passed place ≡ seat.At i
-        → rest_by k before (drop (place + m) s) ≡ r → passed_by i (rest_of (place + m) r) ≡ passing.Fault p → G
-    behind v m i (bad j) a b c d = h v m i j a b c cc
+    at-place : (n : ℕ) → ◌≡◌ {A = Result Passed Fault} (Err (broken_at n)) (Err p) → p.place ≡ n
+    at-place n e = let q : broken_at n ≡ p = cc in sym (ap (λ (x : Fault). x.place) q)
+
+    behind : (v : List ℕ) (m i : ℕ) (r : Parsed ℕ) → name_by k (drop place s) ≡ good v m → seek s ps passed place ≡ Some i
+        → rest_by k before (drop (place + m) s) ≡ r → passed_by i (rest_of (place + m) r) ≡ Err p → G
+    behind v m i (bad j) a b c d = h v m i j a b c (at-place (place + m + j) d)
     behind v m i (good n j) a b c d = let z : ◌≡◌ {A = ℕ} 0 1 = cc in absurd (omega arith)
 
-    sat : (v : List ℕ) (m : ℕ) (t : Seat) → name_by k (drop place s) ≡ good v m → seek s ps passed place ≡ t
-        → seated_by t place (rest_of (place + m) (rest_by k before (drop (place + m) s))) ≡ passing.Fault p → G
-    sat v m seat.Nothing a b c = g v m a b cc
-    sat v m (seat.At i) a b c = behind v m i (rest_by k before (drop (place + m) s)) a b refl c
+    sat : (v : List ℕ) (m : ℕ) (t : Option ℕ) → name_by k (drop place s) ≡ good v m → seek s ps passed place ≡ t
+        → seated_by t place (rest_of (place + m) (rest_by k before (drop (place + m) s))) ≡ Err p → G
+    sat v m None a b c = g v m a b (at-place place c)
+    sat v m (Some i) a b c = behind v m i (rest_by k before (drop (place + m) s)) a b refl c
 
-    go : (x : Parsed (List ℕ)) → name_by k (drop place s) ≡ x → elim x [
-      | bad m ↦ passing.Fault (place + m)
+    go : (x : Parsed (List ℕ)) → name_by k (drop place s) ≡ x → ◌≡◌ {A = Result Passed Fault} (elim x [
+      | bad m ↦ Err (broken_at (place + m))
       | good name m ↦ seated_by (seek s ps passed place) place (rest_of (place + m) (rest_by k before (drop (place + m) s)))
-    ] ≡ passing.Fault p → G
-    go (bad m) a b = f m a cc
+    ]) (Err p) → G
+    go (bad m) a b = f m a (at-place (place + m) b)
     go (good v m) a b = sat v m (seek s ps passed place) a refl b
 
-row_on : (s ps : List ℕ) (passed place : ℕ) (k : Row) (before i end n : ℕ) {G : Type 0} → row_passed s ps passed place k before ≡ passing.Next i end n
-    → ((v : List ℕ) (m j : ℕ) → name_by k (drop place s) ≡ good v m → seek s ps passed place ≡ seat.At i
-    → rest_by k before (drop (place + m) s) ≡ good n j → end ≡ place + m + j → G) → G
+row_on : (s ps : List ℕ) (passed place : ℕ) (k : Row) (before : ℕ) (p : Passed) {G : Type 0} → row_passed s ps passed place k before ≡ Ok p
+    → ((v : List ℕ) (m j : ℕ) → name_by k (drop place s) ≡ good v m → seek s ps passed place ≡ Some p.seat
+    → rest_by k before (drop (place + m) s) ≡ good p.number j → p.end ≡ place + m + j → G) → G
 unfolding row_passed seated_by passed_by rest_of
-row_on s ps passed place k before i end n {G} e h = go (name_by k (drop place s)) refl e
+row_on s ps passed place k before p {G} e h = go (name_by k (drop place s)) refl e
   where
-    behind : (v : List ℕ) (m l : ℕ) (r : Parsed ℕ) → name_by k (drop place s) ≡ good v m → seek s ps passed place ≡ seat.At l
-        → rest_by k before (drop (place + m) s) ≡ r → passed_by l (rest_of (place + m) r) ≡ passing.Next i end n → G
+    behind : (v : List ℕ) (m l : ℕ) (r : Parsed ℕ) → name_by k (drop place s) ≡ good v m → seek s ps passed place ≡ Some l
+        → rest_by k before (drop (place + m) s) ≡ r → passed_by l (rest_of (place + m) r) ≡ Ok p → G
     behind v m l (bad j) a b c d = let z : ◌≡◌ {A = ℕ} 0 1 = cc in absurd (omega arith)
     behind v m l (good x j) a b c d =
-        let y : l ≡ i = cc in
-        let z : x ≡ n = cc in
-        h v m j a (rw y at b) (rw z at c) cc
+        let q : ◌≡◌ {A = Passed} (record { seat = l; end = place + m + j; number = x }) p = cc in
+        h v m j a (b ∙ ap (λ (r : Passed). Some r.seat) q) (c ∙ ap (λ (r : Passed). good r.number j) q) (sym (ap (λ (r : Passed). r.end) q))
 
-    sat : (v : List ℕ) (m : ℕ) (t : Seat) → name_by k (drop place s) ≡ good v m → seek s ps passed place ≡ t
-        → seated_by t place (rest_of (place + m) (rest_by k before (drop (place + m) s))) ≡ passing.Next i end n → G
-    sat v m seat.Nothing a b c = let z : ◌≡◌ {A = ℕ} 0 1 = cc in absurd (omega arith)
-    sat v m (seat.At l) a b c = behind v m l (rest_by k before (drop (place + m) s)) a b refl c
+    sat : (v : List ℕ) (m : ℕ) (t : Option ℕ) → name_by k (drop place s) ≡ good v m → seek s ps passed place ≡ t
+        → seated_by t place (rest_of (place + m) (rest_by k before (drop (place + m) s))) ≡ Ok p → G
+    sat v m None a b c = let z : ◌≡◌ {A = ℕ} 0 1 = cc in absurd (omega arith)
+    sat v m (Some l) a b c = behind v m l (rest_by k before (drop (place + m) s)) a b refl c
 
-    go : (x : Parsed (List ℕ)) → name_by k (drop place s) ≡ x → elim x [
-      | bad m ↦ passing.Fault (place + m)
+    go : (x : Parsed (List ℕ)) → name_by k (drop place s) ≡ x → ◌≡◌ {A = Result Passed Fault} (elim x [
+      | bad m ↦ Err (broken_at (place + m))
       | good name m ↦ seated_by (seek s ps passed place) place (rest_of (place + m) (rest_by k before (drop (place + m) s)))
-    ] ≡ passing.Next i end n → G
+    ]) (Ok p) → G
     go (bad m) a b = let z : ◌≡◌ {A = ℕ} 0 1 = cc in absurd (omega arith)
     go (good v m) a b = sat v m (seek s ps passed place) a refl b
 
@@ -158,15 +161,15 @@ module _ (ps s : List ℕ) (k : Row) (passed place left before all : ℕ) (b : (
         let q : holds (key v) (keys s (take passed ps)) ≡ c = rw (named s k place v m e) at h in
         sym (o.known v (bytes-name s k place v m e b)) ∙ q
 
-    met : (v : List ℕ) (m : ℕ) → name_by k (drop place s) ≡ good v m → passed ≤ length ps → seek s ps passed place ≡ seat.Nothing
+    met : (v : List ℕ) (m : ℕ) → name_by k (drop place s) ≡ good v m → passed ≤ length ps → seek s ps passed place ≡ None
         → among v o.names ≡ true
     met v m e l h = told v m true e (seek-met s ps passed place l h)
 
-    new : (v : List ℕ) (m i : ℕ) → name_by k (drop place s) ≡ good v m → passed < length ps → seek s ps passed place ≡ seat.At i
+    new : (v : List ℕ) (m i : ℕ) → name_by k (drop place s) ≡ good v m → passed < length ps → seek s ps passed place ≡ Some i
         → among v o.names ≡ false
     new v m i e l h = told v m false e (seek-new s ps passed place i l o.ascending h).1
 
-    stopped : (p : ℕ) → 0 < left → row_passed s ps passed place k before ≡ passing.Fault p → p ≡ all
+    stopped : (p : Fault) → 0 < left → row_passed s ps passed place k before ≡ Err p → p.place ≡ all
     stopped p l e =
         let m : passed < length ps = omega (arith, o.room) in
         row-fault s ps passed place k before p e (λ i f g.
@@ -183,35 +186,37 @@ module _ (ps s : List ℕ) (k : Row) (passed place left before all : ℕ) (b : (
           o.fault,
         ))
 
-    onward : (i end n : ℕ) → 0 < left → row_passed s ps passed place k before ≡ passing.Next i end n
-        → Kept (inserted ps passed i place) s k (passed + 1) end (left - 1) n all
-    onward i end n l e =
+    onward : (p : Passed) → 0 < left → row_passed s ps passed place k before ≡ Ok p
+        → Kept (inserted ps passed p.seat place) s k (passed + 1) p.end (left - 1) p.number all
+    onward p l e =
         let m : passed < length ps = omega (arith, o.room) in
-        row_on s ps passed place k before i end n e (λ v c j f g h q.
-        let (u, w, x) = seek-new s ps passed place i m o.ascending g in
-        let a : rest_by k before (drop c (drop place s)) ≡ good n j = rw (drop-drop c place s) h in
-        let d : drop j (drop c (drop place s)) ≡ drop end s = rw (drop-drop c place s, drop-drop j (place + c) s, q) in
-        let y = faults-next (name_by k) (rest_by k) before o.names (drop place s) v c f left n j l (new v c i f m g) a in
+        row_on s ps passed place k before p e (λ v c j f g h q.
+        let (u, w, x) = seek-new s ps passed place p.seat m o.ascending g in
+        let a : rest_by k before (drop c (drop place s)) ≡ good p.number j = rw (drop-drop c place s) h in
+        let d : drop j (drop c (drop place s)) ≡ drop p.end s = rw (drop-drop c place s, drop-drop j (place + c) s, q) in
+        let y = faults-next (name_by k) (rest_by k) before o.names (drop place s) v c f left p.number j l (new v c p.seat f m g) a in
         let z : rows_fault left (name_by k) (rest_by k) before o.names (drop place s)
-        ≡ c + (j + rows_fault (left - 1) (name_by k) (rest_by k) n (o.names ++ v ∷ []) (drop end s)) = rw d at y in
+        ≡ c + (j + rows_fault (left - 1) (name_by k) (rest_by k) p.number (o.names ++ v ∷ []) (drop p.end s)) = rw d at y in
         record {
-          room = omega (arith, length_inserted ps passed i place, o.room);
+          room = omega (arith, length_inserted ps passed p.seat place, o.room);
           names = o.names ++ v ∷ [];
           ascending = x;
-          known = λ t bs. inserted-holds s ps passed i place m u (key t)
+          known = λ t bs. inserted-holds s ps passed p.seat place m u (key t)
               ∙ rw (named s k place v c f, key-same t v bs (bytes-name s k place v c f b), o.known t bs) (among-more t v o.names);
           fault = omega (arith, z, o.fault, q);
         })
 
-module _ (ps s : List ℕ) (k : Row) (passed place left before all : ℕ) (r : Passing) where
-  pub kept-fault : (p : ℕ) → ((i : ℕ) → Fits w8 (get_or s i 0)) → Kept ps s k passed place left before all → 0 < left
-      → r ≡ row_passed s ps passed place k before → r ≡ passing.Fault p → p ≡ all
-  kept-fault p b o l e f = stopped ps s k passed place left before all b o p l (sym e ∙ f)
+module _ (ps s : List ℕ) (k : Row) (passed place left before all : ℕ) (r : Result Passed Fault) where
+  pub kept-fault : (p : Fault) → Kept ps s k passed place left before all → r ≡ row_passed s ps passed place k before → r ≡ Err p
+      → ((i : ℕ) → Fits w8 (get_or s i 0)) → 0 < left → p.place ≡ all
+  kept-fault p o e f b l = stopped ps s k passed place left before all b o p l (sym e ∙ f)
 
-  pub kept_next : (i end number : ℕ) (after : List ℕ) → ((i : ℕ) → Fits w8 (get_or s i 0)) → Kept ps s k passed place left before all → 0 < left
-      → r ≡ row_passed s ps passed place k before → r ≡ passing.Next i end number → after ≡ inserted ps passed i place
-      → Kept after s k (passed + 1) end (left - 1) number all
-  kept_next i end number after b o l e f a = rw a (onward ps s k passed place left before all b o i end number l (sym e ∙ f))
+  pub kept_next : (next : ℕ) (p : Passed) (after : List ℕ) → Kept ps s k passed place left before all → r ≡ row_passed s ps passed place k before
+      → r ≡ Ok p → after ≡ inserted ps passed p.seat place → ((i : ℕ) → Fits w8 (get_or s i 0)) → left ≡ next + 1
+      → Kept after s k (passed + 1) p.end next p.number all
+  kept_next next p after o e f a b l =
+      let q : next ≡ left - 1 = omega arith in
+      rw (a, q) (onward ps s k passed place left before all b o p (omega arith) (sym e ∙ f))
 
 pub kept-long : (ps after : List ℕ) (n passed i place : ℕ) → length ps ≡ n → after ≡ inserted ps passed i place → length after ≡ n
 kept-long ps after n passed i place h a = ap length a ∙ length_inserted ps passed i place ∙ h

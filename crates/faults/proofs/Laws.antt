@@ -21,8 +21,6 @@ use Rattle.layout.specs.Recorder.{configured}
 use Rattle.layout.specs.Saving.{kind, entry_of, entry_part, absent, holds}
 use Rattle.layout.proofs.Readers.{placed-good, then-takes, block-is}
 use Rattle.strings.specs.Strings.{text_of, short_of, read_by}
-use Rattle.strings.specs.declared.Short.{Short}
-use Rattle.strings.specs.declared.Short.TheVariants as short
 use Rattle.strings.specs.declared.Rule.{Rule}
 use Rattle.strings.specs.declared.Rule.TheVariants as rule
 use Rattle.strings.proofs.Laws.{string-parts}
@@ -33,26 +31,24 @@ use Rattle.rows.specs.declared.Row.{Row}
 use Rattle.rows.specs.declared.Row.TheVariants as row
 use Rattle.rows.proofs.Laws.{entry-kind}
 use Rattle.order.specs.Order.{seek}
-use Rattle.order.specs.declared.Seat.{Seat}
-use Rattle.order.specs.declared.Seat.TheVariants as seat
-use Rattle.faults.specs.Faults.{rule_of, name_by, rest_by, entry_by, rest_of, passed_by, seated_by, row_passed, count_of, count_by, first_fault}
+use Rattle.faults.specs.Faults.{rule_of, name_by, rest_by, entry_by, rest_whole, rest_of, passed_by, seated_by, row_passed, count_of, count_by, first_fault}
 use Rattle.faults.specs.declared.Rest.{Rest}
-use Rattle.faults.specs.declared.Rest.TheVariants as rest
-use Rattle.faults.specs.declared.Passing.{Passing}
-use Rattle.faults.specs.declared.Passing.TheVariants as passing
+use Rattle.parts.specs.Parts.{broken_at}
+use Rattle.parts.specs.declared.Fault.{Fault}
+use Rattle.std.specs.Prelude.{Option, Some, None, Result, Ok, Err}
 use Rattle.faults.specs.declared.Count.{Count}
 
 -- ── A short string that was read ──
 
-short-good : (at n : ℕ) (x : Parsed (List ℕ)) → short_of at x ≡ short.Whole n → (v : List ℕ) × (m : ℕ) × (x ≡ good v m) × (n ≡ length v)
+short-good : (at n : ℕ) (x : Parsed (List ℕ)) → short_of at x ≡ Ok n → (v : List ℕ) × (m : ℕ) × (x ≡ good v m) × (n ≡ length v)
 unfolding short_of
 short-good at n (bad m) e = let z : ◌≡◌ {A = ℕ} 0 1 = cc in absurd (omega arith)
 short-good at n (good v m) e = (v, m, refl, cc)
 
-short-bad : (at p : ℕ) (x : Parsed (List ℕ)) → short_of at x ≡ short.Broken p → (m : ℕ) × (x ≡ bad m) × (p ≡ at + m)
+short-bad : (at : ℕ) (f : Fault) (x : Parsed (List ℕ)) → short_of at x ≡ Err f → (m : ℕ) × (x ≡ bad m) × (f ≡ broken_at (at + m))
 unfolding short_of
-short-bad at p (bad m) e = (m, refl, cc)
-short-bad at p (good v m) e = let z : ◌≡◌ {A = ℕ} 0 1 = cc in absurd (omega arith)
+short-bad at f (bad m) e = (m, refl, cc)
+short-bad at f (good v m) e = let z : ◌≡◌ {A = ℕ} 0 1 = cc in absurd (omega arith)
 
 -- whatever its rule, it is a short string
 string-by : (q : Rule) (t v : List ℕ) (m : ℕ) → read_by q t ≡ good v m → string t ≡ good v m
@@ -71,7 +67,7 @@ read-parts q s at v m e =
     let (l, o, p) = string-parts s at (length v) (rw f) in
     (l, cc, cc, f)
 
-read-good : (q : Rule) (s : List ℕ) (at n : ℕ) (r : Short) → r ≡ short_of at (read_by q (drop at s)) → r ≡ short.Whole n
+read-good : (q : Rule) (s : List ℕ) (at n : ℕ) (r : Result ℕ Fault) → r ≡ short_of at (read_by q (drop at s)) → r ≡ Ok n
     → (at + 1 + n ≤ length s) × (v : List ℕ) × (read_by q (drop at s) ≡ good v (1 + n))
 read-good q s at n r e f =
     let (v, m, g, h) = short-good at n (read_by q (drop at s)) (sym e ∙ f) in
@@ -79,45 +75,47 @@ read-good q s at n r e f =
     let j : m ≡ 1 + n = omega arith in
     (omega arith, v, rw (← j) g)
 
-module _ (q : Rule) (s : List ℕ) (at n : ℕ) (r : Short) where
-  pub read_fits : r ≡ short_of at (read_by q (drop at s)) → r ≡ short.Whole n → at + 1 + n ≤ length s
+module _ (q : Rule) (s : List ℕ) (at n : ℕ) (r : Result ℕ Fault) where
+  pub read_fits : r ≡ short_of at (read_by q (drop at s)) → r ≡ Ok n → at + 1 + n ≤ length s
   read_fits e f = (read-good q s at n r e f).0
 
-  pub read-place : length s < 2 ^ 64 → r ≡ short_of at (read_by q (drop at s)) → r ≡ short.Whole n → Fits w64 (at + 1)
+  pub read-place : length s < 2 ^ 64 → r ≡ short_of at (read_by q (drop at s)) → r ≡ Ok n → Fits w64 (at + 1)
   read-place h e f = let l = read_fits e f in record { fits = omega arith }
 
-  pub read-end : length s < 2 ^ 64 → r ≡ short_of at (read_by q (drop at s)) → r ≡ short.Whole n → Fits w64 (at + 1 + n)
+  pub read-end : length s < 2 ^ 64 → r ≡ short_of at (read_by q (drop at s)) → r ≡ Ok n → Fits w64 (at + 1 + n)
   read-end h e f = let l = read_fits e f in record { fits = omega arith }
 
 -- ── What was read, n bytes further on ──
 
 rest-later : (r : Parsed ℕ) (at n : ℕ) → rest_of at (behind n r) ≡ rest_of (at + n) r
 unfolding rest_of behind
-rest-later (bad m) at n = ap rest.Broken (omega arith)
-rest-later (good x m) at n = ap (λ (e : ℕ). rest.Whole e x) (omega arith)
+rest-later (bad m) at n = ap (λ (i : ℕ). Err (broken_at i)) (omega arith)
+rest-later (good x m) at n = ap (λ (e : ℕ). rest_whole e x) (omega arith)
 
 then-rest : {A : Type 0} (p : Reader A) (q : A → Reader ℕ) (s : List ℕ) (at : ℕ) (x : A) (n : ℕ) → p (drop at s) ≡ good x n
     → rest_of at ((p then q) (drop at s)) ≡ rest_of (at + n) (q x (drop (at + n) s))
 then-rest p q s at x n e = ap (rest_of at) (then-onward p q (drop at s) x n e) ∙ rw (drop-drop n at s) (rest-later (q x (drop (at + n) s)) at n)
 
-rest-good : (r : Parsed ℕ) (at end n : ℕ) → rest_of at r ≡ rest.Whole end n → (m : ℕ) × (r ≡ good n m) × (end ≡ at + m)
+rest-good : (r : Parsed ℕ) (at : ℕ) (p : Rest) → rest_of at r ≡ Ok p → (m : ℕ) × (r ≡ good p.number m) × (p.end ≡ at + m)
 unfolding rest_of
-rest-good (bad m) at end n e = let z : ◌≡◌ {A = ℕ} 0 1 = cc in absurd (omega arith)
-rest-good (good x m) at end n e = let j : x ≡ n = cc in (m, rw j, cc)
+rest-good (bad m) at p e = let z : ◌≡◌ {A = ℕ} 0 1 = cc in absurd (omega arith)
+rest-good (good x m) at p e =
+    let q : ◌≡◌ {A = Rest} (record { end = at + m; number = x }) p = cc in
+    (m, ap (λ (t : Rest). good t.number m) q, sym (ap (λ (t : Rest). t.end) q))
 
-rest-bad : (r : Parsed ℕ) (at p : ℕ) → rest_of at r ≡ rest.Broken p → (m : ℕ) × (r ≡ bad m) × (p ≡ at + m)
+rest-bad : (r : Parsed ℕ) (at : ℕ) (f : Fault) → rest_of at r ≡ Err f → (m : ℕ) × (r ≡ bad m) × (f ≡ broken_at (at + m))
 unfolding rest_of
-rest-bad (bad m) at p e = (m, refl, cc)
-rest-bad (good x m) at p e = let z : ◌≡◌ {A = ℕ} 0 1 = cc in absurd (omega arith)
+rest-bad (bad m) at f e = (m, refl, cc)
+rest-bad (good x m) at f e = let z : ◌≡◌ {A = ℕ} 0 1 = cc in absurd (omega arith)
 
-broken-here : (r : Parsed ℕ) (at : ℕ) → r ≡ bad 0 → rest.Broken at ≡ rest_of at r
+broken-here : (r : Parsed ℕ) (at : ℕ) → r ≡ bad 0 → Err (broken_at at) ≡ rest_of at r
 unfolding rest_of
-broken-here r at e = rw e (ap rest.Broken (omega arith))
+broken-here r at e = rw e (ap (λ (i : ℕ). Err (broken_at i)) (omega arith))
 
 -- ── The offset of a configuration ──
 
 module _ (s : List ℕ) (at before : ℕ) where
-  pub offset-cut : length s - at < 8 → rest.Broken at ≡ rest_of at (offset_behind before (drop at s))
+  pub offset-cut : length s - at < 8 → Err (broken_at at) ≡ rest_of at (offset_behind before (drop at s))
   unfolding offset_behind
   offset-cut h = broken-here (offset_behind before (drop at s)) at (only-bad (step before) (number 8) (drop at s) (number_cut 8 s at h))
 
@@ -125,19 +123,19 @@ module _ (s : List ℕ) (at before : ℕ) where
     offset-there : number 8 (drop at s) ≡ good offset 8
     offset-there = rw e (number-there 8 s at (omega arith) l h)
 
-    pub offset-low : offset < before → rest.Broken at ≡ rest_of at (offset_behind before (drop at s))
+    pub offset-low : offset < before → Err (broken_at at) ≡ rest_of at (offset_behind before (drop at s))
     unfolding offset_behind
     offset-low b =
         broken-here (offset_behind before (drop at s)) at
         (only-fail (step before) (number 8) (drop at s) offset 8 offset-there (rw (lt-leb before offset b)))
 
-    pub offset-far : before ≤ offset → 65535 < offset - before → rest.Broken at ≡ rest_of at (offset_behind before (drop at s))
+    pub offset-far : before ≤ offset → 65535 < offset - before → Err (broken_at at) ≡ rest_of at (offset_behind before (drop at s))
     unfolding offset_behind
     offset-far b f =
         broken-here (offset_behind before (drop at s)) at
         (only-fail (step before) (number 8) (drop at s) offset 8 offset-there (rw (le-leb before offset b, lt-leb (offset - before) 65535 f)))
 
-    pub offset-whole : before ≤ offset → offset - before ≤ 65535 → rest.Whole (at + 8) offset ≡ rest_of at (offset_behind before (drop at s))
+    pub offset-whole : before ≤ offset → offset - before ≤ 65535 → rest_whole (at + 8) offset ≡ rest_of at (offset_behind before (drop at s))
     unfolding offset_behind rest_of
     offset-whole b f =
         rw (only-pass (step before) (number 8) (drop at s) offset 8 offset-there (rw (le-leb before offset b, le-leb (offset - before) 65535 f)))
@@ -145,7 +143,7 @@ module _ (s : List ℕ) (at before : ℕ) where
 -- ── A configuration ──
 
 module _ (s : List ℕ) (at before : ℕ) where
-  pub configuration-cut : length s - at < 2 → rest.Broken at ≡ rest_of at (keeping configured before (drop at s))
+  pub configuration-cut : length s - at < 2 → Err (broken_at at) ≡ rest_of at (keeping configured before (drop at s))
   unfolding keeping configured
   configuration-cut h =
       broken-here (keeping configured before (drop at s)) at
@@ -155,36 +153,36 @@ module _ (s : List ℕ) (at before : ℕ) where
     size-there : number 2 (drop at s) ≡ good n 2
     size-there = rw e (number-there 2 s at (omega arith) l h)
 
-    pub configuration-short : length s - (at + 2) < n → rest.Broken (at + 2) ≡ rest_of at (keeping configured before (drop at s))
+    pub configuration-short : length s - (at + 2) < n → Err (broken_at (at + 2)) ≡ rest_of at (keeping configured before (drop at s))
     unfolding keeping configured rest_of
     configuration-short f =
         let q : block n (drop 2 (drop at s)) ≡ bad 0 = rw (drop-drop 2 at s) (block-short n s (at + 2) f) in
         rw (then-bad configured (λ x. give before) (drop at s) (then-next-bad (number 2) block (drop at s) n 2 size-there q))
 
-    pub configuration-whole : n ≤ length s - (at + 2) → rest.Whole (at + 2 + n) before ≡ rest_of at (keeping configured before (drop at s))
+    pub configuration-whole : n ≤ length s - (at + 2) → rest_whole (at + 2 + n) before ≡ rest_of at (keeping configured before (drop at s))
     unfolding keeping configured rest_of
     configuration-whole f =
         let t : List ℕ = drop 2 (drop at s) in
         let k : n ≤ length t = simp length-drop (omega arith) in
         let p : configured (drop at s) ≡ good (take n t) (2 + n) = then-takes (number 2) block (drop at s) n (take n t) 2 n size-there (block-is n t k) in
-        rw (then-give configured (λ x. before) (drop at s) (take n t) (2 + n) p) (ap (λ (i : ℕ). rest.Whole i before) (omega arith))
+        rw (then-give configured (λ x. before) (drop at s) (take n t) (2 + n) p) (ap (λ (i : ℕ). rest_whole i before) (omega arith))
 
 -- ── A value ──
 
-module _ (s : List ℕ) (at before : ℕ) (r : Short) where
-  pub value-whole : (n : ℕ) → r ≡ short_of at (read_by rule.TagValue (drop at s)) → r ≡ short.Whole n
-      → rest.Whole (at + 1 + n) before ≡ rest_of at (keeping tag_value before (drop at s))
+module _ (s : List ℕ) (at before : ℕ) (r : Result ℕ Fault) where
+  pub value-whole : (n : ℕ) → r ≡ short_of at (read_by rule.TagValue (drop at s)) → r ≡ Ok n
+      → rest_whole (at + 1 + n) before ≡ rest_of at (keeping tag_value before (drop at s))
   unfolding keeping rest_of read_by
   value-whole n e f =
       let (l, v, g) = read-good rule.TagValue s at n r e f in
-      rw (then-give tag_value (λ x. before) (drop at s) v (1 + n) g) (ap (λ (i : ℕ). rest.Whole i before) (omega arith))
+      rw (then-give tag_value (λ x. before) (drop at s) v (1 + n) g) (ap (λ (i : ℕ). rest_whole i before) (omega arith))
 
-  pub value-broken : (p : ℕ) → r ≡ short_of at (read_by rule.TagValue (drop at s)) → r ≡ short.Broken p
-      → rest.Broken p ≡ rest_of at (keeping tag_value before (drop at s))
+  pub value-broken : (p : Fault) → r ≡ short_of at (read_by rule.TagValue (drop at s)) → r ≡ Err p
+      → Err p ≡ rest_of at (keeping tag_value before (drop at s))
   unfolding keeping rest_of read_by
   value-broken p e f =
       let (m, g, h) = short-bad at p (read_by rule.TagValue (drop at s)) (sym e ∙ f) in
-      rw (then-bad tag_value (λ x. give before) (drop at s) g) (ap rest.Broken h)
+      rw (then-bad tag_value (λ x. give before) (drop at s) g) (ap Err h)
 
 -- ── An entry ──
 
@@ -196,13 +194,13 @@ module _ (s : List ℕ) (at most before : ℕ) where
   next : ℕ → Reader ℕ
   next k = cond (eqb k 1) (keeping tag_value before) (give before)
 
-  pub entry_past : length s ≤ at → rest.Broken at ≡ rest_of at (entry_by most before (drop at s))
+  pub entry_past : length s ≤ at → Err (broken_at at) ≡ rest_of at (entry_by most before (drop at s))
   unfolding entry_by kind next
   entry_past h =
       broken-here (entry_by most before (drop at s)) at
       (then-bad (kind most) next (drop at s) (only-bad (within 0 most) (number 1) (drop at s) (number_cut 1 s at (omega arith))))
 
-  pub entry_more : at < length s → most < get_or s at 0 → rest.Broken at ≡ rest_of at (entry_by most before (drop at s))
+  pub entry_more : at < length s → most < get_or s at 0 → Err (broken_at at) ≡ rest_of at (entry_by most before (drop at s))
   unfolding entry_by kind next
   entry_more h l =
       broken-here (entry_by most before (drop at s)) at
@@ -216,18 +214,18 @@ module _ (s : List ℕ) (at most before : ℕ) where
       only-pass (within 0 most) (number 1) (drop at s) (get_or s at 0) 1 (entry-kind s at h)
       (rw (le-leb 0 (get_or s at 0) (omega arith), le-leb (get_or s at 0) most l))
 
-  pub entry_value : (r : Rest) → at < length s → get_or s at 0 ≤ most → get_or s at 0 ≡ 1
+  pub entry_value : (r : Result Rest Fault) → at < length s → get_or s at 0 ≤ most → get_or s at 0 ≡ 1
       → r ≡ rest_of (at + 1) (keeping tag_value before (drop (at + 1) s))
       → r ≡ rest_of at (entry_by most before (drop at s))
   unfolding entry_by next
   entry_value r h l e f = f ∙ sym (then-rest (kind most) next s at (get_or s at 0) 1 (kind-there h l) ∙ rw (eq-eqb (get_or s at 0) 1 e))
 
   pub entry-none : at < length s → get_or s at 0 ≤ most → (get_or s at 0 ≡ 1 → ⊥)
-      → rest.Whole (at + 1) before ≡ rest_of at (entry_by most before (drop at s))
+      → rest_whole (at + 1) before ≡ rest_of at (entry_by most before (drop at s))
   unfolding entry_by next rest_of give
   entry-none h l e =
       sym (then-rest (kind most) next s at (get_or s at 0) 1 (kind-there h l)
-      ∙ rw (ne_eqb (get_or s at 0) 1 e) (ap (λ (i : ℕ). rest.Whole i before) (omega arith)))
+      ∙ rw (ne_eqb (get_or s at 0) 1 e) (ap (λ (i : ℕ). rest_whole i before) (omega arith)))
 
 -- ── Two entries ──
 
@@ -300,28 +298,28 @@ keeping-bad {A} p b t m e = go (p t) e
     go (bad i) f = cc
     go (good a n) f = let z : ◌≡◌ {A = ℕ} 0 1 = cc in absurd (omega arith)
 
-module _ (s : List ℕ) (at most : ℕ) (r : Rest) where
-  pub entries-broken : (p : ℕ) → r ≡ rest_of at (entry_by most most (drop at s)) → r ≡ rest.Broken p
-      → rest.Broken p ≡ rest_of at (keeping (entry_up_to most then λ seen. entry_part) most (drop at s))
+module _ (s : List ℕ) (at most : ℕ) (r : Result Rest Fault) where
+  pub entries-broken : (p : Fault) → r ≡ rest_of at (entry_by most most (drop at s)) → r ≡ Err p
+      → Err p ≡ rest_of at (keeping (entry_up_to most then λ seen. entry_part) most (drop at s))
   unfolding keeping rest_of
   entries-broken p e f =
       let (m, g, h) = rest-bad (entry_by most most (drop at s)) at p (sym e ∙ f) in
       let i : entry_up_to most (drop at s) ≡ bad m = keeping-bad (entry_up_to most) most (drop at s) m (entry-up-to most most (drop at s) ∙ g) in
-      rw (then-bad (entry_up_to most then λ seen. entry_part) (λ x. give most) (drop at s) (then-bad (entry_up_to most) (λ seen. entry_part) (drop at s) i)) (ap rest.Broken h)
+      rw (then-bad (entry_up_to most then λ seen. entry_part) (λ x. give most) (drop at s) (then-bad (entry_up_to most) (λ seen. entry_part) (drop at s) i)) (ap Err h)
 
-  pub entries_next : (end number : ℕ) (t : Rest) → r ≡ rest_of at (entry_by most most (drop at s)) → r ≡ rest.Whole end number
-      → t ≡ rest_of end (entry_by 1 number (drop end s)) → t ≡ rest_of at (keeping (entry_up_to most then λ seen. entry_part) most (drop at s))
+  pub entries_next : (p : Rest) (t : Result Rest Fault) → r ≡ rest_of at (entry_by most most (drop at s)) → r ≡ Ok p
+      → t ≡ rest_of p.end (entry_by 1 p.number (drop p.end s)) → t ≡ rest_of at (keeping (entry_up_to most then λ seen. entry_part) most (drop at s))
   unfolding keeping
-  entries_next end number t e f g =
-      let (m, h, i) = rest-good (entry_by most most (drop at s)) at end number (sym e ∙ f) in
-      give-parts (entry_up_to most) (λ x. most) (drop at s) number m (entry-up-to most most (drop at s) ∙ h) (λ x j k.
-      g ∙ ap (λ (e : ℕ). rest_of e (entry_by 1 number (drop e s))) i ∙ ap (λ (b : ℕ). rest_of (at + m) (entry_by 1 b (drop (at + m) s))) k
+  entries_next p t e f g =
+      let (m, h, i) = rest-good (entry_by most most (drop at s)) at p (sym e ∙ f) in
+      give-parts (entry_up_to most) (λ x. most) (drop at s) p.number m (entry-up-to most most (drop at s) ∙ h) (λ x j k.
+      g ∙ ap (λ (e : ℕ). rest_of e (entry_by 1 p.number (drop e s))) i ∙ ap (λ (b : ℕ). rest_of (at + m) (entry_by 1 b (drop (at + m) s))) k
       ∙ sym (ap (rest_of at) (then-assoc (entry_up_to most) (λ seen. entry_part) (give most) (drop at s))
       ∙ then-rest (entry_up_to most) (λ seen. keeping entry_part most) s at x m j ∙ ap (rest_of (at + m)) (entry-part most (drop (at + m) s))))
 
 -- ── What follows a name, by the kind of row ──
 
-module _ (s : List ℕ) (at before : ℕ) (k : Row) (r : Rest) where
+module _ (s : List ℕ) (at before : ℕ) (k : Row) (r : Result Rest Fault) where
   pub rest-definition : k ≡ row.Definition → r ≡ rest_of at (offset_behind before (drop at s)) → r ≡ rest_of at (rest_by k before (drop at s))
   unfolding rest_by
   rest-definition e f = rw e f
@@ -358,44 +356,41 @@ module _ (k : Row) where
 
 -- ── A row, behind others ──
 
-module _ (i : ℕ) (r t : Rest) where
-  pub passed-whole : (end n : ℕ) → r ≡ t → r ≡ rest.Whole end n → passing.Next i end n ≡ passed_by i t
-  unfolding passed_by
-  passed-whole end n e f = rw (sym e ∙ f)
-
-  pub passed-broken : (p : ℕ) → r ≡ t → r ≡ rest.Broken p → passing.Fault p ≡ passed_by i t
-  unfolding passed_by
-  passed-broken p e f = rw (sym e ∙ f)
-
-module _ (s ps : List ℕ) (passed place : ℕ) (k : Row) (before : ℕ) (q : Rule) (r : Short) where
-  pub row-broken : (p : ℕ) → q ≡ rule_of k → r ≡ short_of place (read_by q (drop place s)) → r ≡ short.Broken p
-      → passing.Fault p ≡ row_passed s ps passed place k before
+module _ (s ps : List ℕ) (passed place : ℕ) (k : Row) (before : ℕ) (q : Rule) (r : Result ℕ Fault) where
+  pub row-broken : (p : Fault) → q ≡ rule_of k → r ≡ short_of place (read_by q (drop place s)) → r ≡ Err p → Err p ≡ row_passed s ps passed place k before
   unfolding row_passed name_by
   row-broken p a e f =
       let (m, g, h) = short-bad place p (read_by q (drop place s)) (sym e ∙ f) in
       let j : read_by (rule_of k) (drop place s) ≡ bad m = rw (← a) g in
-      rw (j, row_passed) (ap passing.Fault h)
+      rw (j, row_passed) (ap Err h)
 
-  row_named : (n : ℕ) → q ≡ rule_of k → r ≡ short_of place (read_by q (drop place s)) → r ≡ short.Whole n
-      → row_passed s ps passed place k before
-      ≡ seated_by (seek s ps passed place) place (rest_of (place + 1 + n) (rest_by k before (drop (place + 1 + n) s)))
-  unfolding row_passed name_by
-  row_named n a e f =
-      let (l, v, g) = read-good q s place n r e f in
-      let j : read_by (rule_of k) (drop place s) ≡ good v (1 + n) = rw (← a) g in
-      let i : place + (1 + n) ≡ place + 1 + n = omega arith in
-      rw (j, row_passed) (ap (λ (x : ℕ). seated_by (seek s ps passed place) place (rest_of x (rest_by k before (drop x s)))) i)
+  module _ (n : ℕ) (a : q ≡ rule_of k) (e : r ≡ short_of place (read_by q (drop place s))) (f : r ≡ Ok n) where
+    row_named : row_passed s ps passed place k before
+        ≡ seated_by (seek s ps passed place) place (rest_of (place + 1 + n) (rest_by k before (drop (place + 1 + n) s)))
+    unfolding row_passed name_by
+    row_named =
+        let (l, v, g) = read-good q s place n r e f in
+        let j : read_by (rule_of k) (drop place s) ≡ good v (1 + n) = rw (← a) g in
+        let i : place + (1 + n) ≡ place + 1 + n = omega arith in
+        rw (j, row_passed) (ap (λ (x : ℕ). seated_by (seek s ps passed place) place (rest_of x (rest_by k before (drop x s)))) i)
 
-  pub row-twice : (n : ℕ) (t : Seat) → q ≡ rule_of k → r ≡ short_of place (read_by q (drop place s)) → r ≡ short.Whole n
-      → t ≡ seek s ps passed place → t ≡ seat.Nothing → passing.Fault place ≡ row_passed s ps passed place k before
-  unfolding seated_by
-  row-twice n t a e f g h = let j : seek s ps passed place ≡ seat.Nothing = sym g ∙ h in rw (row_named n a e f, j)
+    pub row-twice : (t : Option ℕ) → t ≡ seek s ps passed place → t ≡ None → Err (broken_at place) ≡ row_passed s ps passed place k before
+    unfolding seated_by
+    row-twice t g h = let j : seek s ps passed place ≡ None = sym g ∙ h in rw (row_named, j)
 
-  pub row_next : (n i : ℕ) (t : Seat) (w : Passing) → q ≡ rule_of k → r ≡ short_of place (read_by q (drop place s)) → r ≡ short.Whole n
-      → t ≡ seek s ps passed place → t ≡ seat.At i
-      → w ≡ passed_by i (rest_of (place + 1 + n) (rest_by k before (drop (place + 1 + n) s))) → w ≡ row_passed s ps passed place k before
-  unfolding seated_by
-  row_next n i t w a e f g h o = let j : seek s ps passed place ≡ seat.At i = sym g ∙ h in rw (row_named n a e f, j) o
+    module _ (i : ℕ) (t : Option ℕ) (w : Result Rest Fault) (g : t ≡ seek s ps passed place) (h : t ≡ Some i)
+        (o : w ≡ rest_of (place + 1 + n) (rest_by k before (drop (place + 1 + n) s))) where
+      seated : passed_by i w ≡ row_passed s ps passed place k before
+      unfolding seated_by
+      seated = let j : seek s ps passed place ≡ Some i = sym g ∙ h in rw (row_named, j) (ap (passed_by i) o)
+
+      pub rest-broken : (p : Fault) → w ≡ Err p → Err p ≡ row_passed s ps passed place k before
+      unfolding passed_by
+      rest-broken p z = rw z at seated
+
+      pub row-whole : (p : Rest) → w ≡ Ok p → Ok (record { seat = i; end = p.end; number = p.number }) ≡ row_passed s ps passed place k before
+      unfolding passed_by
+      row-whole p z = rw z at seated
 
 -- ── Rows behind their number ──
 
@@ -513,11 +508,10 @@ pub ruleset laws = (
   rule-set-up,
   rule-tag,
   rule-change,
-  passed-whole,
-  passed-broken,
   row-broken,
   row-twice,
-  row_next,
+  rest-broken,
+  row-whole,
 )
 
 pub ruleset counts = (

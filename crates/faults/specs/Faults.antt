@@ -1,5 +1,5 @@
 -- The first fault of rows of a kind, as this crate's functions find it.
-use Rattle.std.specs.Prelude.{ℕ, ◌+◌, cond, List, drop, eqb}
+use Rattle.std.specs.Prelude.{ℕ, ◌+◌, cond, List, drop, eqb, Option, Some, None, Result, Ok, Err}
 use Rattle.layout.specs.Recording.{most_sections, most_tags, within}
 use Rattle.layout.specs.Reading.{Parsed, bad, good, Reader, ◌then◌, only, give, number, tag_value, keeping, counted_fault}
 use Rattle.layout.specs.Opening.{offset_behind}
@@ -12,12 +12,10 @@ use Rattle.rows.specs.Rows.{entry_up_to}
 use Rattle.rows.specs.declared.Row.{Row}
 use Rattle.rows.specs.declared.Row.TheVariants as row
 use Rattle.order.specs.Order.{seek}
-use Rattle.order.specs.declared.Seat.{Seat}
-use Rattle.order.specs.declared.Seat.TheVariants as seat
+use Rattle.parts.specs.Parts.{broken_at}
+use Rattle.parts.specs.declared.Fault.{Fault}
 use Rattle.faults.specs.declared.Rest.{Rest}
-use Rattle.faults.specs.declared.Rest.TheVariants as rest
-use Rattle.faults.specs.declared.Passing.{Passing}
-use Rattle.faults.specs.declared.Passing.TheVariants as passing
+use Rattle.faults.specs.declared.Passed.{Passed}
 use Rattle.faults.specs.declared.Count.{Count}
 
 -- ── A row of a kind ──
@@ -45,24 +43,29 @@ entry_by most before = kind most then λ k. cond (eqb k 1) (keeping tag_value be
 
 -- ── As the functions answer it ──
 
+-- what ends at a place, with a number for the row behind it
+abbrev pub rest_whole : (end number : ℕ) → Result Rest Fault
+rest_whole end n = Ok (record { end = end; number = n })
+
 -- what was read from `at` on
-unfoldable pub rest_of : (at : ℕ) → Parsed ℕ → Rest
-rest_of at (bad m) = rest.Broken (at + m)
-rest_of at (good n m) = rest.Whole (at + m) n
+unfoldable pub rest_of : (at : ℕ) → Parsed ℕ → Result Rest Fault
+rest_of at (bad m) = Err (broken_at (at + m))
+rest_of at (good n m) = rest_whole (at + m) n
 
-unfoldable pub passed_by : (seat : ℕ) → Rest → Passing
-passed_by i (rest.Whole end n) = passing.Next i end n
-passed_by i (rest.Broken p) = passing.Fault p
+unfoldable pub passed_by : (seat : ℕ) → Result Rest Fault → Result Passed Fault
+passed_by i (Ok rest) = Ok (record { seat = i; end = rest.end; number = rest.number })
+passed_by i (Err f) = Err f
 
-unfoldable pub seated_by : Seat → (place : ℕ) → Rest → Passing
-seated_by (seat.At i) place r = passed_by i r
-seated_by seat.Nothing place r = passing.Fault place
+-- a row with a seat; its name is used twice where there is none
+unfoldable pub seated_by : Option ℕ → (place : ℕ) → Result Rest Fault → Result Passed Fault
+seated_by (Some i) place r = passed_by i r
+seated_by None place r = Err (broken_at place)
 
 -- the row at a place, behind those at the first `passed` of these places
-unfoldable pub row_passed : List ℕ → (places : List ℕ) → (passed place : ℕ) → Row → (before : ℕ) → Passing
+unfoldable pub row_passed : List ℕ → (places : List ℕ) → (passed place : ℕ) → Row → (before : ℕ) → Result Passed Fault
 row_passed s places passed place k before =
     elim (name_by k (drop place s)) [
-      | bad m ↦ passing.Fault (place + m)
+      | bad m ↦ Err (broken_at (place + m))
       | good name m ↦ seated_by (seek s places passed place) place (rest_of (place + m) (rest_by k before (drop (place + m) s)))
     ]
 

@@ -1,6 +1,6 @@
 // The first fault of rows that begin with a name: of a table's tags, a sheet's changes, a set-up list's sections or a file's definitions. Asked where
 // they are refused: a second walk, front to back, which passes on the place where a short string broke.
-#![tactic(auto)]
+#![tactic(auto, using(crate::proofs::Laws::laws, crate::proofs::Laws::offsets, crate::proofs::Laws::counts, crate::proofs::Kept::laws))]
 
 ghost use Rattle.std.specs.Prelude.{◌≡◌, [], ◌+◌, ◌≤◌, length, drop};
 ghost use Rattle.layout.specs.Opening.{offset_behind};
@@ -8,117 +8,111 @@ ghost use Rattle.layout.specs.Reading.{rows_fault, keeping, tag_value, ◌then�
 ghost use Rattle.layout.specs.Recorder.{configured};
 ghost use Rattle.layout.specs.Saving.{entry_part};
 ghost use Rattle.rows.specs.Rows.{entry_up_to};
-ghost use Rattle.faults.specs.Faults.{rule_of, entry_by, name_by, rest_by, rest_of, passed_by, row_passed, count_of, first_fault};
+ghost use Rattle.faults.specs.Faults.{rule_of, entry_by, name_by, rest_by, rest_of, row_passed, count_of, first_fault};
 
 use header::Header;
-use order::Seat;
+use parts::Fault;
 use rows::Row;
-use strings::{Rule, Short};
+use strings::Rule;
 
 // The rule of the names of a kind of row.
 fn name_rule(row: Row) -> Rule
     ensures { result ≡ rule_of row }
 {
     match row {
-        Row::Definition => Rule::SectionName,
-        Row::SetUp => Rule::SectionName,
-        Row::Tag => Rule::TagName,
-        Row::Change => Rule::TagName,
+        Row::Definition | Row::SetUp => Rule::SectionName,
+        Row::Tag | Row::Change => Rule::TagName,
     }
 }
 
 // ── What follows a name ──
 
-// Where it ends, and a number for the row behind it; or where its first fault is.
-#[derive(Clone, Copy)]
-enum Rest {
-    Whole { end: usize, number: usize },
-    Broken(usize),
+// Where it ends, and a number for the row behind it.
+#[derive(Clone, Copy, Debug, PartialEq, Eq)]
+struct Rest {
+    end: usize,
+    number: usize,
 }
 
 // The offset of a configuration, behind the one ahead of it.
-fn offset_at(s: &[u8], at: usize, before: usize) -> Rest
+fn offset_at(s: &[u8], at: usize, before: usize) -> Result<Rest, Fault>
     requires { at ≤ length s.now }
     ensures { result ≡ rest_of at (offset_behind before (drop at s.now)) }
 {
     if s.len() - at < 8 {
-        return Rest::Broken(at);
+        return Err(Fault { place: at });
     }
     let offset = number::read(s, at, 8) as usize;
     if offset < before {
-        return Rest::Broken(at);
+        return Err(Fault { place: at });
     }
     if Header::LONGEST_CONFIGURATION < offset - before {
-        return Rest::Broken(at);
+        return Err(Fault { place: at });
     }
-    Rest::Whole {
+    Ok(Rest {
         end: at + 8,
         number: offset,
-    }
+    })
 }
 
 // A configuration in a set-up list: its length, and its bytes.
-fn configuration_at(s: &[u8], at: usize, before: usize) -> Rest
+fn configuration_at(s: &[u8], at: usize, before: usize) -> Result<Rest, Fault>
     requires { at ≤ length s.now }
     ensures { result ≡ rest_of at (keeping configured before (drop at s.now)) }
 {
     if s.len() - at < 2 {
-        return Rest::Broken(at);
+        return Err(Fault { place: at });
     }
     let n = number::read(s, at, 2) as usize;
     let start = at + 2;
     if s.len() - start < n {
-        return Rest::Broken(start);
+        return Err(Fault { place: start });
     }
-    Rest::Whole {
+    Ok(Rest {
         end: start + n,
         number: before,
-    }
+    })
 }
 
-fn value_at(s: &[u8], at: usize, before: usize) -> Rest
+fn value_at(s: &[u8], at: usize, before: usize) -> Result<Rest, Fault>
     ensures { result ≡ rest_of at (keeping tag_value before (drop at s.now)) }
 {
-    match strings::read(s, at, Rule::TagValue) {
-        Short::Whole(n) => Rest::Whole {
-            end: at + 1 + n,
-            number: before,
-        },
-        Short::Broken(place) => Rest::Broken(place),
-    }
+    let n = strings::read(s, at, Rule::TagValue)?;
+    Ok(Rest {
+        end: at + 1 + n,
+        number: before,
+    })
 }
 
 // An entry of a change: a kind up to `most` and, for kind 1, a value.
-fn entry_at(s: &[u8], at: usize, most: usize, before: usize) -> Rest
+fn entry_at(s: &[u8], at: usize, most: usize, before: usize) -> Result<Rest, Fault>
     ensures { result ≡ rest_of at (entry_by most before (drop at s.now)) }
 {
-    if s.len() <= at {
-        return Rest::Broken(at);
-    }
-    let kind = s[at];
-    if most < kind as usize {
-        return Rest::Broken(at);
+    let Some(first) = s.get(at) else {
+        return Err(Fault { place: at });
+    };
+    let kind = *first as usize;
+    if most < kind {
+        return Err(Fault { place: at });
     }
     if kind == 1 {
         return value_at(s, at + 1, before);
     }
-    Rest::Whole {
+    Ok(Rest {
         end: at + 1,
         number: before,
-    }
+    })
 }
 
 // What was seen, of which `most` is the greatest kind, and what is new.
-fn entries_at(s: &[u8], at: usize, most: usize) -> Rest
+fn entries_at(s: &[u8], at: usize, most: usize) -> Result<Rest, Fault>
     ensures { result ≡ rest_of at (keeping (entry_up_to most then λ seen. entry_part) most (drop at s.now)) }
 {
-    match entry_at(s, at, most, most) {
-        Rest::Whole { end, number } => entry_at(s, end, 1, number),
-        Rest::Broken(place) => Rest::Broken(place),
-    }
+    let seen = entry_at(s, at, most, most)?;
+    entry_at(s, seen.end, 1, seen.number)
 }
 
-fn rest_at(s: &[u8], at: usize, row: Row, before: usize) -> Rest
+fn rest_at(s: &[u8], at: usize, row: Row, before: usize) -> Result<Rest, Fault>
     requires { at ≤ length s.now }
     ensures { result ≡ rest_of at (rest_by row before (drop at s.now)) }
 {
@@ -132,26 +126,12 @@ fn rest_at(s: &[u8], at: usize, row: Row, before: usize) -> Rest
 
 // ── A row, behind others ──
 
-// The row's seat among those ahead, where it ends, and a number for the row behind it; or where its first fault is.
-#[derive(Clone, Copy)]
-enum Passing {
-    Next {
-        seat: usize,
-        end: usize,
-        number: usize,
-    },
-    Fault(usize),
-}
-
-// What follows a name whose seat is known, from a place on.
-fn rest_passed(s: &[u8], at: usize, row: Row, before: usize, seat: usize) -> Passing
-    requires { at ≤ length s.now }
-    ensures { result ≡ passed_by seat (rest_of at (rest_by row before (drop at s.now))) }
-{
-    match rest_at(s, at, row, before) {
-        Rest::Whole { end, number } => Passing::Next { seat, end, number },
-        Rest::Broken(place) => Passing::Fault(place),
-    }
+// The row's seat among those ahead, where it ends, and a number for the row behind it.
+#[derive(Clone, Copy, Debug, PartialEq, Eq)]
+struct Passed {
+    seat: usize,
+    end: usize,
+    number: usize,
 }
 
 // The name, then whether it is used twice: the places of the rows ahead stand in the order of their names, and then the rest.
@@ -162,16 +142,19 @@ fn row_passed(
     place: usize,
     row: Row,
     before: usize,
-) -> Passing
+) -> Result<Passed, Fault>
     ensures { result ≡ row_passed s.now places.now passed place row before }
 {
-    match strings::read(s, place, name_rule(row)) {
-        Short::Whole(len) => match order::seek(s, places, passed, place) {
-            Seat::At(seat) => rest_passed(s, place + 1 + len, row, before, seat),
-            Seat::Nothing => Passing::Fault(place),
-        },
-        Short::Broken(fault) => Passing::Fault(fault),
-    }
+    let name = strings::read(s, place, name_rule(row))?;
+    let Some(seat) = order::seek(s, places, passed, place) else {
+        return Err(Fault { place });
+    };
+    let rest = rest_at(s, place + 1 + name, row, before)?;
+    Ok(Passed {
+        seat,
+        end: rest.end,
+        number: rest.number,
+    })
 }
 
 // The first fault of n rows; behind them where there is none.
@@ -181,21 +164,15 @@ fn rows_fault(s: &[u8], at: usize, n: usize, row: Row, before: usize) -> usize
 {
     let mut places = [0; Header::MOST_TAGS];
     let mut place = at;
-    let mut passed = 0;
-    let mut left = n;
     let mut ahead = before;
-    while 0 < left {
+    for passed in 0..n {
         match row_passed(s, &places, passed, place, row, ahead) {
-            Passing::Next { seat, end, number } => {
-                order::insert(&mut places, passed, seat, place);
-                place = end;
-                ahead = number;
-                passed += 1;
-                left -= 1;
+            Ok(next) => {
+                order::insert(&mut places, passed, next.seat, place);
+                place = next.end;
+                ahead = next.number;
             }
-            Passing::Fault(fault) => {
-                return fault;
-            }
+            Err(fault) => return fault.place,
         }
     }
     place
@@ -204,7 +181,7 @@ fn rows_fault(s: &[u8], at: usize, n: usize, row: Row, before: usize) -> usize
 // ── Rows behind their number ──
 
 // How the number of rows of a kind is written, and between which it lies.
-#[derive(Clone, Copy)]
+#[derive(Clone, Copy, Debug, PartialEq, Eq)]
 struct Count {
     width: usize,
     least: usize,
@@ -215,12 +192,7 @@ fn count_of(row: Row) -> Count
     ensures { result ≡ count_of row }
 {
     match row {
-        Row::Definition => Count {
-            width: 1,
-            least: 1,
-            most: Header::MOST_SECTIONS,
-        },
-        Row::SetUp => Count {
+        Row::Definition | Row::SetUp => Count {
             width: 1,
             least: 1,
             most: Header::MOST_SECTIONS,

@@ -1,5 +1,6 @@
 -- A frame at a place, and its sections, as the code reads them.
 -- Assumes nothing.
+use Rattle.std.specs.Prelude.{Option, Some, None}
 use Prim.Native.Nat.{ℕ, zero, suc, ◌+◌, ◌*◌, ◌-◌, ◌^◌, ◌<◌, ◌≤◌}
 use native.Mathlib.Omega.{arith}
 use mathlib.Core.Path.{◌≡◌, refl, ap, sym, ◌∙◌}
@@ -23,10 +24,7 @@ use Rattle.parts.proofs.Times.{times-end, times-stop, times-done}
 use Rattle.parts.proofs.Taken.{number_read, block-short, then-next-bad, number-then, tested-then}
 use Rattle.parts.specs.Parts.{end_of}
 use Rattle.frames.specs.Frames.{sized_at, sections_at, frame_end, whole_frame, frame_at}
-use Rattle.parts.specs.declared.Place.{Place}
-use Rattle.parts.specs.declared.Place.TheVariants.{End, Broken}
 use Rattle.frames.specs.declared.FrameAt.{FrameAt}
-use Rattle.frames.specs.declared.FrameAt.TheVariants.{Whole, None}
 
 -- ── A section ──
 
@@ -36,12 +34,12 @@ within-high high n h = and-true (leb 0 n) (leb n high) (le-leb 0 n (omega arith)
 over-high : (high n : ℕ) → high < n → within 0 high n ≡ false
 over-high high n h = rw (le-leb 0 n (omega arith), lt-leb n high h)
 
-size-short : (f : List ℕ) (at : ℕ) → length f < at + 4 → sized (drop at f) ≡ bad 0
+pub size-short : (f : List ℕ) (at : ℕ) → length f < at + 4 → sized (drop at f) ≡ bad 0
 unfolding sized
 size-short f at h = then-bad (only (within 0 longest_section) (number 4)) block (drop at f)
     (only-bad (within 0 longest_section) (number 4) (drop at f) (number_cut 4 f at (omega arith)))
 
-size-large : (f : List ℕ) (at : ℕ) → at + 4 ≤ length f → longest_section < read_at f at 4 → sized (drop at f) ≡ bad 0
+pub size-large : (f : List ℕ) (at : ℕ) → at + 4 ≤ length f → longest_section < read_at f at 4 → sized (drop at f) ≡ bad 0
 unfolding sized
 size-large f at h e =
     then-bad (only (within 0 longest_section) (number 4)) block (drop at f)
@@ -53,13 +51,13 @@ size-read : (f : List ℕ) (at : ℕ) → at + 4 ≤ length f → read_at f at 4
 size-read f at h e = only-pass (within 0 longest_section) (number 4) (drop at f) (read_at f at 4) 4 (number_read f at 4 (omega arith) h)
     (within-high longest_section (read_at f at 4) e)
 
-size-cut : (f : List ℕ) (at : ℕ) → at + 4 ≤ length f → read_at f at 4 ≤ longest_section → length f < at + 4 + read_at f at 4 → sized (drop at f) ≡ bad 4
+pub size-cut : (f : List ℕ) (at : ℕ) → at + 4 ≤ length f → read_at f at 4 ≤ longest_section → length f < at + 4 + read_at f at 4 → sized (drop at f) ≡ bad 4
 unfolding sized
 size-cut f at h e l =
     then-next-bad (only (within 0 longest_section) (number 4)) block (drop at f) (read_at f at 4) 4 {m = 0} (size-read f at h e)
     (rw drop-drop (block-short (read_at f at 4) f (at + 4) (omega arith)))
 
-size-whole : (f : List ℕ) (at : ℕ) → at + 4 + read_at f at 4 ≤ length f → read_at f at 4 ≤ longest_section
+pub size-whole : (f : List ℕ) (at : ℕ) → at + 4 + read_at f at 4 ≤ length f → read_at f at 4 ≤ longest_section
     → sized (drop at f) ≡ good (take (read_at f at 4) (drop (at + 4) f)) (4 + read_at f at 4)
 unfolding sized
 size-whole f at l e =
@@ -67,73 +65,23 @@ size-whole f at l e =
     (read_at f at 4) (size-read f at (omega arith) e)
     (rw drop-drop (block-is (read_at f at 4) (drop (at + 4) f) (omega (arith, length-drop (at + 4) f))))
 
-pub sized-short : (f : List ℕ) (at : ℕ) → length f < 4 → Broken ≡ sized_at f at
-unfolding sized_at end_of
-sized-short f at h = rw (size-short f at (omega arith))
-
-pub sized-far : (f : List ℕ) (at : ℕ) → 4 ≤ length f → length f - 4 < at → Broken ≡ sized_at f at
-unfolding sized_at end_of
-sized-far f at h e = rw (size-short f at (omega arith))
-
-pub sized-large : (f : List ℕ) (at n : ℕ) → 4 ≤ length f → at ≤ length f - 4 → n ≡ read_at f at 4 → 16777216 < n → Broken ≡ sized_at f at
-unfolding sized_at end_of
-sized-large f at n h e p l = rw (size-large f at (omega arith) (omega arith))
-
-pub sized-cut : (f : List ℕ) (at n : ℕ) → 4 ≤ length f → at ≤ length f - 4 → n ≡ read_at f at 4 → n ≤ 16777216 → length f - (at + 4) < n
-    → Broken ≡ sized_at f at
-unfolding sized_at end_of
-sized-cut f at n h e p l m = rw (size-cut f at (omega arith) (omega arith) (omega arith))
-
-pub sized-whole : (f : List ℕ) (at n : ℕ) → 4 ≤ length f → at ≤ length f - 4 → n ≡ read_at f at 4 → n ≤ 16777216 → n ≤ length f - (at + 4)
-    → End (at + 4 + n) ≡ sized_at f at
-unfolding sized_at end_of
-sized-whole f at n h e p l m = rw (size-whole f at (omega arith) (omega arith)) (ap End (omega arith))
-
--- a section that stands there: its size and that many bytes
-pub size-stands : (f : List ℕ) (at : ℕ) (x : List ℕ) (n : ℕ) → sized (drop at f) ≡ good x n → (n ≡ 4 + read_at f at 4) × (at + n ≤ length f)
-unfolding sized
-size-stands f at x n e = go (tested-then (within 0 longest_section) 4 block (drop at f) x n e)
-  where
-    go : ((4 ≤ length (drop at f)) × (within 0 longest_section (number_of (take 4 (drop at f))) ≡ true) × (m : ℕ)
-        × (block (number_of (take 4 (drop at f))) (drop 4 (drop at f)) ≡ good x m) × (n ≡ 4 + m)) → (n ≡ 4 + read_at f at 4) × (at + n ≤ length f)
-    go (l, t, m, g, p) =
-        let (a, b, c) = block-good (number_of (take 4 (drop at f))) (drop 4 (drop at f)) x m g in
-        let r : read_at f at 4 ≡ number_of (take 4 (drop at f)) = read_is f at 4 (omega arith) (omega (arith, length-drop at f)) in
-        (omega arith, omega (arith, length-drop at f, length-drop 4 (drop at f)))
-
 -- ── The sections of a frame ──
 
-pub sections-done : (f : List ℕ) (at left : ℕ) (all : Place) → left ≤ 0 → sections_at f at left ≡ all → End at ≡ all
+pub sections-done : (f : List ℕ) (at left : ℕ) (all : Option ℕ) → left ≤ 0 → sections_at f at left ≡ all → Some at ≡ all
 unfolding sections_at
 sections-done f at left all h e = sym (times-done sized left f at h) ∙ e
 
-pub sections-stop : (f : List ℕ) (at left : ℕ) (all r : Place) → 0 < left → r ≡ sized_at f at → r ≡ Broken → sections_at f at left ≡ all → Broken ≡ all
+pub sections-stop : (f : List ℕ) (at left : ℕ) (all r : Option ℕ) → 0 < left → r ≡ sized_at f at → r ≡ None → sections_at f at left ≡ all → None ≡ all
 unfolding sections_at sized_at
 sections-stop f at left all r h p q e = sym (times-stop sized left f at h (end-bad (sized (drop at f)) at (sym p ∙ q)).1) ∙ e
 
-pub sections-step : (f : List ℕ) (at next left : ℕ) (all r : Place) → 0 < left → r ≡ sized_at f at → r ≡ End next → sections_at f at left ≡ all
-    → sections_at f next (left - 1) ≡ all
+pub sections-step : (f : List ℕ) (at next left later : ℕ) (all r : Option ℕ) → sections_at f at left ≡ all → r ≡ sized_at f at → r ≡ Some next
+    → left ≡ later + 1 → sections_at f next later ≡ all
 unfolding sections_at sized_at
-sections-step f at next left all r h p q e =
+sections-step f at next left later all r e p q h =
     let (x, n, g, a) = end-good (sized (drop at f)) at next (sym p ∙ q) in
-    ap (λ (k : ℕ). end_of k (times (left - 1) sized (drop k f))) a ∙ sym (times-end sized left f at x n h g) ∙ e
-
-ended-not : (end : ℕ) → Broken ≡ End end → ⊥
-ended-not end e = let z : ◌≡◌ {A = ℕ} 0 1 = cc in omega arith
-
--- where some sections end, the first of them stands
-pub sections-first : (f : List ℕ) (at left end : ℕ) → 0 < left → sections_at f at left ≡ End end
-    → (at + 4 + read_at f at 4 ≤ length f) × (sections_at f (at + 4 + read_at f at 4) (left - 1) ≡ End end)
-unfolding sections_at
-sections-first f at left end h e = go (sized (drop at f)) refl
-  where
-    go : (p : Parsed (List ℕ)) → sized (drop at f) ≡ p → (at + 4 + read_at f at 4 ≤ length f)
-        × (sections_at f (at + 4 + read_at f at 4) (left - 1) ≡ End end)
-    go (bad m) g = absurd (ended-not end (sym (times-stop sized left f at h g) ∙ e))
-    go (good x n) g =
-        let (a, b) = size-stands f at x n g in
-        let c : at + 4 + read_at f at 4 ≡ at + n = omega arith in
-        (omega arith, rw c (sym (times-end sized left f at x n h g) ∙ e))
+    let l : later ≡ left - 1 = omega arith in
+    rw l (ap (λ (k : ℕ). end_of k (times (left - 1) sized (drop k f))) a ∙ sym (times-end sized left f at x n (omega arith) g) ∙ e)
 
 -- ── A frame ──
 
@@ -227,26 +175,26 @@ parsed-not : {A : Type 0} (x : A) (m n : ℕ) → bad m ≡ good x n → ⊥
 parsed-not x m n e = let z : ◌≡◌ {A = ℕ} 0 1 = cc in omega arith
 
 -- there is no frame where its parts can not be there
-no-frame : (f : List ℕ) (at k : ℕ) → ((x : Frame) (n : ℕ) → FrameParts k (drop at f) x n → ⊥) → Broken ≡ frame_end f at k
+no-frame : (f : List ℕ) (at k : ℕ) → ((x : Frame) (n : ℕ) → FrameParts k (drop at f) x n → ⊥) → None ≡ frame_end f at k
 unfolding frame_end end_of
 no-frame f at k h = go (frame k (drop at f)) refl
   where
-    go : (p : Parsed Frame) → frame k (drop at f) ≡ p → Broken ≡ end_of at p
+    go : (p : Parsed Frame) → frame k (drop at f) ≡ p → None ≡ end_of at p
     go (bad m) e = refl
     go (good x n) e = absurd (h x n (frame-parts k (drop at f) x n e))
 
-pub end_short : (f : List ℕ) (at k : ℕ) → length f < 16 → Broken ≡ frame_end f at k
+pub end_short : (f : List ℕ) (at k : ℕ) → length f < 16 → None ≡ frame_end f at k
 end_short f at k h = no-frame f at k (λ x n p. omega (arith, length-drop at f, p.long))
 
-pub end-far : (f : List ℕ) (at k : ℕ) → 16 ≤ length f → length f - 16 < at → Broken ≡ frame_end f at k
+pub end-far : (f : List ℕ) (at k : ℕ) → 16 ≤ length f → length f - 16 < at → None ≡ frame_end f at k
 end-far f at k h e = no-frame f at k (λ x n p. omega (arith, length-drop at f, p.long))
 
 pub end-unmarked : (f : List ℕ) (at k m : ℕ) → 16 ≤ length f → at ≤ length f - 16 → m ≡ read_at f at 4 → (m ≡ 3993051903 → ⊥)
-    → Broken ≡ frame_end f at k
+    → None ≡ frame_end f at k
 end-unmarked f at k m h e p u = no-frame f at k (λ x n q. u (p ∙ read_is f at 4 (omega arith) (omega arith) ∙ q.mark))
 
 -- a frame with its mark ends where its sections do
-pub end-sections : (f : List ℕ) (at k m : ℕ) (r : Place) → 16 ≤ length f → at ≤ length f - 16 → m ≡ read_at f at 4 → m ≡ 3993051903
+pub end-sections : (f : List ℕ) (at k m : ℕ) (r : Option ℕ) → 16 ≤ length f → at ≤ length f - 16 → m ≡ read_at f at 4 → m ≡ 3993051903
     → r ≡ sections_at f (at + 16) k → r ≡ frame_end f at k
 unfolding frame_end sections_at end_of
 end-sections f at k m r h l p q u = u ∙ go (times k sized (drop (at + 16) f)) refl
@@ -260,10 +208,10 @@ end-sections f at k m r h l p q u = u ∙ go (times k sized (drop (at + 16) f)) 
     go (good ss n) g =
         let i = frame_is k (drop at f) ss n (omega (arith, length-drop at f)) (sym (read_is f at 4 (omega arith) (omega arith)) ∙ sym p ∙ q)
         (d ∙ g) in
-        rw i (ap End (omega arith))
+        rw i (ap Some (omega arith))
 
 -- the frame that ends there, and its numbers where they stand
-pub ended : (f : List ℕ) (at k next : ℕ) → frame_end f at k ≡ End next
+pub ended : (f : List ℕ) (at k next : ℕ) → frame_end f at k ≡ Some next
     → (x : Frame) × (n : ℕ) × (frame k (drop at f) ≡ good x n) × (at + n ≡ next) × (x.time ≡ read_at f (at + 4) 8)
     × (x.exposure ≡ read_at f (at + 12) 4)
 unfolding frame_end
@@ -277,30 +225,21 @@ ended f at k next q =
     ap (λ (s : List ℕ). number_of (take 4 s)) (drop-drop 12 at f) ∙ sym (read_is f (at + 12) 4 (omega arith) (omega arith)) in
     (x, n, g, sym a, p.time ∙ t, p.exposure ∙ e)
 
--- its sections end with it
-pub sections-ended : (f : List ℕ) (at k next : ℕ) → frame_end f at k ≡ End next → sections_at f (at + 16) k ≡ End next
-unfolding sections_at end_of
-sections-ended f at k next q =
-    let (x, n, g, a, t, e) = ended f at k next q in
-    let p = frame-parts k (drop at f) x n g in
-    let s : times k sized (drop (at + 16) f) ≡ good x.sections p.sizes = sym (ap (times k sized) (drop-drop 16 at f)) ∙ p.sections in
-    rw s (ap End (omega (arith, p.taken)))
-
-pub not-ended : (f : List ℕ) (at k : ℕ) → frame_end f at k ≡ Broken → (m : ℕ) × (frame k (drop at f) ≡ bad m)
+pub not-ended : (f : List ℕ) (at k : ℕ) → frame_end f at k ≡ None → (m : ℕ) × (frame k (drop at f) ≡ bad m)
 unfolding frame_end
 not-ended f at k q = end-bad (frame k (drop at f)) at q
 
-pub frame-none : (f : List ℕ) (at k : ℕ) (r : Place) → r ≡ frame_end f at k → r ≡ Broken → None ≡ frame_at f at k
+pub frame-none : (f : List ℕ) (at k : ℕ) (r : Option ℕ) → r ≡ frame_end f at k → r ≡ None → None ≡ frame_at f at k
 unfolding frame_at whole_frame
 frame-none f at k r p q = rw (not-ended f at k (sym p ∙ q)).1
 
-pub frame-whole : (f : List ℕ) (at k t e next : ℕ) (r : Place) → r ≡ frame_end f at k → r ≡ End next → t ≡ read_at f (at + 4) 8
-    → e ≡ read_at f (at + 12) 4 → Whole next t e ≡ frame_at f at k
+pub frame-whole : (f : List ℕ) (at k t e next : ℕ) (r : Option ℕ) → r ≡ frame_end f at k → r ≡ Some next → t ≡ read_at f (at + 4) 8
+    → e ≡ read_at f (at + 12) 4 → Some (record { next = next; time = t; exposure = e }) ≡ frame_at f at k
 unfolding frame_at whole_frame
 frame-whole f at k t e next r p q a b = go (ended f at k next (sym p ∙ q))
   where
     go : ((x : Frame) × (n : ℕ) × (frame k (drop at f) ≡ good x n) × (at + n ≡ next) × (x.time ≡ read_at f (at + 4) 8)
-        × (x.exposure ≡ read_at f (at + 12) 4)) → Whole next t e ≡ frame_at f at k
+        × (x.exposure ≡ read_at f (at + 12) 4)) → Some (record { next = next; time = t; exposure = e }) ≡ frame_at f at k
     go (x, n, g, i, c, d) = rw (g, a, b, c, d, i)
 
 -- ── How long a frame is ──
@@ -332,53 +271,53 @@ frame-most k s x n e =
     omega (arith, p.taken, sizes-most k (drop 16 s) x.sections p.sizes p.sections)
 
 -- the frame that the code found
-pub found : (f : List ℕ) (at k next t e : ℕ) → frame_at f at k ≡ Whole next t e
-    → (x : Frame) × (n : ℕ) × (frame k (drop at f) ≡ good x n) × (at + n ≡ next) × (x.time ≡ t) × (x.exposure ≡ e)
+pub found : (f : List ℕ) (at k : ℕ) (r : FrameAt) → frame_at f at k ≡ Some r
+    → (x : Frame) × (n : ℕ) × (frame k (drop at f) ≡ good x n) × (at + n ≡ r.next) × (x.time ≡ r.time) × (x.exposure ≡ r.exposure)
 unfolding frame_at whole_frame
-found f at k next t e q = go (frame k (drop at f)) refl q
+found f at k r q = go (frame k (drop at f)) refl q
   where
-    go : (p : Parsed Frame) → frame k (drop at f) ≡ p → whole_frame at p ≡ Whole next t e
-        → (x : Frame) × (n : ℕ) × (frame k (drop at f) ≡ good x n) × (at + n ≡ next) × (x.time ≡ t) × (x.exposure ≡ e)
+    go : (p : Parsed Frame) → frame k (drop at f) ≡ p → whole_frame at p ≡ Some r
+        → (x : Frame) × (n : ℕ) × (frame k (drop at f) ≡ good x n) × (at + n ≡ r.next) × (x.time ≡ r.time) × (x.exposure ≡ r.exposure)
     go (bad m) g w = let z : ◌≡◌ {A = ℕ} 0 1 = cc in absurd (omega arith)
-    go (good x n) g w = (x, n, g, cc, cc, cc)
+    go (good x n) g w =
+        let i : ◌≡◌ {A = FrameAt} (record { next = at + n; time = x.time; exposure = x.exposure }) r = cc in
+        (x, n, g, ap (λ (p : FrameAt). p.next) i, ap (λ (p : FrameAt). p.time) i, ap (λ (p : FrameAt). p.exposure) i)
 
 -- a frame that was found ends behind its place
-pub found-behind : (f : List ℕ) (at k next t e : ℕ) (r : FrameAt) → r ≡ frame_at f at k → r ≡ Whole next t e → at ≤ next
-found-behind f at k next t e r p q = go (found f at k next t e (sym p ∙ q))
-  where
-    go : ((x : Frame) × (n : ℕ) × (frame k (drop at f) ≡ good x n) × (at + n ≡ next) × (x.time ≡ t) × (x.exposure ≡ e)) → at ≤ next
-    go (x, n, g, a, b, c) = omega arith
+pub found-behind : (f : List ℕ) (at k : ℕ) (p : FrameAt) (r : Option FrameAt) → r ≡ frame_at f at k → r ≡ Some p → at ≤ p.next
+found-behind f at k p r e q =
+    let (x, n, g, a, b, c) = found f at k p (sym e ∙ q) in
+    omega arith
 
 -- so does one whose end alone was asked for, and its length fits a UInt32
-pub end-behind : (f : List ℕ) (at k next : ℕ) (r : Place) → r ≡ frame_end f at k → r ≡ End next → at ≤ next
+pub end-behind : (f : List ℕ) (at k next : ℕ) (r : Option ℕ) → r ≡ frame_end f at k → r ≡ Some next → at ≤ next
 end-behind f at k next r p q =
     let (x, n, g, a, b, c) = ended f at k next (sym p ∙ q) in
     omega (arith, (frame-parts k (drop at f) x n g).taken)
 
-pub end-within : (f : List ℕ) (at k next : ℕ) (r : Place) → r ≡ frame_end f at k → r ≡ End next → at + 16 ≤ length f
+pub end-within : (f : List ℕ) (at k next : ℕ) (r : Option ℕ) → r ≡ frame_end f at k → r ≡ Some next → at + 16 ≤ length f
 end-within f at k next r p q =
     let (x, n, g, a, b, c) = ended f at k next (sym p ∙ q) in
     omega (arith, (frame-parts k (drop at f) x n g).long, length-drop at f)
 
 -- the places of its time and of its exposure fit
-pub time-fits : (f : List ℕ) (at k next : ℕ) (r : Place) → r ≡ frame_end f at k → r ≡ End next → length f < 2 ^ 64 → Fits w64 (at + 4)
+pub time-fits : (f : List ℕ) (at k next : ℕ) (r : Option ℕ) → r ≡ frame_end f at k → r ≡ Some next → length f < 2 ^ 64 → Fits w64 (at + 4)
 time-fits f at k next r p q h = let l = end-within f at k next r p q in record { fits = omega arith }
 
-pub exposure-fits : (f : List ℕ) (at k next : ℕ) (r : Place) → r ≡ frame_end f at k → r ≡ End next → length f < 2 ^ 64 → Fits w64 (at + 12)
+pub exposure-fits : (f : List ℕ) (at k next : ℕ) (r : Option ℕ) → r ≡ frame_end f at k → r ≡ Some next → length f < 2 ^ 64 → Fits w64 (at + 12)
 exposure-fits f at k next r p q h = let l = end-within f at k next r p q in record { fits = omega arith }
 
-pub end-near : (f : List ℕ) (at k next : ℕ) (r : Place) → k ≤ 8 → r ≡ frame_end f at k → r ≡ End next → next - at < 2 ^ 32
+pub end-near : (f : List ℕ) (at k next : ℕ) (r : Option ℕ) → k ≤ 8 → r ≡ frame_end f at k → r ≡ Some next → next - at < 2 ^ 32
 end-near f at k next r l p q =
     let (x, n, g, a, b, c) = ended f at k next (sym p ∙ q) in
     omega (arith, frame-most k (drop at f) x n g)
 
 pub ruleset laws = (
   rules,
-  sized-short,
-  sized-far,
-  sized-large,
-  sized-cut,
-  sized-whole,
+  size-short,
+  size-large,
+  size-cut,
+  size-whole,
   sections-done,
   sections-stop,
   sections-step,

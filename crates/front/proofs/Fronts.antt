@@ -14,19 +14,17 @@ use Rattle.layout.specs.Reading.{Parsed, bad, good, is_bad, value_or, taken, fau
 use Rattle.layout.specs.Opening.{first_of, header_count, index_offset, system_offset, user_offset, defined_in, read_system, walk_start, last_offset, not_fstf, other_revision, bad_sections, far_system, bad_system, sections_fault, system_fault, opening_place, front_lines}
 use Rattle.layout.proofs.Lists.{or-false}
 use Rattle.layout.proofs.Lines.{line-pass, line-holds, FrontPasses, front-pass}
-use Rattle.tables.specs.Tables.{table_place_of}
+use Rattle.tables.specs.Tables.{table_whole, table_place_of}
 use Rattle.tables.specs.declared.TablePlace.{TablePlace}
-use Rattle.tables.specs.declared.TablePlace.TheVariants as table_as
-use Rattle.refusal.specs.Refusal.{placed, plain}
-use Rattle.refusal.specs.declared.Refusal.{Refusal}
-use Rattle.front.specs.Front.{sections_of, system_table, front_held, front_by, front_of, front_refusal}
+use Rattle.std.specs.Prelude.{Option, Some, None, Result, Ok, Err}
+use Rattle.parts.specs.Parts.{broken_at}
+use Rattle.parts.specs.declared.Fault.{Fault}
+use Rattle.refusal.specs.Refusal.{placed, unless}
+use Rattle.refusal.specs.declared.Refusal.TheVariants.{NotFstf, Revision, Sections, SystemTable}
+use Rattle.front.specs.Front.{sections_of, system_table, front_held, front_of}
 use Rattle.header.specs.Header.{header_of}
 use Rattle.header.specs.declared.Header.{Header}
-use Rattle.front.specs.declared.Sections.{Sections}
-use Rattle.front.specs.declared.Sections.TheVariants as sections_as
-use Rattle.front.specs.declared.FrontHeld.{FrontHeld}
-use Rattle.front.specs.declared.Front.{Front}
-use Rattle.front.specs.declared.Front.TheVariants as front_as
+use Rattle.front.specs.declared.Sections.{Sections as Defined}
 
 -- ── The header of a file that has one ──
 
@@ -41,137 +39,138 @@ header_is f e = let l = fstf-long f e in rw (le-leb 33 (length f) (omega arith))
 
 -- ── 3 ──
 
-pub sections-refused : (f : List ℕ) → sections_of f ≡ sections_as.Broken → bad_sections f ≡ true
+sections-refused : (f : List ℕ) → sections_of f ≡ None → bad_sections f ≡ true
 unfolding sections_of
 sections-refused f e = go (bad_sections f) e
   where
-    go : (b : Bool) → cond b sections_as.Broken (sections_as.Legal (length (defined_in f)) (last_offset 0 (defined_in f))) ≡ sections_as.Broken → b ≡ true
+    go : (b : Bool) → ◌≡◌ {A = Option Defined} (cond b None (Some (record { count = length (defined_in f); last = last_offset 0 (defined_in f) }))) None
+        → b ≡ true
     go true q = refl
     go false q = let z : ◌≡◌ {A = ℕ} 0 1 = cc in absurd (omega arith)
 
-pub sections-pass : (f : List ℕ) (n last : ℕ) → sections_of f ≡ sections_as.Legal n last
-    → (bad_sections f ≡ false) × (length (defined_in f) ≡ n) × (last_offset 0 (defined_in f) ≡ last)
+sections-pass : (f : List ℕ) (d : Defined) → sections_of f ≡ Some d
+    → (bad_sections f ≡ false) × (length (defined_in f) ≡ d.count) × (last_offset 0 (defined_in f) ≡ d.last)
 unfolding sections_of
-sections-pass f n last e = go (bad_sections f) e
+sections-pass f d e = go (bad_sections f) e
   where
-    go : (b : Bool) → cond b sections_as.Broken (sections_as.Legal (length (defined_in f)) (last_offset 0 (defined_in f))) ≡ sections_as.Legal n last
-        → (b ≡ false) × (length (defined_in f) ≡ n) × (last_offset 0 (defined_in f) ≡ last)
+    go : (b : Bool) → ◌≡◌ {A = Option Defined} (cond b None (Some (record { count = length (defined_in f); last = last_offset 0 (defined_in f) }))) (Some d)
+        → (b ≡ false) × (length (defined_in f) ≡ d.count) × (last_offset 0 (defined_in f) ≡ d.last)
     go true q = let z : ◌≡◌ {A = ℕ} 0 1 = cc in absurd (omega arith)
-    go false q = (refl, cc, cc)
+    go false q =
+        let r : ◌≡◌ {A = Defined} (record { count = length (defined_in f); last = last_offset 0 (defined_in f) }) d = cc in
+        (refl, ap (λ (x : Defined). x.count) r, ap (λ (x : Defined). x.last) r)
 
 -- ── 4 ──
 
-pub system-early : (f : List ℕ) (system last : ℕ) → system < last → table_as.Broken 17 ≡ system_table f system last
+pub system-early : (f : List ℕ) (system last : ℕ) → system < last → Err (broken_at 17) ≡ system_table f system last
 unfolding system_table
 system-early f system last h = rw (lt-ltb system last h)
 
-pub system-late : (f : List ℕ) (system last : ℕ) → last ≤ system → 65535 < system - last → table_as.Broken 17 ≡ system_table f system last
+pub system-late : (f : List ℕ) (system last : ℕ) → last ≤ system → 65535 < system - last → Err (broken_at 17) ≡ system_table f system last
 unfolding system_table
 system-late f system last h l = rw (le-ltb system last h, lt-ltb (last + 65535) system (omega arith))
 
-pub system-there : (f : List ℕ) (system last : ℕ) (r : TablePlace) → last ≤ system → system - last ≤ 65535
+pub system-there : (f : List ℕ) (system last : ℕ) (r : Result TablePlace Fault) → last ≤ system → system - last ≤ 65535
     → r ≡ table_place_of system (table (drop system f)) → r ≡ system_table f system last
 unfolding system_table
 system-there f system last r h l e = e ∙ rw (le-ltb system last h, le-ltb (last + 65535) system (omega arith))
 
 -- a table that was found
-pub table-found : (f : List ℕ) (at n end : ℕ) → table_place_of at (table (drop at f)) ≡ table_as.Whole n end
-    → (ts : List Tag) × (m : ℕ) × (table (drop at f) ≡ good ts m) × (length ts ≡ n) × (at + m ≡ end)
+pub table-found : (f : List ℕ) (at : ℕ) (w : TablePlace) → table_place_of at (table (drop at f)) ≡ Ok w
+    → (ts : List Tag) × (m : ℕ) × (table (drop at f) ≡ good ts m) × (length ts ≡ w.tags) × (at + m ≡ w.end)
 unfolding table_place_of
-table-found f at n end q = go (table (drop at f)) refl q
+table-found f at w q = go (table (drop at f)) refl q
   where
-    go : (p : Parsed (List Tag)) → table (drop at f) ≡ p → table_place_of at p ≡ table_as.Whole n end
-        → (ts : List Tag) × (m : ℕ) × (table (drop at f) ≡ good ts m) × (length ts ≡ n) × (at + m ≡ end)
+    go : (p : Parsed (List Tag)) → table (drop at f) ≡ p → table_place_of at p ≡ Ok w
+        → (ts : List Tag) × (m : ℕ) × (table (drop at f) ≡ good ts m) × (length ts ≡ w.tags) × (at + m ≡ w.end)
     go (bad i) e g = let z : ◌≡◌ {A = ℕ} 0 1 = cc in absurd (omega arith)
-    go (good ts m) e g = (ts, m, e, cc, cc)
+    go (good ts m) e g =
+        let r : ◌≡◌ {A = TablePlace} (table_whole (length ts) (at + m)) w = cc in
+        (ts, m, e, ap (λ (x : TablePlace). x.tags) r, ap (λ (x : TablePlace). x.end) r)
 
-pub table_none : (f : List ℕ) (at k : ℕ) → table_place_of at (table (drop at f)) ≡ table_as.Broken k
-    → (m : ℕ) × (table (drop at f) ≡ bad m) × (at + m ≡ k)
+pub table_none : (f : List ℕ) (at : ℕ) (k : Fault) → table_place_of at (table (drop at f)) ≡ Err k
+    → (m : ℕ) × (table (drop at f) ≡ bad m) × (at + m ≡ k.place)
 unfolding table_place_of
 table_none f at k q = go (table (drop at f)) refl q
   where
-    go : (p : Parsed (List Tag)) → table (drop at f) ≡ p → table_place_of at p ≡ table_as.Broken k → (m : ℕ) × (table (drop at f) ≡ bad m) × (at + m ≡ k)
-    go (bad m) e g = (m, e, cc)
+    go : (p : Parsed (List Tag)) → table (drop at f) ≡ p → table_place_of at p ≡ Err k → (m : ℕ) × (table (drop at f) ≡ bad m) × (at + m ≡ k.place)
+    go (bad m) e g = let r : ◌≡◌ {A = Fault} (broken_at (at + m)) k = cc in (m, e, ap (λ (x : Fault). x.place) r)
     go (good ts m) e g = let z : ◌≡◌ {A = ℕ} 0 1 = cc in absurd (omega arith)
 
-system-refused : (f : List ℕ) (k : ℕ) → system_table f (system_offset f) (last_offset 0 (defined_in f)) ≡ table_as.Broken k
-    → (bad_system f ≡ true) × (system_fault f ≡ k)
+system-refused : (f : List ℕ) (k : Fault) → system_table f (system_offset f) (last_offset 0 (defined_in f)) ≡ Err k
+    → (bad_system f ≡ true) × (system_fault f ≡ k.place)
 unfolding system_table bad_system system_fault read_system fault_of
 system-refused f k e = go (far_system f) e
   where
-    go : (b : Bool) → cond b (table_as.Broken 17) (table_place_of (system_offset f) (table (drop (system_offset f) f))) ≡ table_as.Broken k
-        → ((b || is_bad (table (drop (system_offset f) f))) ≡ true) × (cond b 17 (system_offset f + fault_of (table (drop (system_offset f) f))) ≡ k)
-    go true q = (refl, cc)
+    go : (b : Bool) → cond b (Err (broken_at 17)) (table_place_of (system_offset f) (table (drop (system_offset f) f))) ≡ Err k
+        → ((b || is_bad (table (drop (system_offset f) f))) ≡ true) × (cond b 17 (system_offset f + fault_of (table (drop (system_offset f) f))) ≡ k.place)
+    go true q = let r : ◌≡◌ {A = Fault} (broken_at 17) k = cc in (refl, ap (λ (x : Fault). x.place) r)
     go false q = let (m, g, h) = table_none f (system_offset f) k q in (rw g, rw g h)
 
-system-pass : (f : List ℕ) (n start : ℕ) → system_table f (system_offset f) (last_offset 0 (defined_in f)) ≡ table_as.Whole n start
-    → (bad_system f ≡ false) × (length (value_or [] (read_system f)) ≡ n) × (walk_start f ≡ start)
+system-pass : (f : List ℕ) (w : TablePlace) → system_table f (system_offset f) (last_offset 0 (defined_in f)) ≡ Ok w
+    → (bad_system f ≡ false) × (length (value_or [] (read_system f)) ≡ w.tags) × (walk_start f ≡ w.end)
 unfolding system_table bad_system read_system walk_start value_or taken
-system-pass f n start e = go (ltb (system_offset f) (last_offset 0 (defined_in f)) || ltb (last_offset 0 (defined_in f) + 65535) (system_offset f)) e
+system-pass f w e = go (ltb (system_offset f) (last_offset 0 (defined_in f)) || ltb (last_offset 0 (defined_in f) + 65535) (system_offset f)) e
   where
-    found : ((ts : List Tag) × (m : ℕ) × (table (drop (system_offset f) f) ≡ good ts m) × (length ts ≡ n) × (system_offset f + m ≡ start))
-        → (is_bad (table (drop (system_offset f) f)) ≡ false) × (length (value_or [] (read_system f)) ≡ n) × (walk_start f ≡ start)
+    found : ((ts : List Tag) × (m : ℕ) × (table (drop (system_offset f) f) ≡ good ts m) × (length ts ≡ w.tags) × (system_offset f + m ≡ w.end))
+        → (is_bad (table (drop (system_offset f) f)) ≡ false) × (length (value_or [] (read_system f)) ≡ w.tags) × (walk_start f ≡ w.end)
     found (ts, m, g, l, s) = rw g ((refl, l, s))
 
-    go : (b : Bool) → cond b (table_as.Broken 17) (table_place_of (system_offset f) (table (drop (system_offset f) f))) ≡ table_as.Whole n start
-        → ((b || is_bad (table (drop (system_offset f) f))) ≡ false) × (length (value_or [] (read_system f)) ≡ n) × (walk_start f ≡ start)
+    go : (b : Bool) → cond b (Err (broken_at 17)) (table_place_of (system_offset f) (table (drop (system_offset f) f))) ≡ Ok w
+        → ((b || is_bad (table (drop (system_offset f) f))) ≡ false) × (length (value_or [] (read_system f)) ≡ w.tags) × (walk_start f ≡ w.end)
     go true q = let z : ◌≡◌ {A = ℕ} 0 1 = cc in absurd (omega arith)
-    go false q = found (table-found f (system_offset f) n start q)
+    go false q = found (table-found f (system_offset f) w q)
 
 -- ── The first of the four that holds ──
 
-front-number : (f : List ℕ) (n : ℕ) → first_of (front_lines f) ≡ suc n → front_as.Refused (placed (suc n) (opening_place (suc n) f)) ≡ front_of f
-unfolding front_of front_by
+front-number : (f : List ℕ) (n : ℕ) → first_of (front_lines f) ≡ suc n → Err (placed (suc n) (opening_place (suc n) f)) ≡ front_of f
+unfolding front_of unless
 front-number f n e = rw e
 
-pub front-not-fstf : (f : List ℕ) (a : Bool) → a ≡ not_fstf f → a ≡ true → front_as.Refused (plain 1) ≡ front_of f
-unfolding front_lines opening_place
-front-not-fstf f a p q = front-number f 0 (line-holds 1 (not_fstf f) _ (sym p ∙ q))
+module _ (f : List ℕ) (a : Bool) (p : a ≡ not_fstf f) where
+  pub front-not-fstf : a ≡ true → Err NotFstf ≡ front_of f
+  unfolding front_lines opening_place
+  front-not-fstf q = front-number f 0 (line-holds 1 (not_fstf f) _ (sym p ∙ q))
 
-pub front-revision : (f : List ℕ) (a b : Bool) → a ≡ not_fstf f → a ≡ false → b ≡ other_revision f → b ≡ true → front_as.Refused (plain 2) ≡ front_of f
-unfolding front_lines opening_place
-front-revision f a b p q r s = front-number f 1 (line-pass 1 (not_fstf f) _ (sym p ∙ q) ∙ line-holds 2 (other_revision f) _ (sym r ∙ s))
+  module _ (b : Bool) (q : a ≡ false) (r : b ≡ other_revision f) where
+    pub front-revision : b ≡ true → Err Revision ≡ front_of f
+    unfolding front_lines opening_place
+    front-revision s = front-number f 1 (line-pass 1 (not_fstf f) _ (sym p ∙ q) ∙ line-holds 2 (other_revision f) _ (sym r ∙ s))
 
-pub front-sections : (f : List ℕ) (a b : Bool) (c : Sections) (k : ℕ) (d : Refusal) → a ≡ not_fstf f → a ≡ false → b ≡ other_revision f → b ≡ false
-    → c ≡ sections_of f → c ≡ sections_as.Broken → k ≡ sections_fault f → d ≡ placed 3 k → front_as.Refused d ≡ front_of f
-unfolding front_lines opening_place
-front-sections f a b c k d p q r s t u v w =
-    ap front_as.Refused (w ∙ ap (placed 3) v) ∙ front-number f 2 (line-pass 1 (not_fstf f) _ (sym p ∙ q) ∙ line-pass 2 (other_revision f) _ (sym r ∙ s)
-    ∙ line-holds 3 (bad_sections f) _ (sections-refused f (sym t ∙ u)))
+    module _ (c : Option Defined) (s : b ≡ false) (t : c ≡ sections_of f) where
+      pub front-sections : (k : ℕ) → c ≡ None → k ≡ sections_fault f → Err (Sections k) ≡ front_of f
+      unfolding front_lines opening_place
+      front-sections k u v =
+          ap (λ (x : ℕ). Err (Sections x)) v ∙ front-number f 2 (line-pass 1 (not_fstf f) _ (sym p ∙ q) ∙ line-pass 2 (other_revision f) _ (sym r ∙ s)
+          ∙ line-holds 3 (bad_sections f) _ (sections-refused f (sym t ∙ u)))
 
--- what the code makes of the header and the sections it found
-system-of : (f : List ℕ) (h : Header) (n last : ℕ) → not_fstf f ≡ false → h ≡ header_of f → sections_of f ≡ sections_as.Legal n last
-    → system_table f h.system last ≡ system_table f (system_offset f) (last_offset 0 (defined_in f))
-system-of f h n last a p e = rw (p, header_is f a, (sections-pass f n last e).2)
+      -- the header and the sections that the code found
+      module _ (d : Defined) (h : Header) (w : Result TablePlace Fault) (u : c ≡ Some d) (v : h ≡ header_of f) (x : w ≡ system_table f h.system d.last) where
+        system-of : system_table f (system_offset f) (last_offset 0 (defined_in f)) ≡ w
+        system-of = sym (x ∙ rw (v, header_is f (sym p ∙ q), (sections-pass f d (sym t ∙ u)).2))
 
-pub front-system : (f : List ℕ) (a b : Bool) (c : Sections) (h : Header) (n last k : ℕ) (t : TablePlace) (d : Refusal) → a ≡ not_fstf f → a ≡ false
-    → b ≡ other_revision f → b ≡ false → c ≡ sections_of f → c ≡ sections_as.Legal n last → h ≡ header_of f → t ≡ system_table f h.system last
-    → t ≡ table_as.Broken k → d ≡ placed 4 k → front_as.Refused d ≡ front_of f
-unfolding front_lines opening_place
-front-system f a b c h n last k t d p q r s u v w x y o =
-    let (z, i) = system-refused f k (sym (system-of f h n last (sym p ∙ q) w (sym u ∙ v)) ∙ sym x ∙ y) in
-    ap front_as.Refused (o ∙ ap (placed 4) (sym i)) ∙ front-number f 3
-    (line-pass 1 (not_fstf f) _ (sym p ∙ q) ∙ line-pass 2 (other_revision f) _ (sym r ∙ s)
-    ∙ line-pass 3 (bad_sections f) _ (sections-pass f n last (sym u ∙ v)).0
-    ∙ line-holds 4 (bad_system f) _ z)
+        pub front-system : (k : Fault) → w ≡ Err k → Err (SystemTable k.place) ≡ front_of f
+        unfolding front_lines opening_place
+        front-system k y =
+            let (z, i) = system-refused f k (system-of ∙ y) in
+            ap (λ (x : ℕ). Err (SystemTable x)) (sym i) ∙ front-number f 3
+            (line-pass 1 (not_fstf f) _ (sym p ∙ q) ∙ line-pass 2 (other_revision f) _ (sym r ∙ s)
+            ∙ line-pass 3 (bad_sections f) _ (sections-pass f d (sym t ∙ u)).0
+            ∙ line-holds 4 (bad_system f) _ z)
 
-front-none : (f : List ℕ) → FrontPasses f → first_of (front_lines f) ≡ 0
-unfolding first_of
-front-none f p = ap first_of (sym (append-nil (front_lines f))) ∙ front-pass f [] p
+        none : FrontPasses f → first_of (front_lines f) ≡ 0
+        unfolding first_of
+        none p = ap first_of (sym (append-nil (front_lines f))) ∙ front-pass f [] p
 
-pub front-whole : (f : List ℕ) (a b : Bool) (c : Sections) (h : Header) (n last tags start : ℕ) (t : TablePlace) → a ≡ not_fstf f → a ≡ false
-    → b ≡ other_revision f → b ≡ false → c ≡ sections_of f → c ≡ sections_as.Legal n last → h ≡ header_of f → t ≡ system_table f h.system last
-    → t ≡ table_as.Whole tags start → front_as.Whole (record { sections = n; system = h.system; system_tags = tags; start = start }) ≡ front_of f
-unfolding front_of front_by front_held
-front-whole f a b c h n last tags start t p q r s u v w x y =
-    let (d, e, k) = sections-pass f n last (sym u ∙ v) in
-    let (z, i, j) = system-pass f tags start (sym (system-of f h n last (sym p ∙ q) w (sym u ∙ v)) ∙ sym x ∙ y) in
-    let m : first_of (front_lines f) ≡ 0 = front-none f (record { mark = sym p ∙ q; version = sym r ∙ s; sections = d; system = z }) in
-    let o : h.system ≡ system_offset f = ap (λ (v : Header). v.system) (w ∙ header_is f (sym p ∙ q)) in
-    rw (m, e, i, j, o)
-
-pub whole-refusal : (r : Front) (h : FrontHeld) → r ≡ front_as.Whole h → plain 0 ≡ front_refusal r
-whole-refusal r h e = rw e
+        pub front-whole : (m : TablePlace) → w ≡ Ok m
+            → Ok (record { sections = d.count; system = h.system; system_tags = m.tags; start = m.end }) ≡ front_of f
+        unfolding front_of unless front_held
+        front-whole m y =
+            let (n, e, k) = sections-pass f d (sym t ∙ u) in
+            let (z, i, j) = system-pass f m (system-of ∙ y) in
+            let l : first_of (front_lines f) ≡ 0 = none (record { mark = sym p ∙ q; version = sym r ∙ s; sections = n; system = z }) in
+            let o : h.system ≡ system_offset f = ap (λ (v : Header). v.system) (v ∙ header_is f (sym p ∙ q)) in
+            rw (l, e, i, j, o)
 
 pub ruleset laws = (
   rules,
@@ -183,5 +182,4 @@ pub ruleset laws = (
   front-sections,
   front-system,
   front-whole,
-  whole-refusal,
 )

@@ -19,28 +19,28 @@ use Rattle.layout.proofs.Lines.{FrontPasses, front-clear}
 use Rattle.layout.proofs.Exact.{table-exact}
 use Rattle.parts.proofs.Taken.{only_parts, tested-then}
 use Rattle.parts.proofs.Times.{times-length}
-use Rattle.refusal.specs.Refusal.{placed}
+use Rattle.std.specs.Prelude.{Ok, Err}
+use Rattle.refusal.specs.Refusal.{placed, unless}
 use Rattle.refusal.specs.declared.Refusal.{Refusal}
-use Rattle.front.specs.Front.{front_held, front_by, front_of}
+use Rattle.front.specs.Front.{front_held, front_of}
 use Rattle.front.specs.declared.FrontHeld.{FrontHeld}
-use Rattle.front.specs.declared.Front.TheVariants as front_as
 
 -- ── What the front's answer says ──
 
-pub front-passes : (f : List ℕ) (held : FrontHeld) → front_of f ≡ front_as.Whole held → FrontPasses f × (held ≡ front_held f)
-unfolding front_of front_by
+pub front-passes : (f : List ℕ) (held : FrontHeld) → front_of f ≡ Ok held → FrontPasses f × (held ≡ front_held f)
+unfolding front_of unless
 front-passes f held e = go (first_of (front_lines f)) refl e
   where
-    go : (n : ℕ) → first_of (front_lines f) ≡ n → front_by n (opening_place n f) (front_held f) ≡ front_as.Whole held → FrontPasses f × (held ≡ front_held f)
+    go : (n : ℕ) → first_of (front_lines f) ≡ n → unless n (opening_place n f) (front_held f) ≡ Ok held → FrontPasses f × (held ≡ front_held f)
     go zero q g = ((front-clear f [] (ap first_of (append-nil (front_lines f)) ∙ q)).0, cc)
     go (suc n) q g = let z : ◌≡◌ {A = ℕ} 0 1 = cc in absurd (omega arith)
 
-pub front-refuses : (f : List ℕ) (n : Refusal) → front_of f ≡ front_as.Refused n
+pub front-refuses : (f : List ℕ) (n : Refusal) → front_of f ≡ Err n
     → (m : ℕ) × (n ≡ placed (suc m) (opening_place (suc m) f)) × (first_of (front_lines f) ≡ suc m)
-unfolding front_of front_by
+unfolding front_of unless
 front-refuses f n e = go (first_of (front_lines f)) refl e
   where
-    go : (j : ℕ) → first_of (front_lines f) ≡ j → front_by j (opening_place j f) (front_held f) ≡ front_as.Refused n
+    go : (j : ℕ) → first_of (front_lines f) ≡ j → unless j (opening_place j f) (front_held f) ≡ Err n
         → (m : ℕ) × (n ≡ placed (suc m) (opening_place (suc m) f)) × (first_of (front_lines f) ≡ suc m)
     go zero q g = let z : ◌≡◌ {A = ℕ} 0 1 = cc in absurd (omega arith)
     go (suc j) q g = (j, cc, q)

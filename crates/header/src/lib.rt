@@ -1,11 +1,11 @@
 // The header of a file, and the definition's fixed places and limits, which belong to it: every other crate takes them from here.
-#![tactic(auto)]
+#![tactic(auto, using(crate::proofs::Laws::laws))]
 
 ghost use Rattle.std.specs.Prelude.{◌≡◌};
 ghost use Rattle.header.specs.Header.{header_of};
 
 // The header's fields, and the definition's fixed places and limits, which belong to it.
-#[derive(Clone, Copy)]
+#[derive(Clone, Copy, Debug, PartialEq, Eq)]
 pub struct Header {
     pub count: usize,
     pub index: usize,
@@ -70,6 +70,7 @@ impl Header {
     pub const LARGEST_USER_OFFSET: usize = 0x100_0000_0000 - Header::LARGEST_TABLE;
 
     // The header of a file; all fields are 0 where the file is too short to have one.
+    // No Option for that: opening asks behind 1, with which it refuses a file so short, and would get a branch that nothing reaches.
     pub fn parse(file: &[u8]) -> Header
         ensures { result ≡ header_of file.now }
     {

@@ -7,7 +7,7 @@ use mathlib.Core.Bool.{Bool}
 use mathlib.Core.List.{List}
 use lib.ListN.{length, drop, length-append, length-drop}
 use borrow.Author.Rules.{rules}
-use borrow.Author.Tests.{lt-ltb, le-ltb, eq-eqb, ne_eqb, le-leb, lt-leb}
+use borrow.Author.Tests.{lt-ltb, le-ltb, le-leb, lt-leb}
 use mir.Syntax.{w64}
 use mir.Val.{Fits}
 use Rattle.number.specs.Number.{read_at}
@@ -21,131 +21,108 @@ use Rattle.parts.proofs.Readers.{end-good}
 use Rattle.strings.specs.Strings.{text_of}
 use Rattle.parts.specs.Parts.{end_of}
 use Rattle.rows.specs.Rows.{row_name}
-use Rattle.tables.specs.Tables.{tag_found}
 use Rattle.rows.specs.declared.Row.TheVariants as row
-use Rattle.parts.specs.declared.Place.{Place}
-use Rattle.parts.specs.declared.Place.TheVariants.{End, Broken}
-use Rattle.tables.specs.declared.TagFound.{TagFound}
-use Rattle.tables.specs.declared.TagFound.TheVariants as tag
-use Rattle.strings.specs.declared.Text.{Text}
-use Rattle.strings.specs.declared.Text.TheVariants as text
+use Rattle.std.specs.Prelude.{Option, Some, None, Ok, Err}
 use Rattle.frames.specs.Frames.{sized_at, sections_at}
 use Rattle.front.specs.Front.{definition_at}
 use Rattle.front.specs.declared.DefinitionAt.{DefinitionAt}
-use Rattle.front.specs.declared.DefinitionAt.TheVariants as definition_as
 use Rattle.opening.specs.declared.Held.{Held}
-use Rattle.refusal.specs.Refusal.{plain}
-use Rattle.items.specs.Items.{from, frame_place, section_at, section_from, held_section, string_from, name_at, held_name, offset_or, next_at, between, configuration_from, configuration_at, held_configuration, name_of, value_of, held_found}
+use Rattle.refusal.specs.declared.Refusal.TheVariants.{NoSuchItem}
+use Rattle.items.specs.Items.{found_at, from, frame_place, section_at, section_from, held_section, string_from, name_at, held_name, next_at, between, configuration_from, configuration_at, held_configuration, held_item, held_found}
 use Rattle.items.specs.declared.Item.{Item}
-use Rattle.items.specs.declared.Item.TheVariants as item
 use Rattle.items.specs.declared.Found.{Found}
-use Rattle.items.specs.declared.Found.TheVariants.{At, Refused}
 use Rattle.items.proofs.Bytes.{Bytes}
 
 -- ── A section's name and configuration ──
 
-pub name-past : (f : List ℕ) (n i : ℕ) → n ≤ i → Refused (plain 8) ≡ held_name f n i
+pub name-past : (f : List ℕ) (n i : ℕ) → n ≤ i → None ≡ held_name f n i
 unfolding held_name
 name-past f n i h = rw (le-ltb i n h)
 
-pub configuration-past : (f : List ℕ) (n system i : ℕ) → n ≤ i → Refused (plain 8) ≡ held_configuration f n system i
+pub configuration-past : (f : List ℕ) (n system i : ℕ) → n ≤ i → None ≡ held_configuration f n system i
 unfolding held_configuration
 configuration-past f n system i h = rw (le-ltb i n h)
 
-pub next-none : (f : List ℕ) (at left system : ℕ) → left ≡ 0 → system ≡ next_at f at left system
-unfolding next_at
-next-none f at left system e = rw (eq-eqb left 0 e)
-
-pub next-broken : (f : List ℕ) (at left system : ℕ) (r : DefinitionAt) → (left ≡ 0 → ⊥) → r ≡ definition_at f at → r ≡ definition_as.Broken
-    → system ≡ next_at f at left system
-unfolding next_at offset_or
-next-broken f at left system r h e g = rw (ne_eqb left 0 h, ← e, g)
-
-pub next-some : (f : List ℕ) (at left system next offset : ℕ) (r : DefinitionAt) → (left ≡ 0 → ⊥) → r ≡ definition_at f at
-    → r ≡ definition_as.Whole next offset → offset ≡ next_at f at left system
-unfolding next_at offset_or
-next-some f at left system next offset r h e g = rw (ne_eqb left 0 h, ← e, g)
-
-module _ (f : List ℕ) (n i : ℕ) (h : i < n) (r : Place) (e : r ≡ end_of 34 (times i (row_name row.Definition) (drop 34 f))) where
+module _ (f : List ℕ) (n i : ℕ) (h : i < n) (r : Option ℕ) (e : r ≡ end_of 34 (times i (row_name row.Definition) (drop 34 f))) where
   name-from : held_name f n i ≡ from r (name_at f)
   unfolding held_name
-  name-from = rw (lt-ltb i n h) (ap (λ (x : Place). from x (name_at f)) (sym e))
+  name-from = rw (lt-ltb i n h) (ap (λ (x : Option ℕ). from x (name_at f)) (sym e))
 
   configuration-from : (system : ℕ) → held_configuration f n system i ≡ from r (configuration_at f (n - i - 1) system)
   unfolding held_configuration
-  configuration-from system = rw (lt-ltb i n h) (ap (λ (x : Place). from x (configuration_at f (n - i - 1) system)) (sym e))
+  configuration-from system = rw (lt-ltb i n h) (ap (λ (x : Option ℕ). from x (configuration_at f (n - i - 1) system)) (sym e))
 
-  pub name-nowhere : r ≡ Broken → Refused (plain 8) ≡ held_name f n i
+  pub name-nowhere : r ≡ None → None ≡ held_name f n i
   unfolding from
-  name-nowhere g = sym (name-from ∙ ap (λ (x : Place). from x (name_at f)) g)
+  name-nowhere g = sym (name-from ∙ ap (λ (x : Option ℕ). from x (name_at f)) g)
 
-  pub configuration-nowhere : (system : ℕ) → r ≡ Broken → Refused (plain 8) ≡ held_configuration f n system i
+  pub configuration-nowhere : (system : ℕ) → r ≡ None → None ≡ held_configuration f n system i
   unfolding from
-  configuration-nowhere system g = sym (configuration-from system ∙ ap (λ (x : Place). from x (configuration_at f (n - i - 1) system)) g)
+  configuration-nowhere system g = sym (configuration-from system ∙ ap (λ (x : Option ℕ). from x (configuration_at f (n - i - 1) system)) g)
 
-  module _ (p : ℕ) (g : r ≡ End p) where
-    module _ (t : Text) (u : t ≡ text_of (string (drop p f))) where
+  module _ (p : ℕ) (g : r ≡ Some p) where
+    module _ (t : Option ℕ) (u : t ≡ text_of (string (drop p f))) where
       name-read : held_name f n i ≡ string_from p t
       unfolding from name_at
-      name-read = name-from ∙ ap (λ (x : Place). from x (name_at f)) g ∙ ap (string_from p) (sym u)
+      name-read = name-from ∙ ap (λ (x : Option ℕ). from x (name_at f)) g ∙ ap (string_from p) (sym u)
 
-      pub no_name : t ≡ text.Broken → Refused (plain 8) ≡ held_name f n i
+      pub no_name : t ≡ None → None ≡ held_name f n i
       unfolding string_from
       no_name v = sym (name-read ∙ ap (string_from p) v)
 
-      pub name-found : (l : ℕ) → t ≡ text.Whole l → At (p + 1) l ≡ held_name f n i
+      pub name-found : (l : ℕ) → t ≡ Some l → found_at (p + 1) l ≡ held_name f n i
       unfolding string_from
       name-found l v = sym (name-read ∙ ap (string_from p) v)
 
-    module _ (t : DefinitionAt) (u : t ≡ definition_at f p) (system : ℕ) where
+    module _ (t : Option DefinitionAt) (u : t ≡ definition_at f p) (system : ℕ) where
       configuration-read : held_configuration f n system i ≡ configuration_from f (n - i - 1) system t
       unfolding from configuration_at
-      configuration-read = configuration-from system ∙ ap (λ (x : Place). from x (configuration_at f (n - i - 1) system)) g
+      configuration-read = configuration-from system ∙ ap (λ (x : Option ℕ). from x (configuration_at f (n - i - 1) system)) g
           ∙ ap (configuration_from f (n - i - 1) system) (sym u)
 
-      pub no-offset : t ≡ definition_as.Broken → Refused (plain 8) ≡ held_configuration f n system i
+      pub no-offset : t ≡ None → None ≡ held_configuration f n system i
       unfolding configuration_from
       no-offset v = sym (configuration-read ∙ ap (configuration_from f (n - i - 1) system) v)
 
-      module _ (next offset end : ℕ) (v : t ≡ definition_as.Whole next offset) (w : end ≡ next_at f next (n - i - 1) system) where
-        offsets-read : held_configuration f n system i ≡ between f offset end
+      module _ (d : DefinitionAt) (end : ℕ) (v : t ≡ Some d) (w : end ≡ next_at f d.next (n - i - 1) system) where
+        offsets-read : held_configuration f n system i ≡ between f d.offset end
         unfolding configuration_from
-        offsets-read = configuration-read ∙ ap (configuration_from f (n - i - 1) system) v ∙ ap (between f offset) (sym w)
+        offsets-read = configuration-read ∙ ap (configuration_from f (n - i - 1) system) v ∙ ap (between f d.offset) (sym w)
 
-        pub offsets-fall : end < offset → Refused (plain 8) ≡ held_configuration f n system i
+        pub offsets-fall : end < d.offset → None ≡ held_configuration f n system i
         unfolding between
-        offsets-fall k = sym (offsets-read ∙ rw (lt-leb offset end k))
+        offsets-fall k = sym (offsets-read ∙ rw (lt-leb d.offset end k))
 
-        pub offsets-far : offset ≤ end → length f < end → Refused (plain 8) ≡ held_configuration f n system i
+        pub offsets-far : d.offset ≤ end → length f < end → None ≡ held_configuration f n system i
         unfolding between
-        offsets-far k l = sym (offsets-read ∙ rw (le-leb offset end k, lt-leb end (length f) l))
+        offsets-far k l = sym (offsets-read ∙ rw (le-leb d.offset end k, lt-leb end (length f) l))
 
-        pub configuration-found : offset ≤ end → end ≤ length f → At offset (end - offset) ≡ held_configuration f n system i
+        pub configuration-found : d.offset ≤ end → end ≤ length f → found_at d.offset (end - d.offset) ≡ held_configuration f n system i
         unfolding between
-        configuration-found k l = sym (offsets-read ∙ rw (le-leb offset end k, le-leb end (length f) l))
+        configuration-found k l = sym (offsets-read ∙ rw (le-leb d.offset end k, le-leb end (length f) l))
 
 -- ── Where a frame starts ──
 
-pub place-past : (f : List ℕ) (n index i : ℕ) → n ≤ i → Broken ≡ frame_place f n index i
+pub place-past : (f : List ℕ) (n index i : ℕ) → n ≤ i → None ≡ frame_place f n index i
 unfolding frame_place
 place-past f n index i h = rw (le-ltb i n h)
 
-pub place-high : (f : List ℕ) (n index i : ℕ) → i < n → 1000000 ≤ i → Broken ≡ frame_place f n index i
+pub place-high : (f : List ℕ) (n index i : ℕ) → i < n → 1000000 ≤ i → None ≡ frame_place f n index i
 unfolding frame_place
 place-high f n index i h k = rw (lt-ltb i n h, le-ltb i 1000000 k)
 
-pub place-far : (f : List ℕ) (n index i : ℕ) → i < n → i < 1000000 → length f < index → Broken ≡ frame_place f n index i
+pub place-far : (f : List ℕ) (n index i : ℕ) → i < n → i < 1000000 → length f < index → None ≡ frame_place f n index i
 unfolding frame_place
 place-far f n index i h k l = rw (lt-ltb i n h, lt-ltb i 1000000 k, lt-leb index (length f) l)
 
 pub place-there : (f : List ℕ) (n index i p : ℕ) → i < n → i < 1000000 → index ≤ length f → p ≡ read_at f (index + 4 + 16 * i + 4) 8
-    → End p ≡ frame_place f n index i
+    → Some p ≡ frame_place f n index i
 unfolding frame_place
 place-there f n index i p h k l e = rw (lt-ltb i n h, lt-ltb i 1000000 k, le-leb index (length f) l, e)
 
 -- ── A section of a frame ──
 
-pub section-past : (f : List ℕ) (frames index n i j : ℕ) → n ≤ j → Refused (plain 8) ≡ held_section f frames index n i j
+pub section-past : (f : List ℕ) (frames index n i j : ℕ) → n ≤ j → None ≡ held_section f frames index n i j
 unfolding held_section
 section-past f frames index n i j h = rw (le-ltb j n h)
 
@@ -159,7 +136,7 @@ read-ends {A} {ok} {bytes} e f s n x b h =
     (m, omega arith)
 
 -- a section that was read has a size, and ends within the file
-module _ (f : List ℕ) (b : Bytes f) (s end : ℕ) (t : Place) (u : t ≡ sized_at f s) (v : t ≡ End end) where
+module _ (f : List ℕ) (b : Bytes f) (s end : ℕ) (t : Option ℕ) (u : t ≡ sized_at f s) (v : t ≡ Some end) where
   pub sized-ends : (s + 4 ≤ end) × (end ≤ length f)
   unfolding sized_at sized_bytes
   sized-ends =
@@ -177,101 +154,62 @@ module _ (f : List ℕ) (b : Bytes f) (s end : ℕ) (t : Place) (u : t ≡ sized
   pub section-size : 4 ≤ end - s
   section-size = omega (arith, sized-ends.0)
 
-module _ (f : List ℕ) (frames index n i j : ℕ) (h : j < n) (q : Place) (e : q ≡ frame_place f frames index i) where
+module _ (f : List ℕ) (frames index n i j : ℕ) (h : j < n) (q : Option ℕ) (e : q ≡ frame_place f frames index i) where
   section-from : held_section f frames index n i j ≡ from q (section_from f j)
   unfolding held_section
-  section-from = rw (lt-ltb j n h) (ap (λ (x : Place). from x (section_from f j)) (sym e))
+  section-from = rw (lt-ltb j n h) (ap (λ (x : Option ℕ). from x (section_from f j)) (sym e))
 
-  pub section-nowhere : q ≡ Broken → Refused (plain 8) ≡ held_section f frames index n i j
+  pub section-nowhere : q ≡ None → None ≡ held_section f frames index n i j
   unfolding from
-  section-nowhere g = sym (section-from ∙ ap (λ (x : Place). from x (section_from f j)) g)
+  section-nowhere g = sym (section-from ∙ ap (λ (x : Option ℕ). from x (section_from f j)) g)
 
-  module _ (p : ℕ) (g : q ≡ End p) where
+  module _ (p : ℕ) (g : q ≡ Some p) where
     frame-read : held_section f frames index n i j ≡ section_from f j p
     unfolding from
-    frame-read = section-from ∙ ap (λ (x : Place). from x (section_from f j)) g
+    frame-read = section-from ∙ ap (λ (x : Option ℕ). from x (section_from f j)) g
 
-    pub section-far : length f < p → Refused (plain 8) ≡ held_section f frames index n i j
+    pub section-far : length f < p → None ≡ held_section f frames index n i j
     unfolding section_from
     section-far k = sym (frame-read ∙ rw (lt-leb p (length f) k))
 
-    module _ (k : p ≤ length f) (r : Place) (a : r ≡ sections_at f (p + 16) j) where
+    module _ (k : p ≤ length f) (r : Option ℕ) (a : r ≡ sections_at f (p + 16) j) where
       sizes-read : held_section f frames index n i j ≡ from r (section_at f)
       unfolding section_from
-      sizes-read = frame-read ∙ rw (le-leb p (length f) k) (ap (λ (x : Place). from x (section_at f)) (sym a))
+      sizes-read = frame-read ∙ rw (le-leb p (length f) k) (ap (λ (x : Option ℕ). from x (section_at f)) (sym a))
 
-      pub no_size : r ≡ Broken → Refused (plain 8) ≡ held_section f frames index n i j
+      pub no_size : r ≡ None → None ≡ held_section f frames index n i j
       unfolding from
-      no_size u = sym (sizes-read ∙ ap (λ (x : Place). from x (section_at f)) u)
+      no_size u = sym (sizes-read ∙ ap (λ (x : Option ℕ). from x (section_at f)) u)
 
-      module _ (s : ℕ) (u : r ≡ End s) (t : Place) (v : t ≡ sized_at f s) where
-        section-read : held_section f frames index n i j ≡ from t (λ end. At (s + 4) (end - s - 4))
+      module _ (s : ℕ) (u : r ≡ Some s) (t : Option ℕ) (v : t ≡ sized_at f s) where
+        section-read : held_section f frames index n i j ≡ from t (λ end. found_at (s + 4) (end - s - 4))
         unfolding from section_at
-        section-read = sizes-read ∙ ap (λ (x : Place). from x (section_at f)) u ∙ ap (λ (x : Place). from x (λ end. At (s + 4) (end - s - 4))) (sym v)
+        section-read = sizes-read ∙ ap (λ (x : Option ℕ). from x (section_at f)) u ∙ ap (λ (x : Option ℕ). from x (λ end. found_at (s + 4) (end - s - 4))) (sym v)
 
-        pub no-section : t ≡ Broken → Refused (plain 8) ≡ held_section f frames index n i j
+        pub no-section : t ≡ None → None ≡ held_section f frames index n i j
         unfolding from
-        no-section w = sym (section-read ∙ ap (λ (x : Place). from x (λ end. At (s + 4) (end - s - 4))) w)
+        no-section w = sym (section-read ∙ ap (λ (x : Option ℕ). from x (λ end. found_at (s + 4) (end - s - 4))) w)
 
-        pub section-found : (end : ℕ) → t ≡ End end → At (s + 4) (end - s - 4) ≡ held_section f frames index n i j
+        pub section-found : (end : ℕ) → t ≡ Some end → found_at (s + 4) (end - s - 4) ≡ held_section f frames index n i j
         unfolding from
-        section-found end w = sym (section-read ∙ ap (λ (x : Place). from x (λ end. At (s + 4) (end - s - 4))) w)
+        section-found end w = sym (section-read ∙ ap (λ (x : Option ℕ). from x (λ end. found_at (s + 4) (end - s - 4))) w)
 
--- ── An item by its kind ──
+-- ── An item that was looked for ──
 
--- a tag that was found, by the lengths and places of its name and value
-pub name-some : (t : TagFound) (p q k l : ℕ) → t ≡ tag.At p q k l → At p q ≡ name_of t
-name-some t p q k l e = rw e
-
-pub value-some : (t : TagFound) (p q k l : ℕ) → t ≡ tag.At p q k l → At k l ≡ value_of t
-value-some t p q k l e = rw e
-
-module _ (f : List ℕ) (h : Held) (it : Item) (x : Found) where
-  pub item-section : (i j : ℕ) → it ≡ item.Section i j → x ≡ held_section f h.frames h.index h.sections i j → x ≡ held_found f h it
+module _ (f : List ℕ) (h : Held) (it : Item) (x : Option Found) (e : x ≡ held_item f h it) where
+  pub item-none : x ≡ None → Err NoSuchItem ≡ held_found f h it
   unfolding held_found
-  item-section i j e g = rw e g
+  item-none q = rw (sym e ∙ q)
 
-  pub item-section-name : (i : ℕ) → it ≡ item.SectionName i → x ≡ held_name f h.sections i → x ≡ held_found f h it
+  pub item-some : (y : Found) → x ≡ Some y → Ok y ≡ held_found f h it
   unfolding held_found
-  item-section-name i e g = rw e g
-
-  pub item-configuration : (i : ℕ) → it ≡ item.Configuration i → x ≡ held_configuration f h.sections h.system i → x ≡ held_found f h it
-  unfolding held_found
-  item-configuration i e g = rw e g
-
-  module _ (i : ℕ) (t : TagFound) where
-    pub item-system-name : it ≡ item.SystemName i → t ≡ tag_found f h.system i → x ≡ name_of t → x ≡ held_found f h it
-    unfolding held_found
-    item-system-name e u g = rw e (g ∙ ap name_of u)
-
-    pub item-system-value : it ≡ item.SystemValue i → t ≡ tag_found f h.system i → x ≡ value_of t → x ≡ held_found f h it
-    unfolding held_found
-    item-system-value e u g = rw e (g ∙ ap value_of u)
-
-    pub item-user-name : it ≡ item.UserName i → t ≡ tag_found f h.user i → x ≡ name_of t → x ≡ held_found f h it
-    unfolding held_found
-    item-user-name e u g = rw e (g ∙ ap name_of u)
-
-    pub item-user-value : it ≡ item.UserValue i → t ≡ tag_found f h.user i → x ≡ value_of t → x ≡ held_found f h it
-    unfolding held_found
-    item-user-value e u g = rw e (g ∙ ap value_of u)
-
-pub no-tag-name : (t : TagFound) → t ≡ tag.Nothing → Refused (plain 8) ≡ name_of t
-unfolding name_of
-no-tag-name t e = rw e
-
-pub no-tag-value : (t : TagFound) → t ≡ tag.Nothing → Refused (plain 8) ≡ value_of t
-unfolding value_of
-no-tag-value t e = rw e
+  item-some y q = rw (sym e ∙ q)
 
 pub ruleset laws = (
   rules,
   text-place,
   name-past,
   configuration-past,
-  next-none,
-  next-broken,
-  next-some,
   name-nowhere,
   configuration-nowhere,
   no_name,
@@ -293,15 +231,6 @@ pub ruleset laws = (
   no_size,
   no-section,
   section-found,
-  name-some,
-  value-some,
-  item-section,
-  item-section-name,
-  item-configuration,
-  item-system-name,
-  item-system-value,
-  item-user-name,
-  item-user-value,
-  no-tag-name,
-  no-tag-value,
+  item-none,
+  item-some,
 )

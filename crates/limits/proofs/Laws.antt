@@ -6,7 +6,4 @@ use Rattle.limits.proofs.Sound.{soundness}
 use Rattle.limits.proofs.Adding.{addings}
 use Rattle.limits.proofs.Closing.{closings}
 
--- for each call the laws of its own definitions: a search through all of them is slower
-pub ruleset add-laws = (rules, not-true, not-false, soundness, addings)
-
-pub ruleset close-laws = (rules, not-true, not-false, soundness, closings)
+pub ruleset laws = (rules, not-true, not-false, soundness, addings, closings)

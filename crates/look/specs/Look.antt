@@ -1,8 +1,6 @@
 -- The look by the place of each change's tag.
-use Rattle.std.specs.Prelude.{ℕ, ◌+◌, ◌%◌, ◌^◌, Bool, true, false, cond, not, List, [], ◌∷◌, length}
+use Rattle.std.specs.Prelude.{ℕ, ◌+◌, ◌%◌, ◌^◌, Bool, cond, not, List, [], ◌∷◌, length}
 use Rattle.layout.specs.Saving.{Entry, Change, same_entry, bits}
-use Rattle.sheet.specs.declared.Value.{Value}
-use Rattle.sheet.specs.declared.Value.TheVariants as value
 use Rattle.sheet.specs.Rows.{tag_entry, changes_at, Beside, beside}
 
 -- what a change saw is not what the table has
@@ -21,7 +19,3 @@ compare_of table sheet places = bits (compared_by table (beside places (changes_
 -- the set with the bit of a change, where that conflicts
 unfoldable pub with_bit : (set bit : ℕ) → (conflicts : Bool) → ℕ
 with_bit set bit b = cond b ((set + bit) % 2 ^ 64) set
-
-unfoldable pub is_nothing : Value → Bool
-is_nothing (value.At p n) = false
-is_nothing value.Nothing = true

@@ -1,39 +1,30 @@
 // The look: whether the seen entries of a sheet agree with a table.
-#![tactic(auto)]
+#![tactic(auto, using(crate::proofs::Looks::laws))]
 
 ghost use Rattle.std.specs.Prelude.{◌≡◌, ◌+◌, ◌<◌, length, take, drop};
 ghost use Rattle.layout.specs.Saving.{same_entry};
 ghost use Rattle.sheet.specs.Rows.{change_with_name, tag_entry};
 ghost use Rattle.sheet.specs.Values.{value_in, Stands};
-ghost use Rattle.look.specs.Look.{is_nothing, differs, with_bit, compare_of};
+ghost use Rattle.look.specs.Look.{differs, with_bit, compare_of};
 
-use rows::{Row, RowPlace};
+use rows::Row;
 use sheet::Value;
 
 // Whether two values are the same, or both are absent.
-fn same_value(a: &[u8], one: Value, b: &[u8], other: Value) -> bool
+fn same_value(a: &[u8], one: Option<Value>, b: &[u8], other: Option<Value>) -> bool
     requires { Stands a.now one × Stands b.now other }
     ensures { result ≡ same_entry (value_in a.now one) (value_in b.now other) }
 {
-    let Value::At(here, n) = one else {
-        return is_nothing(other);
+    let Some(here) = one else {
+        return other.is_none();
     };
-    let Value::At(there, m) = other else {
+    let Some(there) = other else {
         return false;
     };
-    if n != m {
+    if here.length != there.length {
         return false;
     }
-    parts::equal(a, here + 1, b, there + 1, n)
-}
-
-fn is_nothing(value: Value) -> bool
-    ensures { result ≡ is_nothing value }
-{
-    match value {
-        Value::At(_, _) => false,
-        Value::Nothing => true,
-    }
+    parts::equal(a, here.place + 1, b, there.place + 1, here.length)
 }
 
 // Whether what a change saw is not what the tag at a place holds.
@@ -51,7 +42,7 @@ fn with_bit(set: u64, bit: u64, conflicts: bool) -> u64
     ensures { result ≡ with_bit set bit conflicts }
 {
     if conflicts {
-        return std::num::wrapping_add_u64(set, bit);
+        return set.wrapping_add(bit);
     }
     set
 }
@@ -61,22 +52,17 @@ fn with_bit(set: u64, bit: u64, conflicts: bool) -> u64
 pub fn compare(table: &[u8], sheet: &[u8], places: &[usize]) -> u64
     ensures { result ≡ compare_of table.now sheet.now places.now }
 {
-    let mut set = 0;
-    let mut bit = 1;
+    let mut set: u64 = 0;
+    let mut bit: u64 = 1;
     let mut place = 1;
-    let mut passed = 0;
-    let mut left = places.len();
-    while 0 < left {
-        let row = rows::row_at(sheet, place, Row::Change);
-        let RowPlace::Whole(len, end) = row else {
+    for tag in places {
+        let Some(row) = rows::row_at(sheet, place, Row::Change) else {
             return set;
         };
-        let conflicts = disagrees(sheet, place, len, table, places[passed]);
+        let conflicts = disagrees(sheet, place, row.name, table, *tag);
         set = with_bit(set, bit, conflicts);
-        bit = std::num::wrapping_add_u64(bit, bit);
-        place = end;
-        passed += 1;
-        left -= 1;
+        bit = bit.wrapping_add(bit);
+        place = row.end;
     }
     set
 }

@@ -3,10 +3,10 @@
 use Prim.Native.Nat.{ℕ, zero, suc, ◌+◌, ◌*◌, ◌-◌, ◌/◌, ◌%◌, ◌^◌, ◌<◌, ◌≤◌}
 use native.Mathlib.Nat.{sub-zero, mod-lt, one-mul, div_self}
 use native.Mathlib.Omega.{arith}
-use mathlib.Core.Path.{◌≡◌, refl, ap, sym, ◌∙◌}
+use mathlib.Core.Path.{◌≡◌, refl, ap, sym, subst, ◌∙◌}
 use mathlib.Core.Bool.{Bool, true, false, ◌&&◌, cond}
 use mathlib.Core.List.{List, [], ◌∷◌}
-use lib.ListN.{length, take, drop, get_or, set, length-set}
+use lib.ListN.{length, take, drop, get_or, set, length-set, drop_of_length-le}
 use lib.Seq.{drop-cons, drop-drop, take-take, get_or-set_same}
 use lib.Dec.{leb, ltb, eqb}
 use lib.Bits.{bit_or, or_comm, or_shr, or_mod}
@@ -62,38 +62,38 @@ word-is s at a b c d h e f g i =
 
 -- ── Words and bytes of a name ──
 
-pub words_more : (s : List ℕ) (m i left w n : ℕ) (all : ℕ) → 0 < left → w ≡ number_of (take 4 (drop i s)) → n ≡ mix m w
-    → mix_words left m (drop i s) ≡ all → mix_words (left - 1) n (drop (i + 4) s) ≡ all
+-- one word more behind k words
+words-onward : (s : List ℕ) (k m at : ℕ) → mix (mix_words k m (drop at s)) (number_of (take 4 (drop (at + 4 * k) s))) ≡ mix_words (k + 1) m (drop at s)
 unfolding mix_words
-words_more s m i zero w n all h e f g = absurd (omega arith)
-words_more s m i (suc left) w n all h e f g =
-    let q : suc left - 1 ≡ left = omega arith in
-    rw (q, f, e, ← drop-drop 4 i s) g
+words-onward s zero m at = let p : at + 4 * 0 ≡ at = omega arith in rw p
+words-onward s (suc k) m at =
+    let p : suc k + 1 ≡ suc (k + 1) = omega arith in
+    let q : at + 4 * suc k ≡ at + 4 + 4 * k = omega arith in
+    let r : drop 4 (drop at s) ≡ drop (at + 4) s = drop-drop 4 at s in
+    let n = mix m (number_of (take 4 (drop at s))) in
+    rw (p, q)
+    (subst (λ (t : List ℕ). mix (mix_words k n t) (number_of (take 4 (drop (at + 4 + 4 * k) s))) ≡ mix_words (k + 1) n t) (sym r)
+    (words-onward s k n (at + 4)))
 
-pub words-done : (s : List ℕ) (m i left : ℕ) (all : ℕ) → left ≤ 0 → mix_words left m (drop i s) ≡ all → m ≡ all
+pub words-more : (s : List ℕ) (at k m w n : ℕ) → m ≡ mix_words k 0 (drop at s) → w ≡ number_of (take 4 (drop (at + 4 * k) s)) → n ≡ mix m w
+    → n ≡ mix_words (k + 1) 0 (drop at s)
+words-more s at k m w n e f g = g ∙ rw (e, f) (words-onward s k 0 at)
+
+pub words-none : (s : List ℕ) → 0 ≡ mix_words 0 0 s
 unfolding mix_words
-words-done s m i zero all h e = e
-words-done s m i (suc left) all h e = absurd (omega arith)
+words-none s = refl
 
-pub words-there : (s : List ℕ) (i left : ℕ) → 0 < left → i + 4 * left ≤ length s → i + 4 ≤ length s
-words-there s i left h l = omega arith
-
-pub words_left : (s : List ℕ) (i left : ℕ) → 0 < left → i + 4 * left ≤ length s → i + 4 + 4 * (left - 1) ≤ length s
-words_left s i left h l = omega arith
-
-pub bytes-more : (s : List ℕ) (m i left b n : ℕ) (all : ℕ) → 0 < left → i + left ≤ length s → b ≡ get_or s i 0 → n ≡ mix m b
-    → mix_bytes m (take left (drop i s)) ≡ all → mix_bytes n (take (left - 1) (drop (i + 1) s)) ≡ all
+-- one byte more of some
+pub bytes-more : (t : List ℕ) (m k n : ℕ) (all : ℕ) → mix_bytes m (drop k t) ≡ all → k < length t → n ≡ mix m (get_or t k 0)
+    → mix_bytes n (drop (k + 1) t) ≡ all
 unfolding mix_bytes
-bytes-more s m i zero b n all h l e f g = absurd (omega arith)
-bytes-more s m i (suc left) b n all h l e f g =
-    let q : suc left - 1 ≡ left = omega arith in
-    let p : i + 1 ≡ suc i = omega arith in
-    rw (q, p, f, e) (rw (drop-cons s i 0 (omega arith)) at g)
+bytes-more t m k n all g h f =
+    let p : k + 1 ≡ suc k = omega arith in
+    rw (p, f) (rw (drop-cons t k 0 h) at g)
 
-pub bytes-done : (s : List ℕ) (m i left : ℕ) (all : ℕ) → left ≤ 0 → mix_bytes m (take left (drop i s)) ≡ all → m ≡ all
+pub bytes-done : (t : List ℕ) (m k : ℕ) (all : ℕ) → mix_bytes m (drop k t) ≡ all → length t ≤ k → m ≡ all
 unfolding mix_bytes
-bytes-done s m i zero all h e = e
-bytes-done s m i (suc left) all h e = absurd (omega arith)
+bytes-done t m k all g h = rw (drop_of_length-le t {i = k} h) at g
 
 pub byte_small : (b : ℕ) → b < 256 → b < 4294967296
 byte_small b h = omega arith
@@ -355,10 +355,8 @@ pub ruleset laws = (
   sum_fits,
   word_small,
   word-is,
-  words_more,
-  words-done,
-  words-there,
-  words_left,
+  words-more,
+  words-none,
   bytes-more,
   bytes-done,
   byte_small,

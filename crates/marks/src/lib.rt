@@ -1,5 +1,5 @@
 // Marks of names. Equal names have equal marks, so a name whose mark is not set is none of those that were marked, and needs no search.
-#![tactic(auto)]
+#![tactic(auto, using(crate::proofs::Laws::laws))]
 
 ghost use Rattle.std.specs.Prelude.{◌≡◌, ◌+◌, ◌*◌, ◌^◌, ◌<◌, ◌≤◌, length, take, drop};
 ghost use Rattle.number.specs.Number.{number_of};
@@ -19,19 +19,13 @@ fn mix(mark: usize, word: usize) -> usize
     (mark * 11400715 + word) % ALL
 }
 
-// A byte as a number: so that only one place asks that it fits.
-fn wide(byte: u8) -> usize
-    ensures { (result ≡ byte) × (result < 256) }
-{
-    byte as usize
-}
-
 // Four bytes that are there, as a number: a machine reads them at once.
 fn word(s: &[u8], at: usize) -> usize
     requires { at + 4 ≤ length s.now }
     ensures { (result ≡ number_of (take 4 (drop at s.now))) × (result < 2 ^ 32) }
 {
-    wide(s[at]) + 256 * (wide(s[at + 1]) + 256 * (wide(s[at + 2]) + 256 * wide(s[at + 3])))
+    let high = s[at + 2] as usize + 256 * s[at + 3] as usize;
+    s[at] as usize + 256 * (s[at + 1] as usize + 256 * high)
 }
 
 // So many words of four bytes, which are there.
@@ -40,12 +34,8 @@ fn mix_words(s: &[u8], at: usize, words: usize) -> usize
     ensures { (result ≡ mix_words words 0 (drop at s.now)) × (result < 2 ^ 40) }
 {
     let mut mark = 0;
-    let mut i = at;
-    let mut left = words;
-    while 0 < left {
-        mark = mix(mark, word(s, i));
-        i += 4;
-        left -= 1;
+    for k in 0..words {
+        mark = mix(mark, word(s, at + 4 * k));
     }
     mark
 }
@@ -56,12 +46,8 @@ fn mix_bytes(s: &[u8], at: usize, n: usize) -> usize
     ensures { (result ≡ mix_bytes 0 (take n (drop at s.now))) × (result < 2 ^ 40) }
 {
     let mut mark = 0;
-    let mut i = at;
-    let mut left = n;
-    while 0 < left {
-        mark = mix(mark, wide(s[i]));
-        i += 1;
-        left -= 1;
+    for b in &s[at..at + n] {
+        mark = mix(mark, *b as usize);
     }
     mark
 }

@@ -1,5 +1,6 @@
 -- What finding a name among rows says of the rows that the layout's readers read there.
 -- Assumes nothing.
+use Rattle.std.specs.Prelude.{None}
 use Prim.Native.Nat.{ℕ, zero, suc, ◌+◌, ◌<◌}
 use native.Mathlib.Omega.{arith}
 use mathlib.Core.Path.{◌≡◌, refl, ap, sym, ◌∙◌}
@@ -14,10 +15,9 @@ use Rattle.layout.specs.Browser.{number_of_tag}
 use Rattle.layout.proofs.Lists.{or-false, same_true}
 use Rattle.layout.proofs.Readers.{times-suc-takes}
 use Rattle.rows.specs.Rows.{row_name}
-use Rattle.names.specs.Names.{found}
+use Rattle.names.specs.Names.{found_at, found}
 use Rattle.rows.specs.declared.Row.{Row}
-use Rattle.names.specs.declared.NameFound.TheVariants.{At, Nothing}
-use Rattle.names.proofs.Laws.{among-found}
+use Rattle.names.proofs.Laws.{among-found, found-same}
 use Rattle.names.proofs.Readers.{names-times}
 use Rattle.parts.proofs.Times.{times-parts, times-led}
 
@@ -28,7 +28,7 @@ cond_cases false x y z e t f = f refl e
 module _ {A : Type 0} (k : Row) (p : Reader A) (name : A → List ℕ) (leads : (t : List ℕ) (x : A) (n : ℕ) → p t ≡ good x n
     → row_name k t ≡ good (name x) n) (v s : List ℕ) where
   -- not found: no row has the name
-  pub find-nothing : (n i at m : ℕ) (xs : List A) → times n p (drop at s) ≡ good xs m → found v n (row_name k) s i at ≡ Nothing
+  pub find-nothing : (n i at m : ℕ) (xs : List A) → times n p (drop at s) ≡ good xs m → found v n (row_name k) s i at ≡ None
       → among v (map name xs) ≡ false
   find-nothing n i at m xs e f =
       rw (
@@ -38,17 +38,16 @@ module _ {A : Type 0} (k : Row) (p : Reader A) (name : A → List ℕ) (leads : 
       )
 
   -- found: row number b has it, none ahead of it does, and it stands at q
-  pub find_at : {G : Type 0} (d : A) (n i at m j q : ℕ) (xs : List A) → times n p (drop at s) ≡ good xs m → found v n (row_name k) s i at ≡ At j q
+  pub find_at : {G : Type 0} (d : A) (n i at m j q : ℕ) (xs : List A) → times n p (drop at s) ≡ good xs m → found v n (row_name k) s i at ≡ found_at j q
       → ((b u w : ℕ) → j ≡ i + b → b < n → among v (map name (take b xs)) ≡ false → same v (name (get_or xs b d)) ≡ true
       → times b p (drop at s) ≡ good (take b xs) u → q ≡ at + u → p (drop q s) ≡ good (get_or xs b d) w → G) → G
   unfolding found times among
   find_at d zero i at m j q xs e f w = let z : ◌≡◌ {A = ℕ} 0 1 = cc in absurd (omega arith)
   find_at {G} d (suc n) i at m j q xs e f w =
       times-parts p n (drop at s) xs m e (λ x c ys y g h o r.
-      cond_cases (same v (name x)) (At i at) (found v n (row_name k) s (i + 1) (at + c)) (At j q) (sym (rw (leads (drop at s) x c g, found)) ∙ f)
+      cond_cases (same v (name x)) (found_at i at) (found v n (row_name k) s (i + 1) (at + c)) (found_at j q) (sym (rw (leads (drop at s) x c g, found)) ∙ f)
       (λ t l.
-      let a : q ≡ at = cc in
-      let a' : j ≡ i = cc in
+      let (a', a) = found-same j q i at (sym l) in
       w 0 0 c (omega arith) (omega arith) refl (rw o t) refl (omega arith) (rw (o, a) g))
       (λ t l.
       find_at d n (i + 1) (at + c) y j q ys (rw (← drop-drop c at s) h) l (λ b u z a l' among' same' times' q' p'.

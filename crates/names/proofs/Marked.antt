@@ -1,27 +1,25 @@
 -- Names that are marked as rows are passed: a name whose mark is not set stands in none of these rows.
 -- Assumes nothing.
+use Rattle.std.specs.Prelude.{Option, Some, is_some}
 use Prim.Native.Nat.{ℕ, ◌+◌, ◌≤◌}
 use native.Mathlib.Omega.{arith}
 use mathlib.Core.Path.{◌≡◌, refl, ap, sym, ◌∙◌}
 use mathlib.Core.Bool.{Bool, true, false, ◌||◌}
 use mathlib.Core.List.{List, [], ◌∷◌, ◌++◌}
 use lib.ListN.{length, take, drop}
-use borrow.Author.Tests.{not-true, not-false}
 use Rattle.number.proofs.Bytes.{both_true, and-true}
 use Rattle.marks.specs.Marks.{mark_for, mark_of, with_mark, is_marked}
-use Rattle.marks.proofs.Laws.{of-there, mark-told, mark-stays, length_marked}
+use Rattle.marks.proofs.Laws.{of-there, mark-told, mark-stays}
 use Rattle.layout.specs.Recording.{same, among}
 use Rattle.layout.proofs.Lists.{same_true}
 use Rattle.rows.specs.Rows.{row_name, row_of}
 use Rattle.names.specs.Names.{names, find_name, covers}
 use Rattle.rows.specs.declared.Row.{Row}
 use Rattle.rows.specs.declared.RowPlace.{RowPlace}
-use Rattle.rows.specs.declared.RowPlace.TheVariants as row_place
 use Rattle.names.specs.declared.NameFound.{NameFound}
-use Rattle.names.specs.declared.NameFound.TheVariants.{At, Nothing}
 use Rattle.rows.proofs.Laws.{row-parts}
-use Rattle.names.proofs.Laws.{is_found, among-found, find-there, row-name-place, row-name-there}
-use Rattle.names.proofs.Passed.{Passed, passed-hit, passed-more, names-next, passing}
+use Rattle.names.proofs.Laws.{among-found, find-there}
+use Rattle.names.proofs.Passed.{Passed, names-next}
 
 -- ── Covered names ──
 
@@ -52,12 +50,12 @@ pub marked-none : (ms s : List ℕ) (k : Row) (at : ℕ) → covers ms (names 0 
 unfolding covers names
 marked-none ms s k at = refl
 
-pub marked_more : (ms s : List ℕ) (k : Row) (at passed place len end m : ℕ) (after : List ℕ) (r : RowPlace) → Passed s k at passed place
-    → covers ms (names passed (row_name k) (drop at s)) ≡ true → r ≡ row_of place (row_name k (drop place s)) → r ≡ row_place.Whole len end
-    → m ≡ mark_of s (place + 1) len → after ≡ with_mark ms m → covers after (names (passed + 1) (row_name k) (drop at s)) ≡ true
-marked_more ms s k at passed place len end m after r h c f g e a =
-    rw (a, names-next s k at passed place len end r h f g, e ∙ of-there s (place + 1) len (row-parts k s place len end (sym f ∙ g)).0)
-    (covers_more ms (take len (drop (place + 1) s)) (names passed (row_name k) (drop at s)) c)
+pub marked_more : (ms s : List ℕ) (k : Row) (at passed place m : ℕ) (after : List ℕ) (p : RowPlace) (r : Option RowPlace) → Passed s k at passed place
+    → covers ms (names passed (row_name k) (drop at s)) ≡ true → r ≡ row_of place (row_name k (drop place s)) → r ≡ Some p
+    → m ≡ mark_of s (place + 1) p.name → after ≡ with_mark ms m → covers after (names (passed + 1) (row_name k) (drop at s)) ≡ true
+marked_more ms s k at passed place m after p r h c f g e a =
+    rw (a, names-next s k at passed place p r h f g, e ∙ of-there s (place + 1) p.name (row-parts k s place p.name p.end (sym f ∙ g)).0)
+    (covers_more ms (take p.name (drop (place + 1) s)) (names passed (row_name k) (drop at s)) c)
 
 -- ── A name among rows that are marked ──
 
@@ -68,28 +66,14 @@ module _ (ms s : List ℕ) (k : Row) (here len at n mark : ℕ) where
       sym (unmarked ms (take len (drop here s)) (names n (row_name k) (drop at s)) c
       (ap (λ (m : ℕ). is_marked ms m) (sym (of-there s here len h) ∙ sym e) ∙ sym f ∙ g))
 
-  pub stands-found : (r : NameFound) (i p : ℕ) → here + len ≤ length s → r ≡ find_name s here len s at n k → r ≡ At i p
-      → true ≡ among (take len (drop here s)) (names n (row_name k) (drop at s))
-  stands-found r i p h e f =
-      sym (among-found (take len (drop here s)) n (row_name k) s 0 at ∙ ap is_found (sym (find-there s s here len at n k h) ∙ sym e ∙ f))
+-- a name that was looked for among rows
+module _ (s : List ℕ) (k : Row) (here len at n : ℕ) (r : Option NameFound) (b : Bool) (h : here + len ≤ length s) (e : r ≡ find_name s here len s at n k)
+    (f : b ≡ is_some r) where
+  stands : b ≡ among (take len (drop here s)) (names n (row_name k) (drop at s))
+  stands = f ∙ ap is_some (e ∙ find-there s s here len at n k h) ∙ sym (among-found (take len (drop here s)) n (row_name k) s 0 at)
 
-  pub stands-nowhere : (r : NameFound) → here + len ≤ length s → r ≡ find_name s here len s at n k → r ≡ Nothing
-      → false ≡ among (take len (drop here s)) (names n (row_name k) (drop at s))
-  stands-nowhere r h e f = sym (among-found (take len (drop here s)) n (row_name k) s 0 at
-      ∙ ap is_found (sym (find-there s s here len at n k h) ∙ sym e ∙ f))
+  pub stands-found : b ≡ true → true ≡ among (take len (drop here s)) (names n (row_name k) (drop at s))
+  stands-found g = sym g ∙ stands
 
-pub ruleset laws = (
-  passing,
-  not-true,
-  not-false,
-  row-name-place,
-  row-name-there,
-  passed-hit,
-  passed-more,
-  marked-none,
-  marked_more,
-  length_marked,
-  stands-unmarked,
-  stands-found,
-  stands-nowhere,
-)
+  pub stands-nowhere : b ≡ false → false ≡ among (take len (drop here s)) (names n (row_name k) (drop at s))
+  stands-nowhere g = sym g ∙ stands

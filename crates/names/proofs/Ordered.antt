@@ -1,5 +1,6 @@
 -- Places kept in the order of their names as rows are passed: a name that has a seat among them stands in none of these rows.
 -- Assumes nothing.
+use Rattle.std.specs.Prelude.{Option, Some, None}
 use Prim.Native.Nat.{ℕ, ◌+◌, ◌<◌, ◌≤◌}
 use native.Mathlib.Omega.{arith}
 use mathlib.Core.Path.{◌≡◌, refl, ap, sym, ◌∙◌}
@@ -16,14 +17,11 @@ use Rattle.layout.proofs.Lists.{bytes_take, bytes_drop}
 use Rattle.parts.proofs.Taken.{then-parts, give-parts}
 use Rattle.rows.specs.Rows.{rest, row_name, row_of}
 use Rattle.order.specs.Order.{key, name_of, name_at, keys, seek, inserted}
-use Rattle.order.specs.declared.Seat.{Seat}
-use Rattle.order.specs.declared.Seat.TheVariants as seat
 use Rattle.order.proofs.Keys.{key-same}
-use Rattle.order.proofs.Seats.{ascend, holds, or_swap, seek-met, seek-new, inserted-holds, length_inserted}
+use Rattle.order.proofs.Seats.{ascend, holds, or_swap, seek-met, seek-new, inserted-holds}
 use Rattle.names.specs.Names.{names, distinct_names}
 use Rattle.rows.specs.declared.Row.{Row}
 use Rattle.rows.specs.declared.RowPlace.{RowPlace}
-use Rattle.rows.specs.declared.RowPlace.TheVariants as row_place
 use Rattle.rows.proofs.Laws.{row-parts}
 use Rattle.names.proofs.Passed.{Passed, passed-hit, passed-more, names-next, passing}
 
@@ -48,56 +46,35 @@ unfolding among
 among-more x n [] = refl
 among-more x n (y ∷ ns) = or_swap (same x n) (same x y) (among x ns) ∙ ap (λ (b : Bool). same x y || b) (among-more x n ns)
 
-module _ (ps s : List ℕ) (k : Row) (at passed place len end : ℕ) (r : RowPlace) (t : Seat) (b : (i : ℕ) → Fits w8 (get_or s i 0))
-    (o : Ordered ps s k at passed) (f : r ≡ row_of place (row_name k (drop place s))) (g : r ≡ row_place.Whole len end)
+module _ (ps s : List ℕ) (k : Row) (at passed place : ℕ) (x : RowPlace) (r : Option RowPlace) (t : Option ℕ) (p : Passed s k at passed place)
+    (o : Ordered ps s k at passed) (b : (i : ℕ) → Fits w8 (get_or s i 0)) (f : r ≡ row_of place (row_name k (drop place s))) (g : r ≡ Some x)
     (e : t ≡ seek s ps passed place) where
-  named : name_at s place ≡ take len (drop (place + 1) s)
-  named = let (w, m, p, q) = row-parts k s place len end (sym f ∙ g) in row-name k s place m (take len (drop (place + 1) s)) p
+  named : name_at s place ≡ take x.name (drop (place + 1) s)
+  named = let (w, m, y, q) = row-parts k s place x.name x.end (sym f ∙ g) in row-name k s place m (take x.name (drop (place + 1) s)) y
 
-  bytes-name : are_bytes (take len (drop (place + 1) s)) ≡ true
-  bytes-name = bytes_take len (drop (place + 1) s) (bytes_drop (place + 1) s (slice-bytes s b))
+  bytes-name : are_bytes (take x.name (drop (place + 1) s)) ≡ true
+  bytes-name = bytes_take x.name (drop (place + 1) s) (bytes_drop (place + 1) s (slice-bytes s b))
 
   told : (c : Bool) → holds (key (name_at s place)) (keys s (take passed ps)) ≡ c
-      → c ≡ among (take len (drop (place + 1) s)) (names passed (row_name k) (drop at s))
-  told c h = sym h ∙ rw named (o.known (take len (drop (place + 1) s)) bytes-name)
+      → c ≡ among (take x.name (drop (place + 1) s)) (names passed (row_name k) (drop at s))
+  told c h = sym h ∙ rw named (o.known (take x.name (drop (place + 1) s)) bytes-name)
 
-  met : passed ≤ length ps → t ≡ seat.Nothing → true ≡ among (take len (drop (place + 1) s)) (names passed (row_name k) (drop at s))
-  met l h = told true (seek-met s ps passed place l (sym e ∙ h))
+  pub ordered-met : (n : ℕ) → t ≡ None → passed < n → n ≤ length ps → false ≡ distinct_names s at n k
+  ordered-met n h l z = passed-hit s k at passed place n p x r f g (told true (seek-met s ps passed place (omega arith) (sym e ∙ h))) l
 
-  module _ (i : ℕ) (l : passed < length ps) (h : t ≡ seat.At i) where
-    new : false ≡ among (take len (drop (place + 1) s)) (names passed (row_name k) (drop at s))
-    new = told false (seek-new s ps passed place i l o.ascending (sym e ∙ h)).1
+  module _ (i : ℕ) (h : t ≡ Some i) (l : passed < length ps) where
+    pub ordered-passed : Passed s k at (passed + 1) x.end
+    ordered-passed = passed-more s k at passed place x r p f g (told false (seek-new s ps passed place i l o.ascending (sym e ∙ h)).1)
 
-    more : Passed s k at passed place → Ordered (inserted ps passed i place) s k at (passed + 1)
-    more p =
+    pub ordered-more : (after : List ℕ) → after ≡ inserted ps passed i place → Ordered after s k at (passed + 1)
+    ordered-more after a =
         let (m, u, w) = seek-new s ps passed place i l o.ascending (sym e ∙ h) in
-        record {
+        rw a (record {
           ascending = w;
-          known = λ x c. inserted-holds s ps passed i place l m (key x)
-              ∙ rw (named, key-same x (take len (drop (place + 1) s)) c bytes-name, o.known x c)
-              (among-more x (take len (drop (place + 1) s)) (names passed (row_name k) (drop at s)))
-              ∙ ap (among x) (sym (names-next s k at passed place len end r p f g));
-        }
+          known = λ y c. inserted-holds s ps passed i place l m (key y)
+              ∙ rw (named, key-same y (take x.name (drop (place + 1) s)) c bytes-name, o.known y c)
+              (among-more y (take x.name (drop (place + 1) s)) (names passed (row_name k) (drop at s)))
+              ∙ ap (among y) (sym (names-next s k at passed place x r p f g));
+        })
 
-module _ (ps s : List ℕ) (k : Row) (at passed place left n len end : ℕ) (r : RowPlace) (t : Seat) where
-  pub ordered-met : ((i : ℕ) → Fits w8 (get_or s i 0)) → Passed s k at passed place → Ordered ps s k at passed → 0 < left → passed + left ≡ n
-      → n ≤ 1000 → length ps ≡ 1000 → r ≡ row_of place (row_name k (drop place s)) → r ≡ row_place.Whole len end → t ≡ seek s ps passed place
-      → t ≡ seat.Nothing → false ≡ distinct_names s at n k
-  ordered-met b p o l q m z f g e h =
-      passed-hit s k at passed place left n len end r true p l q f g (met ps s k at passed place len end r t b o f g e (omega arith) h) refl
-
-  pub ordered-passed : (i : ℕ) → ((i : ℕ) → Fits w8 (get_or s i 0)) → Passed s k at passed place → Ordered ps s k at passed → 0 < left
-      → passed + left ≡ n → n ≤ 1000 → length ps ≡ 1000 → r ≡ row_of place (row_name k (drop place s)) → r ≡ row_place.Whole len end
-      → t ≡ seek s ps passed place → t ≡ seat.At i → Passed s k at (passed + 1) end
-  ordered-passed i b p o l q m z f g e h =
-      passed-more s k at passed place len end r p f g false (new ps s k at passed place len end r t b o f g e i (omega arith) h) refl
-
-  pub ordered-more : (i : ℕ) (after : List ℕ) → ((i : ℕ) → Fits w8 (get_or s i 0)) → Passed s k at passed place → Ordered ps s k at passed
-      → 0 < left → passed + left ≡ n → n ≤ 1000 → length ps ≡ 1000 → r ≡ row_of place (row_name k (drop place s)) → r ≡ row_place.Whole len end
-      → t ≡ seek s ps passed place → t ≡ seat.At i → after ≡ inserted ps passed i place → Ordered after s k at (passed + 1)
-  ordered-more i after b p o l q m z f g e h a = rw a (more ps s k at passed place len end r t b o f g e i (omega arith) h p)
-
-pub ordered-long : (ps after : List ℕ) (n passed i place : ℕ) → length ps ≡ n → after ≡ inserted ps passed i place → length after ≡ n
-ordered-long ps after n passed i place h a = ap length a ∙ length_inserted ps passed i place ∙ h
-
-pub ruleset laws = (passing, ordered-none, ordered-met, ordered-passed, ordered-more, ordered-long)
+pub ruleset laws = (passing, ordered-met)

@@ -1,5 +1,6 @@
 -- Rows that were passed one after the other: what is known of their names, however these are held against each other.
 -- Assumes nothing.
+use Rattle.std.specs.Prelude.{Option, Some, None}
 use Prim.Native.Nat.{ℕ, ◌+◌, ◌-◌, ◌<◌, ◌≤◌}
 use native.Mathlib.Nat.{zero-add, add_assoc}
 use native.Mathlib.Omega.{arith}
@@ -16,7 +17,6 @@ use Rattle.rows.specs.Rows.{row_name, row_of}
 use Rattle.names.specs.Names.{names, distinct_names}
 use Rattle.rows.specs.declared.Row.{Row}
 use Rattle.rows.specs.declared.RowPlace.{RowPlace}
-use Rattle.rows.specs.declared.RowPlace.TheVariants as row_place
 use Rattle.rows.proofs.Laws.{row-parts, row-broken}
 use Rattle.names.proofs.Finding.{same-sym}
 use Rattle.names.proofs.Laws.{names-bad, names-good}
@@ -89,60 +89,59 @@ pub passed_none : (s : List ℕ) (k : Row) (at : ℕ) → Passed s k at 0 at
 unfolding names distinct
 passed_none s k at = record { rows = λ more. rw (zero-add more); differ = refl }
 
-module _ (s : List ℕ) (k : Row) (at passed place left n : ℕ) where
-  pub passed-all : Passed s k at passed place → left ≤ 0 → passed + left ≡ n → true ≡ distinct_names s at n k
+module _ (s : List ℕ) (k : Row) (at passed place n : ℕ) (h : Passed s k at passed place) where
+  pub passed-all : passed ≤ n → n ≤ passed → true ≡ distinct_names s at n k
   unfolding distinct_names
-  passed-all h l e = let q : n ≡ passed = omega arith in rw q (sym h.differ)
+  passed-all l e = let q : n ≡ passed = omega arith in rw q (sym h.differ)
 
-  pub passed-broken : (r : RowPlace) → Passed s k at passed place → 0 < left → passed + left ≡ n → r ≡ row_of place (row_name k (drop place s))
-      → r ≡ row_place.Broken → true ≡ distinct_names s at n k
+  pub passed-broken : (r : Option RowPlace) → r ≡ row_of place (row_name k (drop place s)) → r ≡ None → passed < n → true ≡ distinct_names s at n k
   unfolding distinct_names
-  passed-broken r h l e f g =
+  passed-broken r f g l =
+      let e : passed + (n - passed) ≡ n = omega arith in
       rw (
         ← e,
-        h.rows left,
-        names-bad k s place left l (row-broken (row_name k (drop place s)) place (sym f ∙ g)).1,
+        h.rows (n - passed),
+        names-bad k s place (n - passed) (omega arith) (row-broken (row_name k (drop place s)) place (sym f ∙ g)).1,
         append-nil (names passed (row_name k) (drop at s)),
       ) (sym h.differ)
 
-  pub passed-hit : (len end : ℕ) (r : RowPlace) (b : Bool) → Passed s k at passed place → 0 < left → passed + left ≡ n
-      → r ≡ row_of place (row_name k (drop place s)) → r ≡ row_place.Whole len end
-      → b ≡ among (take len (drop (place + 1) s)) (names passed (row_name k) (drop at s)) → b ≡ true → false ≡ distinct_names s at n k
+  pub passed-hit : (p : RowPlace) (r : Option RowPlace) → r ≡ row_of place (row_name k (drop place s)) → r ≡ Some p
+      → true ≡ among (take p.name (drop (place + 1) s)) (names passed (row_name k) (drop at s)) → passed < n → false ≡ distinct_names s at n k
   unfolding distinct_names
-  passed-hit len end r b h l e f g o t =
-      let (w, m, p, q) = row-parts k s place len end (sym f ∙ g) in
-      rw (← e, h.rows left, names-good k s place left m (take len (drop (place + 1) s)) l p)
-      (sym (differ-hit (take len (drop (place + 1) s)) (names passed (row_name k) (drop at s))
-      (names (left - 1) (row_name k) (drop (place + m) s)) (sym o ∙ t)))
+  passed-hit p r f g o l =
+      let (w, m, x, q) = row-parts k s place p.name p.end (sym f ∙ g) in
+      let e : passed + (n - passed) ≡ n = omega arith in
+      rw (← e, h.rows (n - passed), names-good k s place (n - passed) m (take p.name (drop (place + 1) s)) (omega arith) x)
+      (sym (differ-hit (take p.name (drop (place + 1) s)) (names passed (row_name k) (drop at s))
+      (names (n - passed - 1) (row_name k) (drop (place + m) s)) (sym o)))
 
-module _ (s : List ℕ) (k : Row) (at passed place len end : ℕ) (r : RowPlace) (h : Passed s k at passed place)
-    (f : r ≡ row_of place (row_name k (drop place s))) (g : r ≡ row_place.Whole len end) where
+module _ (s : List ℕ) (k : Row) (at passed place : ℕ) (p : RowPlace) (r : Option RowPlace) (h : Passed s k at passed place)
+    (f : r ≡ row_of place (row_name k (drop place s))) (g : r ≡ Some p) where
   -- the names with that of the row that is next
-  pub names-next : names (passed + 1) (row_name k) (drop at s) ≡ names passed (row_name k) (drop at s) ++ take len (drop (place + 1) s) ∷ []
+  pub names-next : names (passed + 1) (row_name k) (drop at s) ≡ names passed (row_name k) (drop at s) ++ take p.name (drop (place + 1) s) ∷ []
   unfolding names
   names-next =
-      let (w, c, p, q) = row-parts k s place len end (sym f ∙ g) in
+      let (w, c, x, q) = row-parts k s place p.name p.end (sym f ∙ g) in
       h.rows 1 ∙ ap (λ (x : List (List ℕ)). names passed (row_name k) (drop at s) ++ x)
-      (names-good k s place 1 c (take len (drop (place + 1) s)) (omega arith) p)
+      (names-good k s place 1 c (take p.name (drop (place + 1) s)) (omega arith) x)
 
-  pub passed-more : (b : Bool) → b ≡ among (take len (drop (place + 1) s)) (names passed (row_name k) (drop at s)) → b ≡ false
-      → Passed s k at (passed + 1) end
-  passed-more b o t =
-      let (w, c, p, q) = row-parts k s place len end (sym f ∙ g) in
-      let name : List ℕ = take len (drop (place + 1) s) in
+  pub passed-more : false ≡ among (take p.name (drop (place + 1) s)) (names passed (row_name k) (drop at s)) → Passed s k at (passed + 1) p.end
+  passed-more o =
+      let (w, c, x, q) = row-parts k s place p.name p.end (sym f ∙ g) in
+      let name : List ℕ = take p.name (drop (place + 1) s) in
       let front : List (List ℕ) = names passed (row_name k) (drop at s) in
       record {
-        rows = λ more. ap (λ (x : ℕ). names x (row_name k) (drop at s)) (add_assoc passed 1 more) ∙ h.rows (1 + more) ∙ behind c name more p q
-            ∙ sym (append_assoc front (name ∷ []) (names more (row_name k) (drop end s)))
-            ∙ ap (λ (x : List (List ℕ)). x ++ names more (row_name k) (drop end s)) (sym names-next);
-        differ = rw names-next (differ-more name front h.differ (sym o ∙ t));
+        rows = λ more. ap (λ (x : ℕ). names x (row_name k) (drop at s)) (add_assoc passed 1 more) ∙ h.rows (1 + more) ∙ behind c name more x q
+            ∙ sym (append_assoc front (name ∷ []) (names more (row_name k) (drop p.end s)))
+            ∙ ap (λ (x : List (List ℕ)). x ++ names more (row_name k) (drop p.end s)) (sym names-next);
+        differ = rw names-next (differ-more name front h.differ (sym o));
       }
     where
-      behind : (c : ℕ) (name : List ℕ) (more : ℕ) → row_name k (drop place s) ≡ good name c → end ≡ place + c
+      behind : (c : ℕ) (name : List ℕ) (more : ℕ) → row_name k (drop place s) ≡ good name c → p.end ≡ place + c
           → names passed (row_name k) (drop at s) ++ names (1 + more) (row_name k) (drop place s) ≡ names passed (row_name k) (drop at s)
-          ++ (name ∷ names more (row_name k) (drop end s))
-      behind c name more p q =
+          ++ (name ∷ names more (row_name k) (drop p.end s))
+      behind c name more y q =
           let z : 1 + more - 1 ≡ more = omega arith in
-          ap (λ (x : List (List ℕ)). names passed (row_name k) (drop at s) ++ x) (names-good k s place (1 + more) c name (omega arith) p ∙ rw (z, q))
+          ap (λ (x : List (List ℕ)). names passed (row_name k) (drop at s) ++ x) (names-good k s place (1 + more) c name (omega arith) y ∙ rw (z, q))
 
 pub ruleset passing = (rules, passed_none, passed-all, passed-broken)

@@ -1,15 +1,12 @@
 // The names of rows: the row that has one, and whether no two are equal.
-#![tactic(auto)]
+#![tactic(auto, using(crate::proofs::Laws::laws, crate::proofs::Ordered::laws))]
 
-ghost use Rattle.std.specs.Prelude.{◌≡◌, true, ◌+◌, ◌≤◌, length, take, drop, ltb};
-ghost use Rattle.marks.specs.Marks.{mark_of};
-ghost use Rattle.layout.specs.Recording.{same, among};
-ghost use Rattle.rows.specs.Rows.{row_name};
-ghost use Rattle.names.specs.Names.{names, find_name, distinct_names, covers};
+ghost use Rattle.std.specs.Prelude.{◌≡◌, ◌+◌, ◌≤◌, length, take, drop};
+ghost use Rattle.layout.specs.Recording.{same};
+ghost use Rattle.names.specs.Names.{find_name, distinct_names};
 
 use header::Header;
-use order::Seat;
-use rows::{Row, RowPlace};
+use rows::Row;
 
 // From so many rows on their names are marked.
 pub const MARKED: usize = 12;
@@ -18,10 +15,10 @@ pub const MARKED: usize = 12;
 const MOST_SEARCHES: usize = 2;
 
 // The first row with a name: its number and its place.
-#[derive(Clone, Copy)]
-pub enum NameFound {
-    At(usize, usize),
-    Nothing,
+#[derive(Clone, Copy, Debug, PartialEq, Eq)]
+pub struct NameFound {
+    pub number: usize,
+    pub place: usize,
 }
 
 // Whether two names that are there are equal: lengths first, then bytes.
@@ -44,31 +41,24 @@ pub fn find_name(
     at: usize,
     n: usize,
     row: Row,
-) -> NameFound
+) -> Option<NameFound>
     ensures { result ≡ find_name a.now here len s.now at n row }
 {
     if a.len() < len {
-        return NameFound::Nothing;
+        return None;
     }
     if a.len() - len < here {
-        return NameFound::Nothing;
+        return None;
     }
     let mut place = at;
-    let mut passed = 0;
-    let mut left = n;
-    while 0 < left {
-        let found = rows::row_at(s, place, row);
-        let RowPlace::Whole(other, end) = found else {
-            return NameFound::Nothing;
-        };
-        if same_name(a, here, len, s, place + 1, other) {
-            return NameFound::At(passed, place);
+    for number in 0..n {
+        let found = rows::row_at(s, place, row)?;
+        if same_name(a, here, len, s, place + 1, found.name) {
+            return Some(NameFound { number, place });
         }
-        place = end;
-        passed += 1;
-        left -= 1;
+        place = found.end;
     }
-    NameFound::Nothing
+    None
 }
 
 // "no two are equal": each name is looked for among the later ones.
@@ -76,44 +66,17 @@ fn differ_by_search(s: &[u8], at: usize, n: usize, row: Row) -> bool
     ensures { result ≡ distinct_names s.now at n row }
 {
     let mut place = at;
-    let mut left = n;
-    while 0 < left {
-        let found = rows::row_at(s, place, row);
-        let RowPlace::Whole(len, end) = found else {
+    for left in (0..n).rev() {
+        let Some(found) = rows::row_at(s, place, row) else {
             return true;
         };
-        left -= 1;
-        let later = find_name(s, place + 1, len, s, end, left, row);
-        let NameFound::Nothing = later else {
+        let later = find_name(s, place + 1, found.name, s, found.end, left, row);
+        if later.is_some() {
             return false;
-        };
-        place = end;
+        }
+        place = found.end;
     }
     true
-}
-
-// Whether the name of `len` bytes stands in the n rows from a place on, all of whose names are marked: where its own mark is not set, no search is needed.
-fn stands_in(
-    s: &[u8],
-    here: usize,
-    len: usize,
-    at: usize,
-    n: usize,
-    row: Row,
-    marked: &[u64],
-    mark: usize,
-) -> bool
-    requires { (here + len ≤ length s.now) × (covers marked.now (names n (row_name row) (drop at s.now)) ≡ true) × (mark ≡ mark_of s.now here len) }
-    ensures { result ≡ among (take len (drop here s.now)) (names n (row_name row) (drop at s.now)) }
-{
-    if !marks::marked(marked, mark) {
-        return false;
-    }
-    let found = find_name(s, here, len, s, at, n, row);
-    let NameFound::Nothing = found else {
-        return true;
-    };
-    false
 }
 
 // The same answer in a time that no choice of names drives up: the places of the rows passed are kept in the order of their names, and the seat of each
@@ -126,34 +89,17 @@ fn differ_by_order(s: &[u8], at: usize, n: usize, row: Row) -> bool
     }
     let mut places = [0; Header::MOST_TAGS];
     let mut place = at;
-    let mut passed = 0;
-    let mut left = n;
-    while 0 < left {
-        let found = rows::row_at(s, place, row);
-        let RowPlace::Whole(_, end) = found else {
+    for passed in 0..n {
+        let Some(found) = rows::row_at(s, place, row) else {
             return true;
         };
-        let seat = order::seek(s, &places, passed, place);
-        let Seat::At(i) = seat else {
+        let Some(seat) = order::seek(s, &places, passed, place) else {
             return false;
         };
-        order::insert(&mut places, passed, i, place);
-        place = end;
-        passed += 1;
-        left -= 1;
+        order::insert(&mut places, passed, seat, place);
+        place = found.end;
     }
     true
-}
-
-// One search more where a mark was set before; counted to one more than are made.
-fn one_more(searches: usize, hit: bool) -> usize {
-    if !hit {
-        return searches;
-    }
-    if MOST_SEARCHES < searches {
-        return searches;
-    }
-    searches + 1
 }
 
 // The same answer as by search, in time that grows with the rows alone: each name is marked, and looked for only where its mark was set before. Names
@@ -163,42 +109,33 @@ fn differ_by_marks(s: &[u8], at: usize, n: usize, row: Row) -> bool
 {
     let mut marked = [0; marks::MARKS];
     let mut place = at;
-    let mut passed = 0;
-    let mut left = n;
     let mut searches = 0;
-    while 0 < left {
-        let found = rows::row_at(s, place, row);
-        let RowPlace::Whole(len, end) = found else {
+    for passed in 0..n {
+        let Some(found) = rows::row_at(s, place, row) else {
             return true;
         };
-        let mark = marks::mark_of(s, place + 1, len);
-        searches = one_more(searches, marks::marked(&marked, mark));
-        if MOST_SEARCHES < searches {
-            return differ_by_order(s, at, n, row);
-        }
-        if stands_in(s, place + 1, len, at, passed, row, &marked, mark) {
-            return false;
+        let mark = marks::mark_of(s, place + 1, found.name);
+        if marks::marked(&marked, mark) {
+            if searches == MOST_SEARCHES {
+                return differ_by_order(s, at, n, row);
+            }
+            searches += 1;
+            let earlier = find_name(s, place + 1, found.name, s, at, passed, row);
+            if earlier.is_some() {
+                return false;
+            }
         }
         marks::mark(&mut marked, mark);
-        place = end;
-        passed += 1;
-        left -= 1;
+        place = found.end;
     }
     true
 }
 
-// Whether a search costs less than clearing the marks.
-fn few(rows: usize) -> bool
-    ensures { result ≡ ltb rows 12 }
-{
-    rows < MARKED
-}
-
-// "no two are equal"
+// "no two are equal": for few rows a search costs less than clearing the marks.
 pub fn distinct_names(s: &[u8], at: usize, n: usize, row: Row) -> bool
     ensures { result ≡ distinct_names s.now at n row }
 {
-    if few(n) {
+    if n < MARKED {
         return differ_by_search(s, at, n, row);
     }
     differ_by_marks(s, at, n, row)

@@ -8,15 +8,9 @@ use mathlib.Core.Bool.{Bool, true, false, ◌&&◌, cond}
 use mathlib.Core.List.{List, [], ◌∷◌}
 use lib.ListN.{length, take, drop, get_or, set}
 use lib.Seq.{get_or-take, get_or-drop, take_all, sets}
-use lib.Dec.{leb, ltb, leb-zero}
-use lib.IntN.{pos, negsuc, nat_abs}
-use lib.Signed.{non_neg, le_z}
-use lib.Dec.{T}
+use lib.Dec.{leb}
 use borrow.Author.Rules.{rules}
-use borrow.Author.Tests.{le-leb, lt-leb, ltb-true, ltb-false}
-use mir.Syntax.{w64}
-use mir.Val.{Fits, to_z, sel}
-use mir.Facts.{to_z_pos}
+use borrow.Author.Tests.{le-leb, lt-leb}
 use Rattle.number.specs.Number.{bytes_of, number_of, has, read_at, write_at}
 use Rattle.number.proofs.Bytes.{part-long}
 
@@ -130,48 +124,6 @@ write-end s s₀ at w n rest i h k f l e =
     let p : w - i ≡ 0 = omega arith in
     let g : at + w ≤ length s₀ = omega arith in
     rw (le-leb (at + w) (length s₀) g) (sym (rw p) ∙ e)
-
--- ── Int64 and its pattern ──
-
--- the sign of an Int64 shows in its pattern
-not_negative : (n : ℕ) → le_z (pos 0) (to_z w64 n) ≡ true → n < 2 ^ 63
-not_negative n e = go (ltb n (2 ^ 63)) refl e
-  where
-    go : (b : Bool) → ltb n (2 ^ 63) ≡ b → le_z (pos 0) (sel b (pos n) (negsuc (2 ^ 64 - suc n))) ≡ true → n < 2 ^ 63
-    go true q h = ltb-true n (2 ^ 63) q
-    go false q h = let z : ◌≡◌ {A = ℕ} 0 1 = cc in absurd (omega arith)
-
-negative : (n : ℕ) → le_z (pos 0) (to_z w64 n) ≡ false → 2 ^ 63 ≤ n
-negative n e = go (ltb n (2 ^ 63)) refl e
-  where
-    go : (b : Bool) → ltb n (2 ^ 63) ≡ b → le_z (pos 0) (sel b (pos n) (negsuc (2 ^ 64 - suc n))) ≡ false → 2 ^ 63 ≤ n
-    go true q h = let z : ◌≡◌ {A = ℕ} 0 1 = cc (leb-zero n) in absurd (omega arith)
-    go false q h = ltb-false n (2 ^ 63) q
-
-pub low-casts : (n : ℕ) → n < 2 ^ 63 → T (non_neg (to_z w64 n)) × Fits w64 (nat_abs (to_z w64 n))
-low-casts n h = rw (to_z_pos w64 {n = n} h) (tt, record { fits = omega arith })
-
-low-cast : (n : ℕ) → n < 2 ^ 63 → nat_abs (to_z w64 n) ≡ n
-low-cast n h = rw (to_z_pos w64 {n = n} h)
-
-pub positive-casts : (n : ℕ) → le_z (pos 0) (to_z w64 n) ≡ true → T (non_neg (to_z w64 n)) × Fits w64 (nat_abs (to_z w64 n))
-positive-casts n e = low-casts n (not_negative n e)
-
-pub positive-cast : (n : ℕ) → le_z (pos 0) (to_z w64 n) ≡ true → nat_abs (to_z w64 n) ≡ n
-positive-cast n e = low-cast n (not_negative n e)
-
-pub negative-casts : (n : ℕ) → le_z (pos 0) (to_z w64 n) ≡ false
-    → T (non_neg (to_z w64 (18446744073709551615 - n))) × Fits w64 (nat_abs (to_z w64 (18446744073709551615 - n)))
-negative-casts n e = let h = negative n e in low-casts (18446744073709551615 - n) (omega arith)
-
-pub negative-cast : (n : ℕ) → n < 2 ^ 64 → le_z (pos 0) (to_z w64 n) ≡ false → 18446744073709551615 - nat_abs (to_z w64 (18446744073709551615 - n)) ≡ n
-negative-cast n f e =
-    let h = negative n e in
-    let q : nat_abs (to_z w64 (18446744073709551615 - n)) ≡ 18446744073709551615 - n = low-cast (18446744073709551615 - n) (omega arith) in
-    omega arith
-
-pub pattern-again : (n : ℕ) → n < 2 ^ 64 → to_z w64 (18446744073709551615 - (18446744073709551615 - n)) ≡ to_z w64 n
-pattern-again n h = let e : 18446744073709551615 - (18446744073709551615 - n) ≡ n = omega arith in ap (to_z w64) e
 
 pub ruleset laws = (
   rules,

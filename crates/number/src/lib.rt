@@ -1,17 +1,10 @@
 // Little-endian numbers of any width up to eight bytes, and Int64 by its 64-bit pattern.
-#![tactic(auto)]
+#![tactic(auto, using(crate::proofs::Laws::laws))]
 
 ghost use Rattle.std.specs.Prelude.{◌≡◌, ◌+◌, ◌<◌, ◌≤◌, length, take, drop, get_or};
 ghost use Rattle.std.specs.Int.{w64};
 ghost use Rattle.std.proofs.Common.{of_z, to_z};
 ghost use Rattle.number.specs.Number.{read_at, write_at, rank};
-
-// A byte as a number: so that only one place asks that it fits.
-fn wide(byte: u8) -> u64
-    ensures { (result ≡ byte) × (result < 256) }
-{
-    byte as u64
-}
 
 // The byte `i` of a number of `w` bytes that are there; 0 behind its last one.
 fn byte(s: &[u8], at: usize, w: usize, i: usize) -> u64
@@ -21,7 +14,7 @@ fn byte(s: &[u8], at: usize, w: usize, i: usize) -> u64
     if w <= i {
         return 0;
     }
-    wide(s[at + i])
+    s[at + i] as u64
 }
 
 // The number of `w` bytes at a place, the low byte first; 0 where they are not all there, or more than eight.
@@ -58,11 +51,9 @@ pub fn write(out: &mut [u8], at: usize, w: usize, n: u64)
         return;
     }
     let mut rest = n;
-    let mut i = 0;
-    while i < w {
+    for i in 0..w {
         out[at + i] = (rest % 256) as u8;
-        rest = rest / 256;
-        i += 1;
+        rest /= 256;
     }
 }
 
@@ -70,31 +61,19 @@ pub fn write(out: &mut [u8], at: usize, w: usize, n: u64)
 pub fn pattern_of(time: i64) -> u64
     ensures { result ≡ of_z w64 time }
 {
-    if 0 <= time {
-        time as u64
-    } else {
-        !((!time) as u64)
-    }
+    time.cast_unsigned()
 }
 
 // The Int64 of a 64-bit pattern.
 pub fn time_of(pattern: u64) -> i64
     ensures { result ≡ to_z w64 pattern }
 {
-    if pattern < 0x8000_0000_0000_0000 {
-        pattern as i64
-    } else {
-        !((!pattern) as i64)
-    }
+    pattern.cast_signed()
 }
 
 // How far a time stands from the least Int64: times are compared and subtracted as these.
 pub fn rank_of(pattern: u64) -> u64
     ensures { result ≡ rank pattern }
 {
-    if pattern < 0x8000_0000_0000_0000 {
-        pattern + 0x8000_0000_0000_0000
-    } else {
-        pattern - 0x8000_0000_0000_0000
-    }
+    pattern.wrapping_add(0x8000_0000_0000_0000)
 }

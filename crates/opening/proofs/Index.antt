@@ -25,10 +25,7 @@ use Rattle.frames.specs.Frames.{frame_end}
 use Rattle.times.specs.Times.{since_first}
 use Rattle.opening.specs.Opened.{other_entry, noted_length, noted_by, noted_frame, other_walk, other_frames, bad_index_in, bad_index_by}
 use Rattle.header.specs.declared.Header.{Header}
-use Rattle.parts.specs.declared.Place.{Place}
-use Rattle.parts.specs.declared.Place.TheVariants.{End, Broken}
-use Rattle.opening.specs.declared.Noted.{Noted}
-use Rattle.opening.specs.declared.Noted.TheVariants.{At, Other}
+use Rattle.std.specs.Prelude.{Option, Some, None}
 use Rattle.layout.proofs.Walks.{walk_none, walk-stop, walk-gives}
 use Rattle.layout.proofs.Exact.{frame-exact}
 use Rattle.layout.proofs.Sizes.{length-entry}
@@ -100,24 +97,13 @@ other_offset f entry since offset size a c b h p q r e g i u =
 
 pub other-size : (f : List ℕ) (entry since offset size a c d : ℕ) → ((i : ℕ) → Fits w8 (get_or f i 0)) → entry + 16 ≤ length f → since < 2 ^ 32
     → Fits w64 offset → size < 2 ^ 32 → a ≡ read_at (entry_part f entry) 0 4 → a ≡ since → c ≡ read_at (entry_part f entry) 4 8 → c ≡ offset
-    → d ≡ read_at (entry_part f entry) 12 4 → (d ≡ size → ⊥) → true ≡ other_entry f entry since offset size
-other-size f entry since offset size a c d b h p q r e g i j k u =
+    → d ≡ read_at (entry_part f entry) 12 4 → not (eqb d size) ≡ other_entry f entry since offset size
+other-size f entry since offset size a c d b h p q r e g i j k =
     rw (
       entry-asked f entry since offset size b h p q r,
       eq-eqb (read_at (entry_part f entry) 0 4) since (sym e ∙ g),
       eq-eqb (read_at (entry_part f entry) 4 8) offset (sym i ∙ j),
-      ne_eqb (read_at (entry_part f entry) 12 4) size (λ m. u (k ∙ m)),
-    )
-
-pub this-entry : (f : List ℕ) (entry since offset size a c d : ℕ) → ((i : ℕ) → Fits w8 (get_or f i 0)) → entry + 16 ≤ length f → since < 2 ^ 32
-    → Fits w64 offset → size < 2 ^ 32 → a ≡ read_at (entry_part f entry) 0 4 → a ≡ since → c ≡ read_at (entry_part f entry) 4 8 → c ≡ offset
-    → d ≡ read_at (entry_part f entry) 12 4 → d ≡ size → false ≡ other_entry f entry since offset size
-this-entry f entry since offset size a c d b h p q r e g i j k m =
-    rw (
-      entry-asked f entry since offset size b h p q r,
-      eq-eqb (read_at (entry_part f entry) 0 4) since (sym e ∙ g),
-      eq-eqb (read_at (entry_part f entry) 4 8) offset (sym i ∙ j),
-      eq-eqb (read_at (entry_part f entry) 12 4) size (sym k ∙ m),
+      k,
     )
 
 -- ── The frames that are left ──
@@ -169,17 +155,11 @@ frames-none f k index first left at entry last z =
     go true = refl
     go false = refl
 
-pub frames-done : (f : List ℕ) (k index first left at entry last : ℕ) (all : Bool) → left ≤ 0 → at ≡ index
-    → other_frames f k index first left at entry last ≡ all → false ≡ all
-frames-done f k index first left at entry last all z e q = ap not (sym (eq-eqb at index e))
-    ∙ sym (frames-none f k index first left at entry last z) ∙ q
+pub frames-done : (f : List ℕ) (k index first left at entry last : ℕ) (all : Bool) → other_frames f k index first left at entry last ≡ all
+    → left ≤ 0 → not (eqb at index) ≡ all
+frames-done f k index first left at entry last all q z = sym (frames-none f k index first left at entry last z) ∙ q
 
-pub frames-elsewhere : (f : List ℕ) (k index first left at entry last : ℕ) (all : Bool) → left ≤ 0 → (at ≡ index → ⊥)
-    → other_frames f k index first left at entry last ≡ all → true ≡ all
-frames-elsewhere f k index first left at entry last all z e q =
-    ap not (sym (ne_eqb at index e)) ∙ sym (frames-none f k index first left at entry last z) ∙ q
-
-frames-fewer : (f : List ℕ) (k index first left at entry last : ℕ) → 0 < left → frame_end f at k ≡ Broken
+frames-fewer : (f : List ℕ) (k index first left at entry last : ℕ) → 0 < left → frame_end f at k ≡ None
     → other_frames f k index first left at entry last ≡ true
 unfolding other_frames other_walk stopped
 frames-fewer f k index first left at entry last h p = rw (walk-stop left k (drop at f) (rw (not-ended f at k p).1), lt-ltb 0 left h)
@@ -237,7 +217,7 @@ unfolding other_walk
 asked-right w f index first left at entry last next time size e g = rw (e, g)
 
 frames-cons : (f : List ℕ) (k index first left at entry last next t : ℕ) → are_bytes f ≡ true → 0 < left → entry + 16 * left ≤ length f
-    → frame_end f at k ≡ End next → t ≡ read_at f (at + 4) 8 → other_frames f k index first left at entry last ≡ asked
+    → frame_end f at k ≡ Some next → t ≡ read_at f (at + 4) 8 → other_frames f k index first left at entry last ≡ asked
     (walk (left - 1) k (drop next f)) f index first (left - 1) at entry last next t (next - at)
 unfolding other_frames
 frames-cons f k index first left at entry last next t b h l q v = go (ended f at k next q)
@@ -274,7 +254,7 @@ length-noted f entry m e =
     rw q at e
 
 -- a frame ends within the file
-end-in : (f : List ℕ) (at k next : ℕ) → are_bytes f ≡ true → frame_end f at k ≡ End next → next ≤ length f
+end-in : (f : List ℕ) (at k next : ℕ) → are_bytes f ≡ true → frame_end f at k ≡ Some next → next ≤ length f
 end-in f at k next b q =
     let (x, n, g, a, c, d) = ended f at k next q in
     let z = (frame-exact k).gives (drop at f) x n (bytes_drop at f b) g in
@@ -288,78 +268,78 @@ end-in f at k next b q =
     )
 
 module _ (f : List ℕ) (k first at entry last : ℕ) where
-  pub noted-none : (r : Place) → r ≡ frame_end f at k → r ≡ Broken → Other ≡ noted_frame f k first at entry last
+  pub noted-none : (r : Option ℕ) → r ≡ frame_end f at k → r ≡ None → None ≡ noted_frame f k first at entry last
   unfolding noted_frame noted_by
   noted-none r p q = rw (sym p ∙ q)
 
-  pub noted-late : (next t : ℕ) (r : Place) (s : Bool) → r ≡ frame_end f at k → r ≡ End next → t ≡ read_at f (at + 4) 8 → s ≡ follows first last t
-      → s ≡ false → Other ≡ noted_frame f k first at entry last
+  pub noted-late : (next t : ℕ) (r : Option ℕ) (s : Bool) → r ≡ frame_end f at k → r ≡ Some next → t ≡ read_at f (at + 4) 8 → s ≡ follows first last t
+      → s ≡ false → None ≡ noted_frame f k first at entry last
   unfolding noted_frame noted_by
   noted-late next t r s p q a u v = rw (sym p ∙ q, ← a, sym u ∙ v)
 
-  pub noted_other : (next t d : ℕ) (r : Place) (s o : Bool) → r ≡ frame_end f at k → r ≡ End next → t ≡ read_at f (at + 4) 8
+  pub noted_other : (next t d : ℕ) (r : Option ℕ) (s o : Bool) → r ≡ frame_end f at k → r ≡ Some next → t ≡ read_at f (at + 4) 8
       → s ≡ follows first last t → s ≡ true → d ≡ since_first first t → o ≡ other_entry f entry d at (next - at) → o ≡ true
-      → Other ≡ noted_frame f k first at entry last
+      → None ≡ noted_frame f k first at entry last
   unfolding noted_frame noted_by
   noted_other next t d r s o p q a u v w x y = rw (sym p ∙ q, ← a, sym u ∙ v, ← w, sym x ∙ y)
 
-  pub noted-this : (next t d : ℕ) (r : Place) (s o : Bool) → r ≡ frame_end f at k → r ≡ End next → t ≡ read_at f (at + 4) 8
+  pub noted-this : (next t d : ℕ) (r : Option ℕ) (s o : Bool) → r ≡ frame_end f at k → r ≡ Some next → t ≡ read_at f (at + 4) 8
       → s ≡ follows first last t → s ≡ true → d ≡ since_first first t → o ≡ other_entry f entry d at (next - at) → o ≡ false
-      → At t ≡ noted_frame f k first at entry last
+      → Some t ≡ noted_frame f k first at entry last
   unfolding noted_frame noted_by
   noted-this next t d r s o p q a u v w x y = rw (sym p ∙ q, ← a, sym u ∙ v, ← w, sym x ∙ y)
 
   -- a frame that is the one of its entry
   pub record Noting (t : ℕ) : Type 0 where
     pub next : ℕ
-    pub ends : frame_end f at k ≡ End next
+    pub ends : frame_end f at k ≡ Some next
     pub time : read_at f (at + 4) 8 ≡ t
     pub in_time : follows first last (read_at f (at + 4) 8) ≡ true
     pub entered : other_entry f entry (since_first first (read_at f (at + 4) 8)) at (next - at) ≡ false
 
-  noting : (t : ℕ) (r : Noted) → r ≡ noted_frame f k first at entry last → r ≡ At t → Noting t
+  noting : (t : ℕ) (r : Option ℕ) → r ≡ noted_frame f k first at entry last → r ≡ Some t → Noting t
   unfolding noted_frame noted_by
   noting t r p q = go (frame_end f at k) refl (sym p ∙ q)
     where
-      told : (next : ℕ) (x y : Bool) → frame_end f at k ≡ End next → follows first last (read_at f (at + 4) 8) ≡ x
+      told : (next : ℕ) (x y : Bool) → frame_end f at k ≡ Some next → follows first last (read_at f (at + 4) 8) ≡ x
           → other_entry f entry (since_first first (read_at f (at + 4) 8)) at (next - at) ≡ y
-          → cond (not x || y) Other (At (read_at f (at + 4) 8)) ≡ At t → Noting t
+          → cond (not x || y) None (Some (read_at f (at + 4) 8)) ≡ Some t → Noting t
       told next false y g u v c = let z : ◌≡◌ {A = ℕ} 0 1 = cc in absurd (omega arith)
       told next true true g u v c = let z : ◌≡◌ {A = ℕ} 0 1 = cc in absurd (omega arith)
       told next true false g u v c =
           record { next = next; ends = g; time = cc; in_time = u; entered = v }
 
-      go : (e : Place) → frame_end f at k ≡ e → noted_by e f first at entry last ≡ At t → Noting t
-      go (End next) g c = told next (follows first last (read_at f (at + 4) 8))
+      go : (e : Option ℕ) → frame_end f at k ≡ e → noted_by e f first at entry last ≡ Some t → Noting t
+      go (Some next) g c = told next (follows first last (read_at f (at + 4) 8))
           (other_entry f entry (since_first first (read_at f (at + 4) 8)) at (next - at)) g refl refl c
-      go Broken g c = let z : ◌≡◌ {A = ℕ} 0 1 = cc in absurd (omega arith)
+      go None g c = let z : ◌≡◌ {A = ℕ} 0 1 = cc in absurd (omega arith)
 
   -- the length in its entry leads on to the next, which is in the file
   leads-on : (t : ℕ) (n : Noting t) → ((i : ℕ) → Fits w8 (get_or f i 0)) → length f < 2 ^ 64 → k ≤ 8 → entry + 16 ≤ length f
       → (at + noted_length f entry ≡ n.next) × (n.next ≤ length f)
   leads-on t n b s z l =
       let i = end-in f at k n.next (slice-bytes f b) n.ends in
-      let j = end-behind f at k n.next (End n.next) (sym n.ends) refl in
+      let j = end-behind f at k n.next (Some n.next) (sym n.ends) refl in
       let e = entry_length f entry (since_first first (read_at f (at + 4) 8)) at (n.next - at) b l
       (since-fits first last (read_at f (at + 4) 8) (since_first first (read_at f (at + 4) 8)) true (sym n.in_time) refl refl)
-      (record { fits = omega arith }) (end-near f at k n.next (End n.next) z (sym n.ends) refl) n.entered in
+      (record { fits = omega arith }) (end-near f at k n.next (Some n.next) z (sym n.ends) refl) n.entered in
       (omega arith, i)
 
 module _ (f : List ℕ) (k index first left at entry last : ℕ) where
   -- a frame that is there: its time is late, its entry another, or it is the entry's
-  frame-late : (next : ℕ) → are_bytes f ≡ true → 0 < left → entry + 16 * left ≤ length f → frame_end f at k ≡ End next
+  frame-late : (next : ℕ) → are_bytes f ≡ true → 0 < left → entry + 16 * left ≤ length f → frame_end f at k ≡ Some next
       → follows first last (read_at f (at + 4) 8) ≡ false → other_frames f k index first left at entry last ≡ true
   frame-late next b h l q u =
       frames-cons f k index first left at entry last next (read_at f (at + 4) 8) b h l q refl
       ∙ asked-late (walk (left - 1) k (drop next f)) f index first (left - 1) at entry last next (read_at f (at + 4) 8) (next - at) u
 
-  frame-other : (next : ℕ) → are_bytes f ≡ true → 0 < left → entry + 16 * left ≤ length f → frame_end f at k ≡ End next
+  frame-other : (next : ℕ) → are_bytes f ≡ true → 0 < left → entry + 16 * left ≤ length f → frame_end f at k ≡ Some next
       → other_entry f entry (since_first first (read_at f (at + 4) 8)) at (next - at) ≡ true → other_frames f k index first left at entry last ≡ true
   frame-other next b h l q u =
       frames-cons f k index first left at entry last next (read_at f (at + 4) 8) b h l q refl
       ∙ asked-other (walk (left - 1) k (drop next f)) f index first (left - 1) at entry last next (read_at f (at + 4) 8) (next - at) u
 
-  frame-this : (next : ℕ) → are_bytes f ≡ true → 0 < left → entry + 16 * left ≤ length f → frame_end f at k ≡ End next
+  frame-this : (next : ℕ) → are_bytes f ≡ true → 0 < left → entry + 16 * left ≤ length f → frame_end f at k ≡ Some next
       → follows first last (read_at f (at + 4) 8) ≡ true → other_entry f entry (since_first first (read_at f (at + 4) 8)) at (next - at) ≡ false
       → other_frames f k index first left at entry last ≡ other_frames f k index first (left - 1) next (entry + 16) (read_at f (at + 4) 8)
   unfolding other_frames
@@ -367,37 +347,39 @@ module _ (f : List ℕ) (k index first left at entry last : ℕ) where
       frames-cons f k index first left at entry last next (read_at f (at + 4) 8) b h l q refl
       ∙ asked-right (walk (left - 1) k (drop next f)) f index first (left - 1) at entry last next (read_at f (at + 4) 8) (next - at) u v
 
-  pub frames-other : (r : Noted) (all : Bool) → ((i : ℕ) → Fits w8 (get_or f i 0)) → 0 < left → entry + 16 * left ≤ length f
-      → r ≡ noted_frame f k first at entry last → r ≡ Other → other_frames f k index first left at entry last ≡ all → true ≡ all
+  pub frames-other : (r : Option ℕ) (all : Bool) → other_frames f k index first left at entry last ≡ all → r ≡ noted_frame f k first at entry last
+      → r ≡ None → ((i : ℕ) → Fits w8 (get_or f i 0)) → 0 < left → entry + 16 * left ≤ length f → true ≡ all
   unfolding noted_frame noted_by
-  frames-other r all b h l p q i = sym (go (frame_end f at k) refl (sym p ∙ q)) ∙ i
+  frames-other r all i p q b h l = sym (go (frame_end f at k) refl (sym p ∙ q)) ∙ i
     where
-      told : (next : ℕ) (x y : Bool) → frame_end f at k ≡ End next → follows first last (read_at f (at + 4) 8) ≡ x
+      told : (next : ℕ) (x y : Bool) → frame_end f at k ≡ Some next → follows first last (read_at f (at + 4) 8) ≡ x
           → other_entry f entry (since_first first (read_at f (at + 4) 8)) at (next - at) ≡ y
-          → cond (not x || y) Other (At (read_at f (at + 4) 8)) ≡ Other → other_frames f k index first left at entry last ≡ true
+          → cond (not x || y) None (Some (read_at f (at + 4) 8)) ≡ None → other_frames f k index first left at entry last ≡ true
       told next false y g u v c = frame-late next (slice-bytes f b) h l g u
       told next true true g u v c = frame-other next (slice-bytes f b) h l g v
       told next true false g u v c = let z : ◌≡◌ {A = ℕ} 0 1 = cc in absurd (omega arith)
 
-      go : (e : Place) → frame_end f at k ≡ e → noted_by e f first at entry last ≡ Other → other_frames f k index first left at entry last ≡ true
-      go (End next) g c = told next (follows first last (read_at f (at + 4) 8))
+      go : (e : Option ℕ) → frame_end f at k ≡ e → noted_by e f first at entry last ≡ None → other_frames f k index first left at entry last ≡ true
+      go (Some next) g c = told next (follows first last (read_at f (at + 4) 8))
           (other_entry f entry (since_first first (read_at f (at + 4) 8)) at (next - at)) g refl refl c
-      go Broken g c = frames-fewer f k index first left at entry last h g
+      go None g c = frames-fewer f k index first left at entry last h g
 
-  pub frames-step : (t m : ℕ) (r : Noted) (all : Bool) → ((i : ℕ) → Fits w8 (get_or f i 0)) → length f < 2 ^ 64 → k ≤ 8 → 0 < left
-      → entry + 16 * left ≤ length f → m ≡ noted_length f entry → r ≡ noted_frame f k first at entry last → r ≡ At t
-      → other_frames f k index first left at entry last ≡ all → other_frames f k index first (left - 1) (at + m) (entry + 16) t ≡ all
-  frames-step t m r all b s z h l e p q i =
+  pub frames-step : (next t m : ℕ) (r : Option ℕ) (all : Bool) → other_frames f k index first left at entry last ≡ all
+      → r ≡ noted_frame f k first at entry last → r ≡ Some t → m ≡ noted_length f entry → ((i : ℕ) → Fits w8 (get_or f i 0)) → length f < 2 ^ 64
+      → k ≤ 8 → left ≡ next + 1 → entry + 16 * left ≤ length f → other_frames f k index first next (at + m) (entry + 16) t ≡ all
+  frames-step next t m r all i p q e b s z h l =
       let n = noting f k first at entry last t r p q in
       let g : at + m ≡ n.next = omega (arith, (leads-on f k first at entry last t n b s z (omega arith)).0) in
-      rw g (ap (λ (x : ℕ). other_frames f k index first (left - 1) n.next (entry + 16) x) (sym n.time)
-      ∙ sym (frame-this n.next (slice-bytes f b) h l n.ends n.in_time n.entered) ∙ i)
+      let o : next ≡ left - 1 = omega arith in
+      rw (g, o) (ap (λ (x : ℕ). other_frames f k index first (left - 1) n.next (entry + 16) x) (sym n.time)
+      ∙ sym (frame-this n.next (slice-bytes f b) (omega arith) l n.ends n.in_time n.entered) ∙ i)
 
-  pub next_fits : (t m : ℕ) (r : Noted) → ((i : ℕ) → Fits w8 (get_or f i 0)) → length f < 2 ^ 64 → k ≤ 8 → 0 < left
-      → entry + 16 * left ≤ length f → m ≡ noted_length f entry → r ≡ noted_frame f k first at entry last → r ≡ At t → Fits w64 (at + m)
-  next_fits t m r b s z h l e p q =
-      let (g, i) = leads-on f k first at entry last t (noting f k first at entry last t r p q) b s z (omega arith) in
-      record { fits = omega arith }
+-- the place behind a frame that is the one of its entry
+pub next_fits : (f : List ℕ) (k first at entry last t m : ℕ) (r : Option ℕ) → r ≡ noted_frame f k first at entry last → r ≡ Some t
+    → m ≡ noted_length f entry → ((i : ℕ) → Fits w8 (get_or f i 0)) → length f < 2 ^ 64 → k ≤ 8 → entry + 16 ≤ length f → Fits w64 (at + m)
+next_fits f k first at entry last t m r p q e b s z l =
+    let (g, i) = leads-on f k first at entry last t (noting f k first at entry last t r p q) b s z l in
+    record { fits = omega arith }
 
 -- ── The index as a whole ──
 
@@ -525,11 +507,29 @@ index-frames f h k start n first r b l m e p q g i =
     ∙ walk-index (walk h.count k (drop start f)) f h start first (walk-few f k start h.count (slice-bytes f b))
     (λ x xs v. walk_first f k start h.count x xs v ∙ sym g) (slice-bytes f b) l m e (sym p ∙ q)
 
-pub ruleset entry-laws = (rules, length-noted, other-since, other_offset, other-size, this-entry)
-
-pub ruleset noted-laws =
-    (rules, not-true, not-false, end-behind, time-fits, end-near, since-fits, noted-none, noted-late, noted_other, noted-this)
-
-pub ruleset frames-laws = (rules, frames-done, frames-elsewhere, frames-other, next_fits, frames-step)
-
-pub ruleset index-laws = (rules, index-many, index-behind, index-long, index-count, index-frames)
+pub ruleset laws = (
+  rules,
+  not-true,
+  not-false,
+  length-noted,
+  other-since,
+  other_offset,
+  other-size,
+  end-behind,
+  time-fits,
+  end-near,
+  since-fits,
+  noted-none,
+  noted-late,
+  noted_other,
+  noted-this,
+  frames-done,
+  frames-other,
+  next_fits,
+  frames-step,
+  index-many,
+  index-behind,
+  index-long,
+  index-count,
+  index-frames,
+)

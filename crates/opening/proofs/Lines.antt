@@ -21,35 +21,31 @@ use Rattle.layout.proofs.Lines.{line-pass, line-holds, FrontPasses, front-pass, 
 use Rattle.layout.proofs.Walks.{walk-gives}
 use Rattle.tables.specs.Tables.{table_place_of}
 use Rattle.tables.specs.declared.TablePlace.{TablePlace}
-use Rattle.tables.specs.declared.TablePlace.TheVariants as table_as
+use Rattle.std.specs.Prelude.{Result, Ok, Err}
+use Rattle.parts.specs.declared.Fault.{Fault}
 use Rattle.front.proofs.Fronts.{header_is, table-found, table_none}
-use Rattle.refusal.specs.Refusal.{placed, plain}
+use Rattle.refusal.specs.Refusal.{placed, unless}
 use Rattle.refusal.specs.declared.Refusal.{Refusal}
-use Rattle.opening.specs.Opened.{not_closed_by, bad_index_in, bad_index_by, held_of, open_by, open_of, open_refusal}
-use Rattle.front.specs.Front.{front_held, front_of, front_refusal}
+use Rattle.refusal.specs.declared.Refusal.TheVariants.{NotClosed, Index, UserTable}
+use Rattle.opening.specs.Opened.{not_closed_by, bad_index_in, bad_index_by, held_of, open_of}
+use Rattle.front.specs.Front.{front_held, front_of}
 use Rattle.header.specs.Header.{header_of}
 use Rattle.header.specs.declared.Header.{Header}
 use Rattle.front.specs.declared.FrontHeld.{FrontHeld}
-use Rattle.front.specs.declared.Front.{Front}
-use Rattle.front.specs.declared.Front.TheVariants as front_as
 use Rattle.opening.specs.declared.Held.{Held}
-use Rattle.opening.specs.declared.Opening.{Opening}
-use Rattle.opening.specs.declared.Opening.TheVariants as opening_as
 use Rattle.front.proofs.Passed.{front-passes, front-refuses, start-within, few-sections}
 
 -- ── What the front's answer says ──
 
-open-number : (f : List ℕ) (n : ℕ) → refusal f ≡ suc n → opening_as.Refused (placed (suc n) (opening_place (suc n) f)) ≡ open_of f
-unfolding open_of open_by
+open-number : (f : List ℕ) (n : ℕ) → refusal f ≡ suc n → Err (placed (suc n) (opening_place (suc n) f)) ≡ open_of f
+unfolding open_of unless
 open-number f n e = rw e
 
-pub open-front-refused : (f : List ℕ) (r : Front) (n m : Refusal) → r ≡ front_of f → r ≡ front_as.Refused n → m ≡ front_refusal r
-    → opening_as.Refused m ≡ open_of f
+pub open-front-refused : (f : List ℕ) (r : Result FrontHeld Refusal) (n : Refusal) → r ≡ front_of f → r ≡ Err n → Err n ≡ open_of f
 unfolding refusal opening_lines
-open-front-refused f r n m p q s = go (front-refuses f n (sym p ∙ q)) (s ∙ ap front_refusal q)
-  where
-    go : ((j : ℕ) × (n ≡ placed (suc j) (opening_place (suc j) f)) × (first_of (front_lines f) ≡ suc j)) → m ≡ n → opening_as.Refused m ≡ open_of f
-    go (j, k, e) l = rw (l, k) (open-number f j (lines-first (front_lines f) _ j e))
+open-front-refused f r n p q =
+    let (j, k, e) = front-refuses f n (sym p ∙ q) in
+    ap Err k ∙ open-number f j (lines-first (front_lines f) _ j e)
 
 -- ── The tests behind the front ──
 
@@ -104,7 +100,7 @@ frames-shown f b e =
     (not (same (take (user_offset f - index_offset f) (drop (index_offset f) f)) (index_bytes (walk_start f) (counted f).frames))) e) in
     omega arith
 
-module _ (f : List ℕ) (r : Front) (held : FrontHeld) (h : Header) (p : r ≡ front_of f) (q : r ≡ front_as.Whole held) (s : h ≡ header_of f) where
+module _ (f : List ℕ) (r : Result FrontHeld Refusal) (held : FrontHeld) (h : Header) (p : r ≡ front_of f) (q : r ≡ Ok held) (s : h ≡ header_of f) where
   passes : FrontPasses f
   passes = (front-passes f held (sym p ∙ q)).0
 
@@ -122,7 +118,7 @@ module _ (f : List ℕ) (r : Front) (held : FrontHeld) (h : Header) (p : r ≡ f
   unfolding front_held
   held_start b = rw held-is (start-within f (slice-bytes f b) passes.system)
 
-  pub open-not-closed : (b : Bool) → b ≡ not_closed_by f h → b ≡ true → opening_as.Refused (plain 5) ≡ open_of f
+  pub open-not-closed : (b : Bool) → b ≡ not_closed_by f h → b ≡ true → Err NotClosed ≡ open_of f
   unfolding refusal opening_lines opening_place
   open-not-closed b t u = open-number f 4 (front-pass f _ passes
       ∙ line-holds 5 (not_closed f) _ (sym (closed_is f passes.mark) ∙ sym (ap (not_closed_by f) s) ∙ sym t ∙ u))
@@ -147,7 +143,7 @@ module _ (f : List ℕ) (r : Front) (held : FrontHeld) (h : Header) (p : r ≡ f
     unfolding front_held
     index_of = rw (held-is, s) (index_is f passes.mark)
 
-    pub open-bad-index : (c : Bool) → c ≡ bad_index_by f h held.sections held.start → c ≡ true → opening_as.Refused (plain 6) ≡ open_of f
+    pub open-bad-index : (c : Bool) → c ≡ bad_index_by f h held.sections held.start → c ≡ true → Err Index ≡ open_of f
     unfolding refusal opening_lines opening_place
     open-bad-index c v w = open-number f 5 (behind _ ∙ line-holds 6 (bad_index f) _ (sym index_of ∙ sym v ∙ w))
 
@@ -155,83 +151,65 @@ module _ (f : List ℕ) (r : Front) (held : FrontHeld) (h : Header) (p : r ≡ f
       index-right : bad_index f ≡ false
       index-right = sym index_of ∙ sym v ∙ w
 
-      refused-7 : (k : ℕ) (d : Refusal) → bad_user f ≡ true → user_fault f ≡ k → d ≡ placed 7 k → opening_as.Refused d ≡ open_of f
+      refused-7 : (k : ℕ) → bad_user f ≡ true → user_fault f ≡ k → Err (UserTable k) ≡ open_of f
       unfolding refusal opening_lines opening_place
-      refused-7 k d e i o = ap opening_as.Refused (o ∙ ap (placed 7) (sym i))
+      refused-7 k e i = ap (λ (x : ℕ). Err (UserTable x)) (sym i)
           ∙ open-number f 6 (behind _ ∙ line-pass 6 (bad_index f) _ index-right ∙ line-holds 7 (bad_user f) _ e)
 
-      table_of : (t : TablePlace) → t ≡ table_place_of h.user (table (drop h.user f))
-          → t ≡ table_place_of (user_offset f) (table (drop (user_offset f) f))
-      table_of t e = e ∙ ap (λ (at : ℕ). table_place_of at (table (drop at f))) (ap (λ (x : Header). x.user) header)
+      module _ (y : Result TablePlace Fault) (d : y ≡ table_place_of h.user (table (drop h.user f))) where
+        table_of : table_place_of (user_offset f) (table (drop (user_offset f) f)) ≡ y
+        table_of = sym (d ∙ ap (λ (at : ℕ). table_place_of at (table (drop at f))) (ap (λ (x : Header). x.user) header))
 
-      pub open-bad-user : (t : TablePlace) (k : ℕ) (d : Refusal) → t ≡ table_place_of h.user (table (drop h.user f)) → t ≡ table_as.Broken k
-          → d ≡ placed 7 k → opening_as.Refused d ≡ open_of f
-      open-bad-user t k d e g o =
-          let (m, a, i) = table_none f (user_offset f) k (sym (table_of t e) ∙ g) in
-          let (b, j) = user-none f m a in
-          refused-7 k d b (j ∙ i) o
+        pub open-bad-user : (k : Fault) → y ≡ Err k → Err (UserTable k.place) ≡ open_of f
+        open-bad-user k g =
+            let (m, a, i) = table_none f (user_offset f) k (table_of ∙ g) in
+            let (z, j) = user-none f m a in
+            refused-7 k.place z (j ∙ i)
 
-      pub open-long-user : (t : TablePlace) (tags end : ℕ) (d : Refusal) → t ≡ table_place_of h.user (table (drop h.user f))
-          → t ≡ table_as.Whole tags end → (end ≡ length f → ⊥) → d ≡ placed 7 end → opening_as.Refused d ≡ open_of f
-      open-long-user t tags end d e g x o = go (table-found f (user_offset f) tags end (sym (table_of t e) ∙ g))
-        where
-          go : ((ts : List Tag) × (m : ℕ) × (table (drop (user_offset f) f) ≡ good ts m) × (length ts ≡ tags) × (user_offset f + m ≡ end))
-              → opening_as.Refused d ≡ open_of f
-          go (ts, m, a, i, j) = let (b, k) = user-long f ts m user-there a (λ k. x (sym j ∙ k)) in refused-7 end d b (k ∙ j) o
+        module _ (o : TablePlace) (g : y ≡ Ok o) where
+          pub open-long-user : (o.end ≡ length f → ⊥) → Err (UserTable o.end) ≡ open_of f
+          open-long-user x =
+              let (ts, m, a, i, j) = table-found f (user_offset f) o (table_of ∙ g) in
+              let (z, k) = user-long f ts m user-there a (λ k. x (sym j ∙ k)) in
+              refused-7 o.end z (k ∙ j)
 
-      pub opened : (t : TablePlace) (tags end : ℕ) → ((i : ℕ) → Fits w8 (get_or f i 0)) → t ≡ table_place_of h.user (table (drop h.user f))
-          → t ≡ table_as.Whole tags end → end ≡ length f → opening_as.Opened
-          (record {
-            frames = h.count;
-            sections = held.sections;
-            system_tags = held.system_tags;
-            user_tags = tags;
-            system = held.system;
-            start = held.start;
-            index = h.index;
-            user = h.user;
-          }) ≡ open_of f
-      unfolding open_of open_by held_of shown front_held value_or bad_user
-      opened t tags end b e g x = go (table-found f (user_offset f) tags end (sym (table_of t e) ∙ g))
-        where
-          go : ((ts : List Tag) × (m : ℕ) × (table (drop (user_offset f) f) ≡ good ts m) × (length ts ≡ tags) × (user_offset f + m ≡ end))
-              → opening_as.Opened (record {
+          pub opened : ((i : ℕ) → Fits w8 (get_or f i 0)) → o.end ≡ length f → Ok
+              (record {
                 frames = h.count;
                 sections = held.sections;
                 system_tags = held.system_tags;
-                user_tags = tags;
+                user_tags = o.tags;
                 system = held.system;
                 start = held.start;
                 index = h.index;
                 user = h.user;
               }) ≡ open_of f
-          go (ts, m, a, i, j) =
+          unfolding open_of unless held_of shown front_held value_or bad_user
+          opened bytes x =
+              let (ts, m, a, i, j) = table-found f (user_offset f) o (table_of ∙ g) in
               let k : read_user f ≡ good ts m = user-read f ts m a (j ∙ x) in
-              let o : refusal f ≡ 0 = passes-opens f (record { front = passes; closed = is-closed; index = index-right; user = rw k }) in
-              rw (held-is, header, o, frames-shown f (slice-bytes f b) index-right, sections-shown f (defined_in f), k, ← i)
+              let n : refusal f ≡ 0 = passes-opens f (record { front = passes; closed = is-closed; index = index-right; user = rw k }) in
+              rw (held-is, header, n, frames-shown f (slice-bytes f bytes) index-right, sections-shown f (defined_in f), k, i)
 
 -- ── What the answers say, for those who call ──
 
-pub open-opens : (f : List ℕ) (held : Held) → open_of f ≡ opening_as.Opened held → (refusal f ≡ 0) × (held ≡ held_of f)
-unfolding open_of open_by
+pub open-opens : (f : List ℕ) (held : Held) → open_of f ≡ Ok held → (refusal f ≡ 0) × (held ≡ held_of f)
+unfolding open_of unless
 open-opens f held e = go (refusal f) e
   where
-    go : (n : ℕ) → open_by n (opening_place n f) (held_of f) ≡ opening_as.Opened held → (n ≡ 0) × (held ≡ held_of f)
+    go : (n : ℕ) → unless n (opening_place n f) (held_of f) ≡ Ok held → (n ≡ 0) × (held ≡ held_of f)
     go zero g = (refl, cc)
     go (suc n) g = let z : ◌≡◌ {A = ℕ} 0 1 = cc in absurd (omega arith)
 
-pub open-refuses : (f : List ℕ) (n : Refusal) → open_of f ≡ opening_as.Refused n
+pub open-refuses : (f : List ℕ) (n : Refusal) → open_of f ≡ Err n
     → (m : ℕ) × (n ≡ placed (suc m) (opening_place (suc m) f)) × (refusal f ≡ suc m)
-unfolding open_of open_by
+unfolding open_of unless
 open-refuses f n e = go (refusal f) refl e
   where
-    go : (j : ℕ) → refusal f ≡ j → open_by j (opening_place j f) (held_of f) ≡ opening_as.Refused n
+    go : (j : ℕ) → refusal f ≡ j → unless j (opening_place j f) (held_of f) ≡ Err n
         → (m : ℕ) × (n ≡ placed (suc m) (opening_place (suc m) f)) × (refusal f ≡ suc m)
     go zero q g = let z : ◌≡◌ {A = ℕ} 0 1 = cc in absurd (omega arith)
     go (suc j) q g = (j, cc, q)
-
-pub opened-refusal : (r : Opening) (h : Held) → r ≡ opening_as.Opened h → plain 0 ≡ open_refusal r
-opened-refusal r h e = rw e
 
 pub ruleset laws = (
   rules,
@@ -244,5 +222,4 @@ pub ruleset laws = (
   open-bad-user,
   open-long-user,
   opened,
-  opened-refusal,
 )

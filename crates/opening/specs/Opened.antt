@@ -1,21 +1,15 @@
 -- What this crate's functions answer, by the layout's readers and its lines of refusal.
-use Rattle.std.specs.Prelude.{ℕ, zero, suc, ◌+◌, ◌*◌, ◌-◌, Bool, not, ◌||◌, cond, List, ◌++◌, length, take, drop, ltb, eqb}
+use Rattle.std.specs.Prelude.{ℕ, ◌+◌, ◌*◌, ◌-◌, Bool, not, ◌||◌, cond, List, ◌++◌, length, take, drop, ltb, eqb, Option, Some, None, Result, Ok, Err}
 use Rattle.number.specs.Number.{bytes_of, read_at}
 use Rattle.layout.specs.Recording.{most_frames, largest_user_offset, same, follows, follow, in_order, entries_bytes, index_bytes}
 use Rattle.layout.specs.Opening.{index_offset, system_offset, user_offset, walk_start, refusal, opening_place, shown}
 use Rattle.layout.specs.Reading.{Walk, walk}
 use Rattle.header.specs.declared.Header.{Header}
-use Rattle.parts.specs.declared.Place.{Place}
-use Rattle.parts.specs.declared.Place.TheVariants as place
 use Rattle.times.specs.Times.{since_first}
 use Rattle.frames.specs.Frames.{frame_end}
-use Rattle.refusal.specs.Refusal.{placed, plain}
+use Rattle.refusal.specs.Refusal.{unless}
 use Rattle.refusal.specs.declared.Refusal.{Refusal}
 use Rattle.opening.specs.declared.Held.{Held}
-use Rattle.opening.specs.declared.Noted.{Noted}
-use Rattle.opening.specs.declared.Noted.TheVariants as noted
-use Rattle.opening.specs.declared.Opening.{Opening}
-use Rattle.opening.specs.declared.Opening.TheVariants as opening_as
 
 -- 5 of a file with this header
 unfoldable pub not_closed_by : List ℕ → Header → Bool
@@ -33,13 +27,13 @@ unfoldable pub noted_length : List ℕ → (entry : ℕ) → ℕ
 noted_length f entry = read_at (take 16 (drop entry f)) 12 4
 
 -- the time of a frame that ends there, where that follows and its entry is this one
-unfoldable pub noted_by : Place → List ℕ → (first at entry last : ℕ) → Noted
-noted_by (place.End next) f first at entry last =
-    cond (not (follows first last (read_at f (at + 4) 8)) || other_entry f entry (since_first first (read_at f (at + 4) 8)) at (next - at)) noted.Other
-    (noted.At (read_at f (at + 4) 8))
-noted_by place.Broken f first at entry last = noted.Other
+unfoldable pub noted_by : (end : Option ℕ) → List ℕ → (first at entry last : ℕ) → Option ℕ
+noted_by (Some next) f first at entry last =
+    cond (not (follows first last (read_at f (at + 4) 8)) || other_entry f entry (since_first first (read_at f (at + 4) 8)) at (next - at)) None
+    (Some (read_at f (at + 4) 8))
+noted_by None f first at entry last = None
 
-unfoldable pub noted_frame : List ℕ → (sections first at entry last : ℕ) → Noted
+unfoldable pub noted_frame : List ℕ → (sections first at entry last : ℕ) → Option ℕ
 noted_frame f sections first at entry last = noted_by (frame_end f at sections) f first at entry last
 
 -- the frames of a walk from `at` on are fewer than those left, or do not end at the index, or break the time rule, or are not those of the entries
@@ -81,15 +75,11 @@ held_of f =
       user = user_offset f;
     }
 
-unfoldable pub open_by : (refusal place : ℕ) → Held → Opening
-open_by zero p h = opening_as.Opened h
-open_by (suc n) p h = opening_as.Refused (placed (suc n) p)
-
 -- the first of the lines 1 to 7 that holds; else what the file holds
-unfoldable pub open_of : List ℕ → Opening
-open_of f = open_by (refusal f) (opening_place (refusal f) f) (held_of f)
+unfoldable pub open_of : List ℕ → Result Held Refusal
+open_of f = unless (refusal f) (opening_place (refusal f) f) (held_of f)
 
--- what an opening is refused with; the number is 0 for none
-abbrev pub open_refusal : Opening → Refusal
-open_refusal (opening_as.Opened h) = plain 0
-open_refusal (opening_as.Refused n) = n
+-- what an opening is refused with
+abbrev pub open_refusal : Result Held Refusal → Option Refusal
+open_refusal (Ok h) = None
+open_refusal (Err n) = Some n

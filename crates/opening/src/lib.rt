@@ -1,15 +1,12 @@
 // Opening any bytes as a file: the lines of refusal 1 to 7 in their order, and the numbers of a recording that opens.
 // It looks at each frame's head and sizes, at its index entry and at the tables, and at no pixel.
-#![tactic(auto)]
+#![tactic(auto, using(crate::proofs::Index::laws, crate::proofs::Lines::laws))]
 
 ghost use Rattle.std.specs.Prelude.{◌≡◌, ◌+◌, ◌*◌, ◌^◌, ◌<◌, ◌≤◌, length};
 ghost use Rattle.opening.specs.Opened.{not_closed_by, other_entry, noted_length, noted_frame, other_frames, bad_index_by, open_of, open_refusal};
 
-use front::Front;
 use header::Header;
-use parts::Place;
 use refusal::Refusal;
-use tables::TablePlace;
 
 // ── The index ──
 
@@ -27,10 +24,7 @@ fn other_entry(file: &[u8], entry: usize, since: u64, offset: usize, size: usize
     if number::read(held, 4, 8) != offset as u64 {
         return true;
     }
-    if number::read(held, 12, 4) == size as u64 {
-        return false;
-    }
-    true
+    number::read(held, 12, 4) != size as u64
 }
 
 // The length that an entry says.
@@ -42,13 +36,7 @@ fn noted_length(file: &[u8], entry: usize) -> usize
     number::read(&file[entry..behind], 12, 4) as usize
 }
 
-// A frame held against its entry: its time; or that no whole frame stands there, that it is late, or not the one of the entry.
-#[derive(Clone, Copy)]
-enum Noted {
-    At(u64),
-    Other,
-}
-
+// A frame held against its entry: its time; nothing where no whole frame stands there, it is late, or not the one of the entry.
 fn noted_frame(
     file: &[u8],
     sections: usize,
@@ -56,22 +44,19 @@ fn noted_frame(
     place: usize,
     entry: usize,
     last: u64,
-) -> Noted
+) -> Option<u64>
     requires { (sections ≤ 8) × (entry + 16 ≤ length file.now) }
     ensures { result ≡ noted_frame file.now sections first place entry last }
 {
-    let end = frames::frame_end(file, place, sections);
-    let Place::End(next) = end else {
-        return Noted::Other;
-    };
+    let next = frames::frame_end(file, place, sections)?;
     let time = number::read(file, place + 4, 8);
     if !times::follows_last(first, last, time) {
-        return Noted::Other;
+        return None;
     }
     if other_entry(file, entry, times::since(first, time), place, next - place) {
-        return Noted::Other;
+        return None;
     }
-    Noted::At(time)
+    Some(time)
 }
 
 // Whether the frames from a place on are fewer than the entries, end elsewhere than at the index, break the time rule, or are not those of the
@@ -91,44 +76,27 @@ fn other_frames(
     let mut place = start;
     let mut entry = index + 4;
     let mut last = first;
-    let mut left = count;
-    while 0 < left {
+    for _ in 0..count {
         let length = noted_length(file, entry);
-        let noted = noted_frame(file, sections, first, place, entry, last);
-        let Noted::At(time) = noted else {
+        let Some(time) = noted_frame(file, sections, first, place, entry, last) else {
             return true;
         };
         place += length;
         entry += Header::INDEX_ENTRY;
         last = time;
-        left -= 1;
     }
-    if place == index {
-        return false;
-    }
-    true
+    place != index
 }
 
 // 5: "index or user offset is zero, past the file's length, or user offset over its limit"
 fn not_closed(file: &[u8], header: Header) -> bool
     ensures { result ≡ not_closed_by file.now header }
 {
-    if header.index == 0 {
-        return true;
-    }
-    if header.user == 0 {
-        return true;
-    }
-    if file.len() < header.index {
-        return true;
-    }
-    if file.len() < header.user {
-        return true;
-    }
-    if Header::LARGEST_USER_OFFSET < header.user {
-        return true;
-    }
-    false
+    header.index == 0
+        || header.user == 0
+        || file.len() < header.index
+        || file.len() < header.user
+        || Header::LARGEST_USER_OFFSET < header.user
 }
 
 // 6: "header count over 1,000,000; or fewer whole frames than that from the start of the walk; or their end is not the index offset; or the times
@@ -159,7 +127,7 @@ fn bad_index(file: &[u8], header: Header, sections: usize, start: usize) -> bool
 // ── Opening ──
 
 // What a file that opens holds, in numbers, and where its parts stand.
-#[derive(Clone, Copy)]
+#[derive(Clone, Copy, Debug, PartialEq, Eq)]
 pub struct Held {
     pub frames: usize,
     pub sections: usize,
@@ -171,53 +139,37 @@ pub struct Held {
     pub user: usize,
 }
 
-#[derive(Clone, Copy)]
-pub enum Opening {
-    Opened(Held),
-    Refused(Refusal),
-}
-
 // "opening tests 1 to 7 in number order"
-pub fn open(file: &[u8]) -> Opening
+pub fn open(file: &[u8]) -> Result<Held, Refusal>
     ensures { result ≡ open_of file.now }
 {
-    let front = front::open_front(file);
-    let Front::Whole(held) = front else {
-        return Opening::Refused(front::front_refusal(front));
-    };
+    let front = front::open_front(file)?;
     let header = Header::parse(file);
     if not_closed(file, header) {
-        return Opening::Refused(Refusal::NOT_CLOSED);
+        return Err(Refusal::NotClosed);
     }
-    if bad_index(file, header, held.sections, held.start) {
-        return Opening::Refused(Refusal::INDEX);
+    if bad_index(file, header, front.sections, front.start) {
+        return Err(Refusal::Index);
     }
-    match tables::table(file, header.user) {
-        TablePlace::Whole(tags, end) => {
-            if end != file.len() {
-                return Opening::Refused(Refusal::USER_TABLE.at(end));
-            }
-            Opening::Opened(Held {
-                frames: header.count,
-                sections: held.sections,
-                system_tags: held.system_tags,
-                user_tags: tags,
-                system: held.system,
-                start: held.start,
-                index: header.index,
-                user: header.user,
-            })
-        }
-        TablePlace::Broken(place) => Opening::Refused(Refusal::USER_TABLE.at(place)),
+    let table = tables::table(file, header.user).map_err(|fault| Refusal::UserTable(fault.place))?;
+    if table.end != file.len() {
+        return Err(Refusal::UserTable(table.end));
     }
+    Ok(Held {
+        frames: header.count,
+        sections: front.sections,
+        system_tags: front.system_tags,
+        user_tags: table.tags,
+        system: front.system,
+        start: front.start,
+        index: header.index,
+        user: header.user,
+    })
 }
 
 // What an opening is refused with.
-pub fn open_refusal(opening: Opening) -> Refusal
+pub fn open_refusal(opening: Result<Held, Refusal>) -> Option<Refusal>
     ensures { result ≡ open_refusal opening }
 {
-    match opening {
-        Opening::Opened(_) => Refusal::NONE,
-        Opening::Refused(refusal) => refusal,
-    }
+    opening.err()
 }

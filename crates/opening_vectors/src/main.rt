@@ -2,13 +2,11 @@
 // tests/VECTORS.md says what a vector holds and how its line reads.
 #![tactic(auto)]
 
-use items::{Found, FrameRead, Item};
-use opening::Opening;
+use items::{FrameRead, Item};
+use opening::Held;
+use refusal::Refusal;
 use std::io;
-use std::rt::{Env, Files};
-use vector::lend::lent;
 use vector::print::{hex, no_vector, refused, say, with, with_time};
-use vector::sweep::{Tally, line, turn_bytes, turn_length, turns};
 
 const FRAME: u8 = b'f';
 
@@ -18,37 +16,34 @@ const PART: u8 = b'p';
 
 const SWEEP: u8 = b'F';
 
+fn opened(rt: &impl Print, held: Held) -> io::Result<()> {
+    with(rt, b"opened frames ", held.frames as u64)?;
+    with(rt, b" sections ", held.sections as u64)?;
+    with(rt, b" system ", held.system_tags as u64)?;
+    with(rt, b" user ", held.user_tags as u64)
+}
+
 fn open(rt: &impl Print, file: &[u8]) -> io::Result<()> {
-    let answer = opening::open(file);
-    match answer {
-        Opening::Opened(held) => {
-            with(rt, b"opened frames ", held.frames as u64)?;
-            with(rt, b" sections ", held.sections as u64)?;
-            with(rt, b" system ", held.system_tags as u64)?;
-            with(rt, b" user ", held.user_tags as u64)
-        }
-        Opening::Refused(refusal) => refused(rt, refusal),
+    match opening::open(file) {
+        Ok(held) => opened(rt, held),
+        Err(refusal) => refused(rt, refusal),
     }
 }
 
+fn framed(rt: &impl Print, frame: FrameRead) -> io::Result<()> {
+    with(rt, b"frame at ", frame.place as u64)?;
+    with(rt, b" length ", frame.length as u64)?;
+    with_time(rt, b" time ", frame.time)?;
+    with(rt, b" exposure ", frame.exposure as u64)
+}
+
 fn frame(rt: &impl Print, fields: &[u8]) -> io::Result<()> {
-    if fields.len() < 8 {
+    let Some((number, file)) = fields.split_at_checked(8) else {
         return no_vector(rt);
-    }
-    let answer = reading::frame(&fields[8..], number::read(fields, 0, 8));
-    match answer {
-        FrameRead::Frame {
-            place,
-            length,
-            time,
-            exposure,
-        } => {
-            with(rt, b"frame at ", place as u64)?;
-            with(rt, b" length ", length as u64)?;
-            with_time(rt, b" time ", time)?;
-            with(rt, b" exposure ", exposure as u64)
-        }
-        FrameRead::Refused(refusal) => refused(rt, refusal),
+    };
+    match reading::frame(file, number::read(number, 0, 8)) {
+        Ok(frame) => framed(rt, frame),
+        Err(refusal) => refused(rt, refusal),
     }
 }
 
@@ -64,81 +59,50 @@ fn item_of(kind: u64, i: u64, j: u64) -> Item {
     }
 }
 
-fn place_of(found: Found) -> u64 {
-    match found {
-        Found::At { start, len: _ } => start as u64,
-        Found::Refused(_) => 0,
-    }
-}
-
 fn part_of(rt: &impl Print, file: &[u8], item: Item) -> io::Result<()> {
     let part = reading::part(file, item);
-    let refusal = reading::refusal(file, item);
-    if refusal.number == 0 {
-        with(rt, b"part at ", place_of(reading::find(file, item)))?;
-        with(rt, b" length ", part.len() as u64)?;
-        if 0 < part.len() {
-            say(rt, b" ")?;
-            hex(rt, part)?;
-        }
-        return Ok(());
+    if let Some(refusal) = reading::refusal(file, item) {
+        refused(rt, refusal)?;
+        return with(rt, b" part of ", part.len() as u64);
     }
-    refused(rt, refusal)?;
-    with(rt, b" part of ", part.len() as u64)
+    let start = reading::find(file, item).map_or(0, |found| found.start);
+    with(rt, b"part at ", start as u64)?;
+    with(rt, b" length ", part.len() as u64)?;
+    if !part.is_empty() {
+        say(rt, b" ")?;
+        hex(rt, part)?;
+    }
+    Ok(())
 }
 
 fn part(rt: &impl Print, fields: &[u8]) -> io::Result<()> {
-    if fields.len() < 17 {
+    let Some((asked, file)) = fields.split_at_checked(17) else {
         return no_vector(rt);
-    }
+    };
     let item = item_of(
-        number::read(fields, 0, 1),
-        number::read(fields, 1, 8),
-        number::read(fields, 9, 8),
+        number::read(asked, 0, 1),
+        number::read(asked, 1, 8),
+        number::read(asked, 9, 8),
     );
-    part_of(rt, &fields[17..], item)
-}
-
-fn tried(file: &[u8], before: Tally) -> Tally {
-    let answer = opening::open(file);
-    let refusal = opening::open_refusal(answer);
-    vector::sweep::tried(before, refusal)
-}
-
-// Each turn of a sweep of the file.
-fn sweep(rt: &impl Print, base: &[u8], values: &[u8]) -> io::Result<()> {
-    let mut tally = Tally::NONE;
-    let mut turn = 0;
-    let end = turns(base.len());
-    while turn < end {
-        let bytes = turn_bytes(base, values, turn);
-        let n = turn_length(base.len(), turn);
-        tally = tried(&bytes[..n], tally);
-        turn += 1;
-    }
-    line(rt, tally)
+    part_of(rt, file, item)
 }
 
 // The values of a sweep, and behind them the file.
 fn swept(rt: &impl Print, fields: &[u8]) -> io::Result<()> {
-    if fields.len() < 1 {
+    let Some((values, base)) = vector::counted(fields, 1) else {
         return no_vector(rt);
-    }
-    let length = number::read(fields, 0, 1) as usize;
-    let given = &fields[1..];
-    if given.len() < length {
-        return no_vector(rt);
-    }
-    sweep(rt, &given[length..], &given[..length])
+    };
+    vector::sweep::sweep(rt, base, values, |file, before| {
+        vector::sweep::tried(before, opening::open_refusal(opening::open(file)))
+    })
 }
 
 // The call that a vector holds, by its first byte.
 fn answer(rt: &impl Print, vector: &[u8]) -> io::Result<()> {
-    if vector.len() == 0 {
+    let Some((kind, fields)) = vector.split_first() else {
         return no_vector(rt);
-    }
-    let fields = &vector[1..];
-    match vector[0] {
+    };
+    match *kind {
         FRAME => frame(rt, fields),
         OPEN => open(rt, fields),
         PART => part(rt, fields),
@@ -147,16 +111,6 @@ fn answer(rt: &impl Print, vector: &[u8]) -> io::Result<()> {
     }
 }
 
-fn one(rt: &(impl Env + Files + Print), argument: usize) -> io::Result<()> {
-    let mut space = lent(0);
-    let n = vector::read(rt, argument, &mut space)?;
-    answer(rt, &space[..n])?;
-    say(rt, b"\n")
-}
-
 fn main(rt: HostRuntime) -> io::Result<()> {
-    for argument in 1..vector::arguments(&rt) {
-        one(&rt, argument)?;
-    }
-    Ok(())
+    vector::each(&rt, |vector| answer(&rt, vector))
 }

@@ -1,5 +1,7 @@
 -- Names as numbers: no two names have one, a shorter name has a smaller one, and of two that are equally long the last byte that differs decides.
 -- Assumes nothing.
+use Rattle.std.specs.declared.cmp.Ordering.TheVariants.{Less, Equal, Greater}
+use Rattle.std.specs.Ordering.{nat_cmp}
 use Prim.Native.Nat.{ℕ, suc, ◌+◌, ◌*◌, ◌^◌, ◌<◌, ◌≤◌}
 use native.Mathlib.Nat.{mul_assoc, mul_comm, pow-suc}
 use native.Mathlib.Omega.{arith}
@@ -15,7 +17,6 @@ use Rattle.number.proofs.Bytes.{both_true}
 use Rattle.layout.specs.Recording.{same}
 use Rattle.layout.proofs.Lists.{same_true, same_refl}
 use Rattle.order.specs.Order.{key, turn_of}
-use Rattle.order.specs.declared.Turn.TheVariants as turn
 
 -- ── How one number stands to another ──
 
@@ -31,17 +32,21 @@ three {G} x y f g h = go (ltb x y) (ltb y x) refl refl
         let m = ltb-false y x q in
         g (omega arith)
 
-pub turn-before : (x y : ℕ) → x < y → turn.Before ≡ turn_of x y
+pub turn-cmp : (x y : ℕ) → nat_cmp x y ≡ turn_of x y
+unfolding turn_of
+turn-cmp x y = refl
+
+pub turn-before : (x y : ℕ) → x < y → Less ≡ turn_of x y
 unfolding turn_of
 turn-before x y h = rw (lt-ltb x y h)
 
-pub turn-after : (x y : ℕ) → y < x → turn.After ≡ turn_of x y
+pub turn-after : (x y : ℕ) → y < x → Greater ≡ turn_of x y
 unfolding turn_of
-turn-after x y h = rw (le-ltb x y (omega arith), lt-ltb y x h)
+turn-after x y h = rw (le-ltb x y (omega arith), ne_eqb x y (λ e. omega arith))
 
-pub turn-same : (x y : ℕ) → y ≤ x → x ≤ y → turn.Same ≡ turn_of x y
+pub turn-same : (x y : ℕ) → y ≤ x → x ≤ y → Equal ≡ turn_of x y
 unfolding turn_of
-turn-same x y h l = rw (le-ltb x y h, le-ltb y x l)
+turn-same x y h l = rw (le-ltb x y h, eq-eqb x y (omega arith))
 
 turn-both : (x y a b : ℕ) → (x < y → a < b) → (x ≡ y → a ≡ b) → (y < x → b < a) → turn_of a b ≡ turn_of x y
 turn-both x y a b f g h =

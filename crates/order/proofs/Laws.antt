@@ -1,6 +1,10 @@
 -- What the functions of this crate leave to be shown, as laws about the definitions.
 -- Assumes nothing.
-use Prim.Native.Nat.{ℕ, ◌+◌, ◌*◌, ◌-◌, ◌^◌, ◌<◌, ◌≤◌}
+use Rattle.std.specs.Prelude.{Option, Some, None}
+use Rattle.std.specs.declared.cmp.Ordering.{Ordering}
+use Rattle.std.specs.declared.cmp.Ordering.TheVariants.{Less, Equal, Greater}
+use Rattle.std.specs.Ordering.{nat_cmp}
+use Prim.Native.Nat.{ℕ, ◌+◌, ◌*◌, ◌-◌, ◌/◌, ◌^◌, ◌<◌, ◌≤◌}
 use native.Mathlib.Omega.{arith}
 use mathlib.Core.Path.{◌≡◌, refl, ap, sym, ◌∙◌}
 use mathlib.Core.Bool.{true}
@@ -17,16 +21,10 @@ use Rattle.parts.proofs.Same.{eight-read}
 use Rattle.layout.specs.Reading.{string}
 use Rattle.layout.proofs.Lists.{bytes_take, bytes_drop}
 use Rattle.strings.specs.Strings.{text_of}
-use Rattle.strings.specs.declared.Text.{Text}
-use Rattle.strings.specs.declared.Text.TheVariants as text
 use Rattle.strings.proofs.Laws.{string-parts, text_of-broken}
 use Rattle.order.specs.Order.{key, name_of, name_at, turn_of, keys, middle, halves}
-use Rattle.order.specs.declared.Turn.{Turn}
-use Rattle.order.specs.declared.Turn.TheVariants as turn
-use Rattle.order.specs.declared.Seat.{Seat}
-use Rattle.order.specs.declared.Seat.TheVariants as seat
-use Rattle.order.proofs.Keys.{turn-before, turn-same, turn-after, key-longer, same_ends, other-ends}
-use Rattle.order.proofs.Seats.{keys-at, halves-done, halves-lower, halves-met, halves-upper, seek-more, seek-start, insert-full, insert-nowhere, insert-start, insert-step, insert-done}
+use Rattle.order.proofs.Keys.{turn-cmp, turn-before, turn-same, turn-after, key-longer, same_ends, other-ends}
+use Rattle.order.proofs.Seats.{keys-at, halves-done, halves-lower, halves-met, halves-upper, seek-more, seek-start, insert-full, insert-nowhere, insert-there}
 
 -- ── Names of one length, from their ends on ──
 
@@ -39,7 +37,7 @@ ends s at left w h =
 bytes-part : (s : List ℕ) (at n : ℕ) → ((i : ℕ) → Fits w8 (get_or s i 0)) → are_bytes (take n (drop at s)) ≡ true
 bytes-part s at n b = bytes_take n (drop at s) (bytes_drop at s (slice-bytes s b))
 
-module _ (w : ℕ) (s : List ℕ) (here there left x y : ℕ) (all : Turn) (l : w ≤ left) (h : here + left ≤ length s) (k : there + left ≤ length s)
+module _ (w : ℕ) (s : List ℕ) (here there left x y : ℕ) (all : Ordering) (l : w ≤ left) (h : here + left ≤ length s) (k : there + left ≤ length s)
     (e : x ≡ number_of (take w (drop (here + (left - w)) s))) (f : y ≡ number_of (take w (drop (there + (left - w)) s)))
     (i : turn_of (key (take left (drop here s))) (key (take left (drop there s))) ≡ all) where
   fronts-long : length (take (left - w) (drop here s)) ≡ length (take (left - w) (drop there s))
@@ -54,71 +52,74 @@ module _ (w : ℕ) (s : List ℕ) (here there left x y : ℕ) (all : Turn) (l : 
       (take w (drop (there + (left - w)) s)) fronts-long ends-long (sym e ∙ o ∙ f))
       ∙ rw (← ends s here left w l, ← ends s there left w l) i
 
-  stop : (r : Turn) → ((i : ℕ) → Fits w8 (get_or s i 0)) → (x ≡ y → ⊥) → r ≡ turn_of x y → r ≡ all
+  stop : (r : Ordering) → ((i : ℕ) → Fits w8 (get_or s i 0)) → (x ≡ y → ⊥) → r ≡ nat_cmp x y → r ≡ all
   stop r b o g =
       let p : turn_of x y ≡ turn_of (number_of (take w (drop (here + (left - w)) s))) (number_of (take w (drop (there + (left - w)) s))) = rw (e, f) in
-      g ∙ p ∙ other-ends (take (left - w) (drop here s)) (take (left - w) (drop there s)) (take w (drop (here + (left - w)) s))
+      g ∙ turn-cmp x y ∙ p ∙ other-ends (take (left - w) (drop here s)) (take (left - w) (drop there s)) (take w (drop (here + (left - w)) s))
       (take w (drop (there + (left - w)) s)) (bytes-part s here (left - w) b) (bytes-part s there (left - w) b) fronts-long ends-long
       (λ q. o (e ∙ q ∙ sym f)) ∙ rw (← ends s here left w l, ← ends s there left w l) i
 
-byte-is : (s : List ℕ) (at x : ℕ) → at < length s → x ≡ get_or s at 0 → x ≡ number_of (take 1 (drop at s))
+byte-is : (s : List ℕ) (at : ℕ) → at < length s → get_or s at 0 ≡ number_of (take 1 (drop at s))
 unfolding number_of
-byte-is s at x h e =
+byte-is s at h =
     let q : get_or s at 0 + 256 * 0 ≡ get_or s at 0 = omega arith in
-    e ∙ rw (drop-cons s at 0 h) (sym q)
+    rw (drop-cons s at 0 h) (sym q)
 
-module _ (s : List ℕ) (here there n left x y : ℕ) (all : Turn) where
-  pub bytes-step : 0 < left → left ≤ n → here + n ≤ length s → there + n ≤ length s → x ≡ get_or s (here + (left - 1)) 0 → y ≡ get_or s (there + (left - 1)) 0
-      → x ≡ y → turn_of (key (take left (drop here s))) (key (take left (drop there s))) ≡ all
+module _ (s : List ℕ) (here there n left : ℕ) (all : Ordering) where
+  pub bytes-step : turn_of (key (take left (drop here s))) (key (take left (drop there s))) ≡ all → 0 < left → left ≤ n → here + n ≤ length s
+      → there + n ≤ length s → get_or s (here + (left - 1)) 0 ≡ get_or s (there + (left - 1)) 0
       → turn_of (key (take (left - 1) (drop here s))) (key (take (left - 1) (drop there s))) ≡ all
-  bytes-step l m h k e f o i =
-      step 1 s here there left x y all l (omega arith) (omega arith) (byte-is s (here + (left - 1)) x (omega arith) e) (byte-is s (there + (left - 1)) y (omega arith) f) i o
+  bytes-step i l m h k o =
+      step 1 s here there left (get_or s (here + (left - 1)) 0) (get_or s (there + (left - 1)) 0) all l (omega arith) (omega arith)
+      (byte-is s (here + (left - 1)) (omega arith)) (byte-is s (there + (left - 1)) (omega arith)) i o
 
-  pub bytes-stop : (r : Turn) → ((i : ℕ) → Fits w8 (get_or s i 0)) → 0 < left → left ≤ n → here + n ≤ length s → there + n ≤ length s
-      → x ≡ get_or s (here + (left - 1)) 0 → y ≡ get_or s (there + (left - 1)) 0 → (x ≡ y → ⊥) → r ≡ turn_of x y
-      → turn_of (key (take left (drop here s))) (key (take left (drop there s))) ≡ all → r ≡ all
-  bytes-stop r b l m h k e f o g i =
-      stop 1 s here there left x y all l (omega arith) (omega arith) (byte-is s (here + (left - 1)) x (omega arith) e) (byte-is s (there + (left - 1)) y (omega arith) f) i r b o
-      g
+  pub bytes-stop : (r : Ordering) → turn_of (key (take left (drop here s))) (key (take left (drop there s))) ≡ all
+      → ((i : ℕ) → Fits w8 (get_or s i 0)) → 0 < left → left ≤ n → here + n ≤ length s → there + n ≤ length s
+      → (get_or s (here + (left - 1)) 0 ≡ get_or s (there + (left - 1)) 0 → ⊥)
+      → r ≡ nat_cmp (get_or s (here + (left - 1)) 0) (get_or s (there + (left - 1)) 0) → r ≡ all
+  bytes-stop r i b l m h k o g =
+      stop 1 s here there left (get_or s (here + (left - 1)) 0) (get_or s (there + (left - 1)) 0) all l (omega arith) (omega arith)
+      (byte-is s (here + (left - 1)) (omega arith)) (byte-is s (there + (left - 1)) (omega arith)) i r b o g
 
-  pub words_step : 7 < left → left ≤ n → here + n ≤ length s → there + n ≤ length s → x ≡ number_of (take 8 (drop (here + (left - 8)) s))
-      → y ≡ number_of (take 8 (drop (there + (left - 8)) s)) → x ≡ y → turn_of (key (take left (drop here s))) (key (take left (drop there s))) ≡ all
-      → turn_of (key (take (left - 8) (drop here s))) (key (take (left - 8) (drop there s))) ≡ all
-  words_step l m h k e f o i = step 8 s here there left x y all l (omega arith) (omega arith) e f i o
+module _ (s : List ℕ) (here there n passed x y : ℕ) (all : Ordering) where
+  pub words_step : turn_of (key (take (n - 8 * passed) (drop here s))) (key (take (n - 8 * passed) (drop there s))) ≡ all
+      → passed < n / 8 → here + n ≤ length s → there + n ≤ length s → x ≡ number_of (take 8 (drop (here + (n - 8 * passed - 8)) s))
+      → y ≡ number_of (take 8 (drop (there + (n - 8 * passed - 8)) s)) → x ≡ y
+      → turn_of (key (take (n - 8 * (passed + 1)) (drop here s))) (key (take (n - 8 * (passed + 1)) (drop there s))) ≡ all
+  words_step i l h k e f o =
+      let q : n - 8 * (passed + 1) ≡ n - 8 * passed - 8 = omega arith in
+      rw q (step 8 s here there (n - 8 * passed) x y all (omega arith) (omega arith) (omega arith) e f i o)
 
-  pub words-stop : (r : Turn) → ((i : ℕ) → Fits w8 (get_or s i 0)) → 7 < left → left ≤ n → here + n ≤ length s → there + n ≤ length s
-      → x ≡ number_of (take 8 (drop (here + (left - 8)) s)) → y ≡ number_of (take 8 (drop (there + (left - 8)) s)) → (x ≡ y → ⊥) → r ≡ turn_of x y
-      → turn_of (key (take left (drop here s))) (key (take left (drop there s))) ≡ all → r ≡ all
-  words-stop r b l m h k e f o g i = stop 8 s here there left x y all l (omega arith) (omega arith) e f i r b o g
+  pub words-stop : (r : Ordering) → turn_of (key (take (n - 8 * passed) (drop here s))) (key (take (n - 8 * passed) (drop there s))) ≡ all
+      → ((i : ℕ) → Fits w8 (get_or s i 0)) → passed < n / 8 → here + n ≤ length s → there + n ≤ length s
+      → x ≡ number_of (take 8 (drop (here + (n - 8 * passed - 8)) s)) → y ≡ number_of (take 8 (drop (there + (n - 8 * passed - 8)) s))
+      → (x ≡ y → ⊥) → r ≡ nat_cmp x y → r ≡ all
+  words-stop r i b l h k e f o g = stop 8 s here there (n - 8 * passed) x y all (omega arith) (omega arith) (omega arith) e f i r b o g
 
 no_bytes : key [] ≡ 1
 unfolding key
 no_bytes = refl
 
-pub bytes-none : (s : List ℕ) (here there left : ℕ) (all : Turn) → left ≤ 0
-    → turn_of (key (take left (drop here s))) (key (take left (drop there s))) ≡ all → turn.Same ≡ all
+pub bytes-none : (s : List ℕ) (here there left : ℕ) (all : Ordering) → left ≤ 0
+    → turn_of (key (take left (drop here s))) (key (take left (drop there s))) ≡ all → Equal ≡ all
 bytes-none s here there left all h e =
     let z : left ≡ 0 = omega arith in
     turn-same 1 1 (omega arith) (omega arith) ∙ rw (z, no_bytes) at e
 
-pub words-rest : (s : List ℕ) (here there left : ℕ) (all r : Turn) → r ≡ turn_of (key (take left (drop here s))) (key (take left (drop there s)))
-    → turn_of (key (take left (drop here s))) (key (take left (drop there s))) ≡ all → r ≡ all
-words-rest s here there left all r e f = e ∙ f
-
 -- ── The name at a place ──
 
-nameless : (s : List ℕ) (at : ℕ) → text_of (string (drop at s)) ≡ text.Broken → name_at s at ≡ []
+nameless : (s : List ℕ) (at : ℕ) → text_of (string (drop at s)) ≡ None → name_at s at ≡ []
 unfolding name_at name_of
 nameless s at e = rw (text_of-broken (string (drop at s)) e).1
 
-pub long-broken : (s : List ℕ) (at : ℕ) (r : Text) → r ≡ text_of (string (drop at s)) → r ≡ text.Broken → 0 ≡ length (name_at s at)
+pub long-broken : (s : List ℕ) (at : ℕ) (r : Option ℕ) → r ≡ text_of (string (drop at s)) → r ≡ None → 0 ≡ length (name_at s at)
 long-broken s at r e f = rw (nameless s at (sym e ∙ f))
 
-name-is : (s : List ℕ) (at n : ℕ) → text_of (string (drop at s)) ≡ text.Whole n → name_at s at ≡ take n (drop (at + 1) s)
+name-is : (s : List ℕ) (at n : ℕ) → text_of (string (drop at s)) ≡ Some n → name_at s at ≡ take n (drop (at + 1) s)
 unfolding name_at name_of
 name-is s at n e = rw (string-parts s at n e).2
 
-pub long-whole : (s : List ℕ) (at n : ℕ) (r : Text) → r ≡ text_of (string (drop at s)) → r ≡ text.Whole n → n ≡ length (name_at s at)
+pub long-whole : (s : List ℕ) (at n : ℕ) (r : Option ℕ) → r ≡ text_of (string (drop at s)) → r ≡ Some n → n ≡ length (name_at s at)
 long-whole s at n r e f =
     sym (ap length (name-is s at n (sym e ∙ f)) ∙ part-long s (at + 1) n (string-parts s at n (sym e ∙ f)).0)
 
@@ -127,10 +128,10 @@ name-parts : (s : List ℕ) (at n : ℕ) → n ≡ length (name_at s at) → (n 
     → (at + 1 + n ≤ length s) × (name_at s at ≡ take n (drop (at + 1) s))
 name-parts s at n e f = go (text_of (string (drop at s))) refl
   where
-    go : (r : Text) → text_of (string (drop at s)) ≡ r → (at + 1 + n ≤ length s) × (name_at s at ≡ take n (drop (at + 1) s))
-    go text.Broken g = absurd (f (e ∙ sym (long-broken s at text.Broken (sym g) refl)))
-    go (text.Whole i) g =
-        let q : n ≡ i = e ∙ sym (long-whole s at i (text.Whole i) (sym g) refl) in
+    go : (r : Option ℕ) → text_of (string (drop at s)) ≡ r → (at + 1 + n ≤ length s) × (name_at s at ≡ take n (drop (at + 1) s))
+    go None g = absurd (f (e ∙ sym (long-broken s at None (sym g) refl)))
+    go (Some i) g =
+        let q : n ≡ i = e ∙ sym (long-whole s at i (Some i) (sym g) refl) in
         (omega (arith, (string-parts s at i g).0), rw q (name-is s at i g))
 
 empty : (xs : List ℕ) → length xs ≡ 0 → xs ≡ []
@@ -140,29 +141,29 @@ empty (x ∷ xs) e = absurd (omega arith)
 bytes-name : (s : List ℕ) (at : ℕ) → ((i : ℕ) → Fits w8 (get_or s i 0)) → are_bytes (name_at s at) ≡ true
 bytes-name s at b = go (text_of (string (drop at s))) refl
   where
-    go : (r : Text) → text_of (string (drop at s)) ≡ r → are_bytes (name_at s at) ≡ true
-    go text.Broken g = rw (nameless s at g)
-    go (text.Whole i) g = rw (name-is s at i g) (bytes-part s (at + 1) i b)
+    go : (r : Option ℕ) → text_of (string (drop at s)) ≡ r → are_bytes (name_at s at) ≡ true
+    go None g = rw (nameless s at g)
+    go (Some i) g = rw (name-is s at i g) (bytes-part s (at + 1) i b)
 
 module _ (s : List ℕ) (here there n m : ℕ) where
   pub name-before : ((i : ℕ) → Fits w8 (get_or s i 0)) → n ≡ length (name_at s here) → m ≡ length (name_at s there) → n < m
-      → turn.Before ≡ turn_of (key (name_at s here)) (key (name_at s there))
+      → Less ≡ turn_of (key (name_at s here)) (key (name_at s there))
   name-before b e f h = turn-before (key (name_at s here)) (key (name_at s there))
       (key-longer (name_at s here) (name_at s there) (bytes-name s here b) (omega arith))
 
   pub name-after : ((i : ℕ) → Fits w8 (get_or s i 0)) → n ≡ length (name_at s here) → m ≡ length (name_at s there) → m < n
-      → turn.After ≡ turn_of (key (name_at s here)) (key (name_at s there))
+      → Greater ≡ turn_of (key (name_at s here)) (key (name_at s there))
   name-after b e f h = turn-after (key (name_at s here)) (key (name_at s there))
       (key-longer (name_at s there) (name_at s here) (bytes-name s there b) (omega arith))
 
   pub name-none : n ≡ length (name_at s here) → m ≡ length (name_at s there) → n ≤ m → m ≤ n → n ≡ 0
-      → turn.Same ≡ turn_of (key (name_at s here)) (key (name_at s there))
+      → Equal ≡ turn_of (key (name_at s here)) (key (name_at s there))
   name-none e f h l z =
       let p : name_at s here ≡ [] = empty (name_at s here) (omega arith) in
       let q : name_at s there ≡ [] = empty (name_at s there) (omega arith) in
       rw (p, q) (turn-same (key []) (key []) (omega arith) (omega arith))
 
-  pub name-same : (r : Turn) → n ≡ length (name_at s here) → m ≡ length (name_at s there) → n ≤ m → m ≤ n → (n ≡ 0 → ⊥)
+  pub name-same : (r : Ordering) → n ≡ length (name_at s here) → m ≡ length (name_at s there) → n ≤ m → m ≤ n → (n ≡ 0 → ⊥)
       → r ≡ turn_of (key (take n (drop (here + 1) s))) (key (take n (drop (there + 1) s))) → r ≡ turn_of (key (name_at s here)) (key (name_at s there))
   name-same r e f h l z g =
       let q : n ≡ m = omega arith in
@@ -183,21 +184,21 @@ module _ (s : List ℕ) (here there n m : ℕ) where
 
 -- ── The seat of a name ──
 
-module _ (s ps : List ℕ) (n low high k : ℕ) (t : Turn) (all : Seat) where
+module _ (s ps : List ℕ) (n low high k : ℕ) (t : Ordering) (all : Option ℕ) where
   at-middle : low < high → high ≤ n → n ≤ length ps → t ≡ turn_of k (key (name_at s (get_or ps (middle low high) 0)))
       → turn_of k (get_or (keys s (take n ps)) (middle low high) 0) ≡ t
   at-middle h l m e = ap (turn_of k) (keys-at s ps n (middle low high) (omega arith) m) ∙ sym e
 
-  pub go-lower : low < high → high ≤ n → n ≤ length ps → t ≡ turn_of k (key (name_at s (get_or ps (middle low high) 0))) → t ≡ turn.Before
+  pub go-lower : low < high → high ≤ n → n ≤ length ps → t ≡ turn_of k (key (name_at s (get_or ps (middle low high) 0))) → t ≡ Less
       → halves (high - low) (keys s (take n ps)) k low high ≡ all
       → halves (middle low high - low) (keys s (take n ps)) k low (middle low high) ≡ all
   go-lower h l m e f i = halves-lower (keys s (take n ps)) k low high all h (at-middle h l m e ∙ f) i
 
-  pub go-met : low < high → high ≤ n → n ≤ length ps → t ≡ turn_of k (key (name_at s (get_or ps (middle low high) 0))) → t ≡ turn.Same
-      → halves (high - low) (keys s (take n ps)) k low high ≡ all → seat.Nothing ≡ all
+  pub go-met : low < high → high ≤ n → n ≤ length ps → t ≡ turn_of k (key (name_at s (get_or ps (middle low high) 0))) → t ≡ Equal
+      → halves (high - low) (keys s (take n ps)) k low high ≡ all → None ≡ all
   go-met h l m e f i = halves-met (keys s (take n ps)) k low high all h (at-middle h l m e ∙ f) i
 
-  pub go-upper : low < high → high ≤ n → n ≤ length ps → t ≡ turn_of k (key (name_at s (get_or ps (middle low high) 0))) → t ≡ turn.After
+  pub go-upper : low < high → high ≤ n → n ≤ length ps → t ≡ turn_of k (key (name_at s (get_or ps (middle low high) 0))) → t ≡ Greater
       → halves (high - low) (keys s (take n ps)) k low high ≡ all
       → halves (high - (middle low high + 1)) (keys s (take n ps)) k (middle low high + 1) high ≡ all
   go-upper h l m e f i = halves-upper (keys s (take n ps)) k low high all h (at-middle h l m e ∙ f) i
@@ -205,15 +206,11 @@ module _ (s ps : List ℕ) (n low high k : ℕ) (t : Turn) (all : Seat) where
 pub ruleset laws = (
   rules,
   eight-read,
-  turn-before,
-  turn-after,
-  turn-same,
   bytes-step,
   bytes-stop,
   bytes-none,
   words_step,
   words-stop,
-  words-rest,
   long-broken,
   long-whole,
   name-before,
@@ -232,7 +229,5 @@ pub ruleset laws = (
   seek-start,
   insert-full,
   insert-nowhere,
-  insert-start,
-  insert-step,
-  insert-done,
+  insert-there,
 )

@@ -1,23 +1,23 @@
 -- A number's seat among numbers that ascend, found by halves: where it has one it is none of them, and with it they still ascend. And a place put at
 -- its seat.
 -- Assumes nothing.
+use Rattle.std.specs.Prelude.{Option, Some, None}
+use Rattle.std.specs.declared.cmp.Ordering.{Ordering}
+use Rattle.std.specs.declared.cmp.Ordering.TheVariants.{Less, Equal, Greater}
+use Rattle.std.specs.List.{copy_within}
+use Rattle.std.proofs.Common.{add-one}
 use Prim.Native.Nat.{ℕ, zero, suc, ◌+◌, ◌-◌, ◌<◌, ◌≤◌}
-use native.Mathlib.Nat.{add-zero, add-suc}
 use native.Mathlib.Omega.{arith}
 use mathlib.Core.Path.{◌≡◌, refl, ap, sym, ◌∙◌}
 use mathlib.Core.Bool.{Bool, true, false, ◌&&◌, ◌||◌, cond}
-use mathlib.Core.List.{List, [], ◌∷◌, ◌++◌, append_assoc, append-nil}
-use lib.ListN.{length, take, drop, get_or, set, length-set, length-append, length-drop, take-append-drop}
-use lib.Seq.{length-take-le, take-suc, drop-cons, take-add, take_at, drop_at, set_at, take-set-le, drop-set-lt, drop-set-add, get_or-set_same, get_or-drop}
+use mathlib.Core.List.{List, [], ◌∷◌, ◌++◌, append_assoc}
+use lib.ListN.{length, take, drop, get_or, set, length-append, length-drop}
+use lib.Seq.{length-take-le, take-suc, take-add, take_at, drop_at, set_at}
 use lib.Dec.{leb, ltb, eqb}
 use borrow.Author.Tests.{ltb-true, lt-ltb, le-ltb, le-leb, lt-leb, leb-true, eq-eqb, ne_eqb}
 use Rattle.number.proofs.Bytes.{both_true, and-true, part-long}
 use Rattle.number.proofs.Bools.{or_left, and-false}
 use Rattle.order.specs.Order.{key, name_at, turn_of, keys, middle, halves, seek, inserted}
-use Rattle.order.specs.declared.Turn.{Turn}
-use Rattle.order.specs.declared.Turn.TheVariants as turn
-use Rattle.order.specs.declared.Seat.{Seat}
-use Rattle.order.specs.declared.Seat.TheVariants as seat
 use Rattle.order.proofs.Keys.{three, key-some, turn-before, turn-same, turn-after}
 
 -- ── Numbers that ascend ──
@@ -83,25 +83,25 @@ holds_more x y (k ∷ ks) ls = rw (holds_more x y ks ls) (or_swap (eqb x k) (eqb
 -- ── By halves ──
 
 module _ (ks : List ℕ) (k low high : ℕ) where
-  spent : halves zero ks k low high ≡ seat.At low
+  spent : halves zero ks k low high ≡ Some low
   unfolding halves
   spent = refl
 
-  stop : (n : ℕ) → high ≤ low → halves n ks k low high ≡ seat.At low
+  stop : (n : ℕ) → high ≤ low → halves n ks k low high ≡ Some low
   unfolding halves
   stop zero h = refl
   stop (suc n) h = rw (le-ltb low high h)
 
-  lower : (n : ℕ) → low < high → turn_of k (get_or ks (middle low high) 0) ≡ turn.Before
+  lower : (n : ℕ) → low < high → turn_of k (get_or ks (middle low high) 0) ≡ Less
       → halves (suc n) ks k low high ≡ halves n ks k low (middle low high)
   unfolding halves
   lower n h e = rw (lt-ltb low high h, e)
 
-  meet : (n : ℕ) → low < high → turn_of k (get_or ks (middle low high) 0) ≡ turn.Same → halves (suc n) ks k low high ≡ seat.Nothing
+  meet : (n : ℕ) → low < high → turn_of k (get_or ks (middle low high) 0) ≡ Equal → halves (suc n) ks k low high ≡ None
   unfolding halves
   meet n h e = rw (lt-ltb low high h, e)
 
-  upper : (n : ℕ) → low < high → turn_of k (get_or ks (middle low high) 0) ≡ turn.After
+  upper : (n : ℕ) → low < high → turn_of k (get_or ks (middle low high) 0) ≡ Greater
       → halves (suc n) ks k low high ≡ halves n ks k (middle low high + 1) high
   unfolding halves
   upper n h e = rw (lt-ltb low high h, e)
@@ -117,17 +117,17 @@ enough (suc n) (suc m) ks k low high h l =
     stop ks k low high (suc n) (omega arith) ∙ sym (stop ks k low high (suc m) (omega arith))) (λ p.
     stop ks k low high (suc n) (omega arith) ∙ sym (stop ks k low high (suc m) (omega arith)))
   where
-    go : (t : Turn) → turn_of k (get_or ks (middle low high) 0) ≡ t → low < high
+    go : (t : Ordering) → turn_of k (get_or ks (middle low high) 0) ≡ t → low < high
         → halves n ks k low (middle low high) ≡ halves m ks k low (middle low high)
         → halves n ks k (middle low high + 1) high ≡ halves m ks k (middle low high + 1) high
         → halves (suc n) ks k low high ≡ halves (suc m) ks k low high
-    go turn.Before e p f g = lower ks k low high n p e ∙ f ∙ sym (lower ks k low high m p e)
-    go turn.Same e p f g = meet ks k low high n p e ∙ sym (meet ks k low high m p e)
-    go turn.After e p f g = upper ks k low high n p e ∙ g ∙ sym (upper ks k low high m p e)
+    go Less e p f g = lower ks k low high n p e ∙ f ∙ sym (lower ks k low high m p e)
+    go Equal e p f g = meet ks k low high n p e ∙ sym (meet ks k low high m p e)
+    go Greater e p f g = upper ks k low high n p e ∙ g ∙ sym (upper ks k low high m p e)
 
 -- a number that has a seat stands between its neighbours there
 between : (n : ℕ) (ks : List ℕ) (k low high i : ℕ) → high - low ≤ n → low ≤ high → high ≤ length ks → get_or (0 ∷ ks) low 0 < k
-    → (high < length ks → k < get_or ks high 0) → halves n ks k low high ≡ seat.At i
+    → (high < length ks → k < get_or ks high 0) → halves n ks k low high ≡ Some i
     → (i ≤ length ks) × (get_or (0 ∷ ks) i 0 < k) × (i < length ks → k < get_or ks i 0)
 between zero ks k low high i h l m lo hi e =
     let q : i ≡ low = cc (spent ks k low high) in
@@ -148,7 +148,7 @@ between (suc n) ks k low high i h l m lo hi e =
     (omega arith, rw q lo, rw r hi)) (λ p. absurd (omega arith))
 
 -- one that has none is one of them
-met : (n : ℕ) (ks : List ℕ) (k low high : ℕ) → high ≤ length ks → halves n ks k low high ≡ seat.Nothing → holds k ks ≡ true
+met : (n : ℕ) (ks : List ℕ) (k low high : ℕ) → high ≤ length ks → halves n ks k low high ≡ None → holds k ks ≡ true
 met zero ks k low high l e = let z : ◌≡◌ {A = ℕ} 0 1 = cc (spent ks k low high) in absurd (omega arith)
 met (suc n) ks k low high l e =
     three low high (λ p.
@@ -163,22 +163,22 @@ met (suc n) ks k low high l e =
 
 -- ── What the search by halves leaves to be shown ──
 
-module _ (ks : List ℕ) (k low high : ℕ) (all : Seat) where
-  pub halves-done : high ≤ low → halves (high - low) ks k low high ≡ all → seat.At low ≡ all
+module _ (ks : List ℕ) (k low high : ℕ) (all : Option ℕ) where
+  pub halves-done : high ≤ low → halves (high - low) ks k low high ≡ all → Some low ≡ all
   halves-done h e = sym (stop ks k low high (high - low) h) ∙ e
 
   again : low < high → halves (high - low) ks k low high ≡ all → halves (suc (high - low)) ks k low high ≡ all
   again h e = enough (suc (high - low)) (high - low) ks k low high (omega arith) (omega arith) ∙ e
 
-  pub halves-lower : low < high → turn_of k (get_or ks (middle low high) 0) ≡ turn.Before → halves (high - low) ks k low high ≡ all
+  pub halves-lower : low < high → turn_of k (get_or ks (middle low high) 0) ≡ Less → halves (high - low) ks k low high ≡ all
       → halves (middle low high - low) ks k low (middle low high) ≡ all
   halves-lower h t e = enough (middle low high - low) (high - low) ks k low (middle low high) (omega arith) (omega arith)
       ∙ sym (lower ks k low high (high - low) h t) ∙ again h e
 
-  pub halves-met : low < high → turn_of k (get_or ks (middle low high) 0) ≡ turn.Same → halves (high - low) ks k low high ≡ all → seat.Nothing ≡ all
+  pub halves-met : low < high → turn_of k (get_or ks (middle low high) 0) ≡ Equal → halves (high - low) ks k low high ≡ all → None ≡ all
   halves-met h t e = sym (meet ks k low high (high - low) h t) ∙ again h e
 
-  pub halves-upper : low < high → turn_of k (get_or ks (middle low high) 0) ≡ turn.After → halves (high - low) ks k low high ≡ all
+  pub halves-upper : low < high → turn_of k (get_or ks (middle low high) 0) ≡ Greater → halves (high - low) ks k low high ≡ all
       → halves (high - (middle low high + 1)) ks k (middle low high + 1) high ≡ all
   halves-upper h t e = enough (high - (middle low high + 1)) (high - low) ks k (middle low high + 1) high (omega arith) (omega arith)
       ∙ sym (upper ks k low high (high - low) h t) ∙ again h e
@@ -272,7 +272,7 @@ module _ (s ps : List ℕ) (n place : ℕ) where
   unfolding seek
   open-seek h = rw (le-leb n (length ps) h)
 
-  pub seek-more : length ps < n → seat.Nothing ≡ seek s ps n place
+  pub seek-more : length ps < n → None ≡ seek s ps n place
   unfolding seek
   seek-more h = rw (lt-leb n (length ps) h)
 
@@ -280,11 +280,11 @@ module _ (s ps : List ℕ) (n place : ℕ) where
   seek-start h = let z : n - 0 ≡ n = omega arith in rw z (sym (open-seek h))
 
   -- no seat: the name is one of those
-  pub seek-met : n ≤ length ps → seek s ps n place ≡ seat.Nothing → holds (key (name_at s place)) (keys s (take n ps)) ≡ true
+  pub seek-met : n ≤ length ps → seek s ps n place ≡ None → holds (key (name_at s place)) (keys s (take n ps)) ≡ true
   seek-met h e = met n (keys s (take n ps)) (key (name_at s place)) 0 n (omega (arith, first-keys s ps n h)) (sym (open-seek h) ∙ e)
 
   -- a seat: the name is none of those, and with its place there they still ascend
-  pub seek-new : (i : ℕ) → n < length ps → ascend 0 (keys s (take n ps)) ≡ true → seek s ps n place ≡ seat.At i → (i ≤ n)
+  pub seek-new : (i : ℕ) → n < length ps → ascend 0 (keys s (take n ps)) ≡ true → seek s ps n place ≡ Some i → (i ≤ n)
       × (holds (key (name_at s place)) (keys s (take n ps)) ≡ false) × (ascend 0 (keys s (take (n + 1) (inserted ps n i place))) ≡ true)
   seek-new i h up e =
       let f = first-keys s ps n (omega arith) in
@@ -294,33 +294,7 @@ module _ (s ps : List ℕ) (n place : ℕ) where
       let (a, b, c) = seated 0 (keys s (take n ps)) (key (name_at s place)) i up l lo hi in
       (m, b, rw (seat-kept s ps n i place h m) at c)
 
--- ── Moving up ──
-
--- the k places from a seat on, each stored one later, the last first
-unfoldable pub raised : (k seat : ℕ) → List ℕ → List ℕ
-raised zero p ps = ps
-raised (suc k) p ps = raised k p (set ps (p + suc k) (get_or ps (p + k) 0))
-
-raised_is : (k p : ℕ) (ps : List ℕ) → p + k < length ps → raised k p ps ≡ (take (suc p) ps ++ take k (drop p ps)) ++ drop (suc (p + k)) ps
-unfolding raised
-raised_is zero p ps h =
-    rw (append-nil (take (suc p) ps), add-zero p) (sym (take-append-drop (suc p) ps))
-raised_is (suc k) p ps h =
-    let x : ℕ = get_or ps (p + k) 0 in
-    let qs : List ℕ = set ps (p + suc k) x in
-    let a : take (suc p) qs ≡ take (suc p) ps = take-set-le (suc p) ps (p + suc k) x (omega arith) in
-    let b : take k (drop p qs) ≡ take k (drop p ps) = ap (take k) (drop-set-add p ps (suc k) x) ∙ take-set-le k (drop p ps) (suc k) x (omega arith) in
-    let c : drop (p + suc k) qs ≡ x ∷ drop (suc (p + suc k)) ps =
-    drop-cons qs (p + suc k) 0 (rw length-set h) ∙ rw (get_or-set_same ps (p + suc k) x 0 h, drop-set-lt (suc (p + suc k)) ps (p + suc k) x (omega arith)) in
-    let d : take (suc k) (drop p ps) ≡ take k (drop p ps) ++ (x ∷ []) =
-    take-suc (drop p ps) k 0 (omega (arith, length-drop p ps)) ∙ rw (get_or-drop p ps k 0) in
-    raised_is k p qs (rw length-set (omega arith)) ∙ rw (a, b, ← add-suc p k, c, d)
-    (sym (append_assoc (take (suc p) ps ++ take k (drop p ps)) (x ∷ []) (drop (suc (p + suc k)) ps))
-    ∙ ap (λ (l : List ℕ). l ++ drop (suc (p + suc k)) ps) (append_assoc (take (suc p) ps) (take k (drop p ps)) (x ∷ [])))
-
-raised-suc : (k p : ℕ) (ps : List ℕ) → raised (suc k) p ps ≡ raised k p (set ps (p + suc k) (get_or ps (p + k) 0))
-unfolding raised
-raised-suc k p ps = refl
+-- ── A place put at its seat ──
 
 module _ (ps : List ℕ) (n p place : ℕ) where
   pub insert-full : length ps ≤ n → ps ≡ inserted ps n p place
@@ -331,13 +305,14 @@ module _ (ps : List ℕ) (n p place : ℕ) where
   unfolding inserted
   insert-nowhere h = rw (lt-leb p n h, and-false (ltb n (length ps)))
 
-  pub insert-start : n < length ps → p ≤ n → set (raised (n - p) p ps) p place ≡ inserted ps n p place
+  -- those from the seat on are copied one up, and the place is stored at its seat
+  pub insert-there : (qs : List ℕ) → n < length ps → p ≤ n → qs ≡ copy_within ps p n (p + 1) → set qs p place ≡ inserted ps n p place
   unfolding inserted
-  insert-start h l =
-      let q : suc (p + (n - p)) ≡ n + 1 = omega arith in
-      let a : take (suc p) ps ≡ take p ps ++ (get_or ps p 0 ∷ []) = take-suc ps p 0 (omega arith) in
+  insert-there qs h l e =
+      let q : p + 1 + (n - p) ≡ n + 1 = omega arith in
+      let a : take (p + 1) ps ≡ take p ps ++ (get_or ps p 0 ∷ []) = rw add-one (take-suc ps p 0 (omega arith)) in
       rw (
-        raised_is (n - p) p ps (omega arith),
+        e,
         q,
         a,
         append_assoc (take p ps) (get_or ps p 0 ∷ []) (take (n - p) (drop p ps)),
@@ -346,17 +321,3 @@ module _ (ps : List ℕ) (n p place : ℕ) where
         lt-ltb n (length ps) h,
         le-leb p n l,
       ) (sym (append_assoc (take p ps) (place ∷ take (n - p) (drop p ps)) (drop (n + 1) ps)))
-
-module _ (ps : List ℕ) (p place : ℕ) where
-  pub insert-step : (i : ℕ) (all : List ℕ) → p < i → set (raised (i - p) p ps) p place ≡ all
-      → set (raised (i - 1 - p) p (set ps i (get_or ps (i - 1) 0))) p place ≡ all
-  insert-step i all h e =
-      let q : i - p ≡ suc (i - 1 - p) = omega arith in
-      let a : p + suc (i - 1 - p) ≡ i = omega arith in
-      let b : p + (i - 1 - p) ≡ i - 1 = omega arith in
-      let c : set ps (p + suc (i - 1 - p)) (get_or ps (p + (i - 1 - p)) 0) ≡ set ps i (get_or ps (i - 1) 0) = rw (a, b) in
-      sym (ap (λ (l : List ℕ). set l p place) (ap (λ (k : ℕ). raised k p ps) q ∙ raised-suc (i - 1 - p) p ps ∙ ap (raised (i - 1 - p) p) c)) ∙ e
-
-  pub insert-done : (i : ℕ) (all : List ℕ) → i ≤ p → p ≤ i → set (raised (i - p) p ps) p place ≡ all → set ps p place ≡ all
-  unfolding raised
-  insert-done i all h l e = let q : i - p ≡ 0 = omega arith in rw q at e

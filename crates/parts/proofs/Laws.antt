@@ -1,48 +1,38 @@
 -- Equal parts and copying: what the functions of this crate leave to be shown.
 -- Assumes nothing.
-use Prim.Native.Nat.{ℕ, zero, suc, ◌+◌, ◌*◌, ◌-◌, ◌/◌, ◌<◌, ◌≤◌}
+use Prim.Native.Nat.{ℕ, ◌+◌, ◌*◌, ◌-◌, ◌/◌, ◌<◌, ◌≤◌}
 use native.Mathlib.Omega.{arith}
-use mathlib.Core.Path.{◌≡◌, ap, sym, ◌∙◌}
+use mathlib.Core.Path.{◌≡◌, refl, ap, sym, ◌∙◌}
 use mathlib.Core.Bool.{Bool, true, false, ◌&&◌}
-use mathlib.Core.List.{List}
-use lib.ListN.{length, take, drop, get_or, set}
-use lib.Seq.{drop-cons, sets}
+use mathlib.Core.List.{List, [], ◌∷◌, ◌++◌}
+use lib.ListN.{length, take, drop}
+use lib.Seq.{drop-drop, sets, sets-eq}
 use lib.Dec.{eqb}
 use borrow.Author.Rules.{rules}
 use borrow.Author.Tests.{le-leb, lt-leb, eq-eqb, ne_eqb, not-true, not-false}
 use Rattle.number.specs.Number.{has}
+use Rattle.std.specs.Prelude.{nat_eq}
+use Rattle.std.specs.Cmp.Lexicographic.{pointwise}
+use Rattle.std.proofs.Common.{append_assoc}
 use Rattle.number.proofs.Bools.{and-false}
+use Rattle.number.proofs.Bytes.{part-long}
 use Rattle.layout.specs.Recording.{same}
 use Rattle.parts.specs.Parts.{same_part, copied}
-use Rattle.parts.proofs.Same.{same_add, eight-same, sixteen-same, blocks-done, blocks-stop, blocks_step}
+use Rattle.parts.proofs.Same.{same_add, eight-same, sixteen-same, blocks-stop, blocks_next}
 
 -- ── Equal parts ──
 
-same-cons : (a b : List ℕ) (i j n : ℕ) → 0 < n → i < length a → j < length b
-    → same (take n (drop i a)) (take n (drop j b)) ≡ (eqb (get_or a i 0) (get_or b j 0)
-    && same (take (n - 1) (drop (i + 1) a)) (take (n - 1) (drop (j + 1) b)))
+-- the test of the toolchain's that two lists are alike
+pub alike : (a b : List ℕ) → pointwise nat_eq a b ≡ same a b
 unfolding same
-same-cons a b i j zero z h k = elim z [ ]
-same-cons a b i j (suc n) z h k =
-    let p : i + 1 ≡ suc i = omega arith in
-    let o : j + 1 ≡ suc j = omega arith in
-    let q : suc n - 1 ≡ n = omega arith in
-    rw (drop-cons a i 0 h, drop-cons b j 0 k, p, o, q)
+alike [] [] = refl
+alike [] (y ∷ b) = refl
+alike (x ∷ a) [] = refl
+alike (x ∷ a) (y ∷ b) = ap (λ (r : Bool). eqb x y && r) (alike a b)
 
-pub same-done : (a b : List ℕ) (i j n : ℕ) (all : Bool) → n ≤ 0 → same (take n (drop i a)) (take n (drop j b)) ≡ all → true ≡ all
-unfolding same
-same-done a b i j zero all z e = e
-same-done a b i j (suc n) all z e = absurd (omega arith)
-
-pub same_stop : (a b : List ℕ) (i j n : ℕ) (all : Bool) → 0 < n → i + n ≤ length a → j + n ≤ length b → (get_or a i 0 ≡ get_or b j 0 → ⊥)
-    → same (take n (drop i a)) (take n (drop j b)) ≡ all → false ≡ all
-same_stop a b i j n all z h k f g =
-    sym (rw (ne_eqb (get_or a i 0) (get_or b j 0) f) at (same-cons a b i j n z (omega arith) (omega arith))) ∙ g
-
-pub same_step : (a b : List ℕ) (i j n : ℕ) (all : Bool) → 0 < n → i + n ≤ length a → j + n ≤ length b → get_or a i 0 ≡ get_or b j 0
-    → same (take n (drop i a)) (take n (drop j b)) ≡ all → same (take (n - 1) (drop (i + 1) a)) (take (n - 1) (drop (j + 1) b)) ≡ all
-same_step a b i j n all z h k f g =
-    sym (rw (eq-eqb (get_or a i 0) (get_or b j 0) f) at (same-cons a b i j n z (omega arith) (omega arith))) ∙ g
+pub same-parts : (a b : List ℕ) (i j n k m : ℕ) (r : Bool) → r ≡ pointwise nat_eq (take k (drop i a)) (take m (drop j b)) → k ≡ n → m ≡ n
+    → r ≡ same (take n (drop i a)) (take n (drop j b))
+same-parts a b i j n k m r e p q = e ∙ rw (p, q) (alike (take n (drop i a)) (take n (drop j b)))
 
 pub not_there : (s : List ℕ) (at n : ℕ) → length s < at + n → has s at n ≡ false
 not_there s at n h = lt-leb (at + n) (length s) h
@@ -118,27 +108,11 @@ pub copied-there : (f t : List ℕ) (i j n : ℕ) → i + n ≤ length f → j +
 unfolding copied
 copied-there f t i j n h k = rw (there f i n h, there t j n k)
 
-pub copy_start : (f t : List ℕ) (i j n : ℕ) → sets t (j + 0) (take (n - 0) (drop (i + 0) f)) ≡ sets t j (take n (drop i f))
-copy_start f t i j n =
-    let p : j + 0 ≡ j = omega arith in
-    let q : n - 0 ≡ n = omega arith in
-    let r : i + 0 ≡ i = omega arith in
-    rw (p, q, r)
-
-pub copy_more : (f t t₀ : List ℕ) (i j n k : ℕ) → k < n → i + n ≤ length f
-    → sets t (j + k) (take (n - k) (drop (i + k) f)) ≡ sets t₀ j (take n (drop i f))
-    → sets (set t (j + k) (get_or f (i + k) 0)) (j + (k + 1)) (take (n - (k + 1)) (drop (i + (k + 1)) f)) ≡ sets t₀ j (take n (drop i f))
-copy_more f t t₀ i j n k h l e =
-    let p : n - k ≡ suc (n - (k + 1)) = omega arith in
-    let q : j + (k + 1) ≡ suc (j + k) = omega arith in
-    let r : i + (k + 1) ≡ suc (i + k) = omega arith in
-    rw (q, r) (sym (rw (p, drop-cons f (i + k) 0 (omega arith))) ∙ e)
-
-pub copy-end : (f t t₀ : List ℕ) (i j n k : ℕ) → n ≤ k → k ≤ n → i + n ≤ length f → j + n ≤ length t → length t ≡ length t₀
-    → sets t (j + k) (take (n - k) (drop (i + k) f)) ≡ sets t₀ j (take n (drop i f)) → t ≡ copied f i t₀ j n
-copy-end f t t₀ i j n k h l p q o e =
-    let z : n - k ≡ 0 = omega arith in
-    sym (rw z) ∙ e ∙ sym (copied-there f t₀ i j n p (omega arith))
+pub copied-put : (f t y : List ℕ) (i j n k m : ℕ) → k ≡ n → m ≡ n → n ≤ length f → i ≤ length f - n → n ≤ length t → j ≤ length t - n
+    → y ≡ take m (drop i f) → take j t ++ (y ++ drop k (drop j t)) ≡ copied f i t j n
+copied-put f t y i j n k m p q a b c d e =
+    let l : length (take n (drop i f)) ≡ n = part-long f i n (omega arith) in
+    rw (p, e, q, copied-there f t i j n (omega arith) (omega arith), sets-eq (take n (drop i f)) t j (omega arith), drop-drop n j t, l, append_assoc)
 
 pub ruleset laws = (
   rules,
@@ -146,12 +120,9 @@ pub ruleset laws = (
   not-false,
   eight-same,
   sixteen-same,
-  blocks-done,
   blocks-stop,
-  blocks_step,
-  same-done,
-  same_stop,
-  same_step,
+  blocks_next,
+  same-parts,
   equal-short,
   equal-far,
   equal-short-other,
@@ -162,7 +133,5 @@ pub ruleset laws = (
   copied-far,
   copied-no-room,
   copied-past,
-  copy_start,
-  copy_more,
-  copy-end,
+  copied-put,
 )

@@ -1,5 +1,6 @@
 -- The layout's readers at a place: one behind another, numbers and blocks, and where they end.
 -- Assumes nothing.
+use Rattle.std.specs.Prelude.{Some, None}
 use Prim.Native.Nat.{ℕ, ◌+◌, ◌-◌, ◌<◌, ◌≤◌}
 use native.Mathlib.Omega.{arith}
 use mathlib.Core.Path.{◌≡◌, refl, ◌∙◌, ap}
@@ -12,7 +13,6 @@ use borrow.Author.Tests.{le-leb, lt-leb}
 use Rattle.number.specs.Number.{read_at}
 use Rattle.layout.specs.Reading.{Parsed, Reader, bad, good, onward, behind, ◌then◌, only, number, block}
 use Rattle.parts.specs.Parts.{end_of}
-use Rattle.parts.specs.declared.Place.TheVariants as place
 
 -- ── Short strings by a rule ──
 
@@ -43,7 +43,7 @@ then-onward p q t x n e = rw e
 pub end_later : {B : Type 0} (r : Parsed B) (at n : ℕ) → end_of at (behind n r) ≡ end_of (at + n) r
 unfolding end_of behind
 end_later (bad i) at n = refl
-end_later (good y m) at n = ap place.End (omega arith)
+end_later (good y m) at n = ap Some (omega arith)
 
 -- whatever is made of it
 pub end-made : {B C : Type 0} (f : B → C) (r : Parsed B) (at : ℕ) → end_of at (onward r (λ y m. good (f y) m)) ≡ end_of at r
@@ -70,13 +70,13 @@ number_cut w s at h =
     let m : length (drop at s) < w = simp length-drop h in
     rw (lt-leb w (length (drop at s)) m)
 
-pub block-cut : (n : ℕ) (s : List ℕ) (at : ℕ) → length s - at < n → place.Broken ≡ end_of at (block n (drop at s))
+pub block-cut : (n : ℕ) (s : List ℕ) (at : ℕ) → length s - at < n → None ≡ end_of at (block n (drop at s))
 unfolding block end_of
 block-cut n s at h =
     let m : length (drop at s) < n = simp length-drop h in
     rw (lt-leb n (length (drop at s)) m)
 
-pub block-whole : (n : ℕ) (s : List ℕ) (at : ℕ) → n ≤ length s - at → place.End (at + n) ≡ end_of at (block n (drop at s))
+pub block-whole : (n : ℕ) (s : List ℕ) (at : ℕ) → n ≤ length s - at → Some (at + n) ≡ end_of at (block n (drop at s))
 unfolding block end_of
 block-whole n s at h =
     let m : n ≤ length (drop at s) = simp length-drop h in
@@ -85,12 +85,12 @@ block-whole n s at h =
 -- ── What follows a name ──
 
 -- what ended at a place was read
-pub end-good : {A : Type 0} (p : Parsed A) (at next : ℕ) → end_of at p ≡ place.End next → (x : A) × (n : ℕ) × (p ≡ good x n) × (next ≡ at + n)
+pub end-good : {A : Type 0} (p : Parsed A) (at next : ℕ) → end_of at p ≡ Some next → (x : A) × (n : ℕ) × (p ≡ good x n) × (next ≡ at + n)
 unfolding end_of
 end-good (bad i) at next e = let z : ◌≡◌ {A = ℕ} 0 1 = cc in absurd (omega arith)
 end-good (good x n) at next e = (x, n, refl, cc)
 
-pub end-bad : {A : Type 0} (p : Parsed A) (at : ℕ) → end_of at p ≡ place.Broken → (m : ℕ) × (p ≡ bad m)
+pub end-bad : {A : Type 0} (p : Parsed A) (at : ℕ) → end_of at p ≡ None → (m : ℕ) × (p ≡ bad m)
 unfolding end_of
 end-bad (bad m) at e = (m, refl)
 end-bad (good x n) at e = let z : ◌≡◌ {A = ℕ} 0 1 = cc in absurd (omega arith)

@@ -1,6 +1,6 @@
 -- When bytes in two parts, and the bytes of a number, are the same.
 -- Assumes nothing.
-use Prim.Native.Nat.{ℕ, ◌+◌, ◌*◌, ◌-◌, ◌^◌, ◌<◌, ◌≤◌}
+use Prim.Native.Nat.{ℕ, ◌+◌, ◌-◌, ◌^◌, ◌<◌, ◌≤◌}
 use native.Mathlib.Omega.{arith}
 use mathlib.Core.Path.{◌≡◌, refl, ap, sym, ◌∙◌}
 use mathlib.Core.Bool.{Bool, true, false, ◌&&◌}
@@ -89,29 +89,23 @@ pub sixteen-same : (a b : List ℕ) (i j : ℕ) (p q : Bool) → i + 16 ≤ leng
     → q ≡ same (part a (i + 8) 8) (part b (j + 8) 8) → (p && q) ≡ same (part a i 16) (part b j 16)
 sixteen-same a b i j p q h k e f = rw (e, f) (sym (same_add a b i j 8 8 (omega arith) (omega arith)))
 
-module _ (a b : List ℕ) (i j left : ℕ) (all : Bool) where
-  blocks-cons : 0 < left → i + 16 * left ≤ length a → j + 16 * left ≤ length b
-      → same (part a i (16 * left)) (part b j (16 * left)) ≡ (same (part a i 16) (part b j 16)
-      && same (part a (i + 16) (16 * (left - 1))) (part b (j + 16) (16 * (left - 1))))
-  blocks-cons z h k =
-      let e : 16 * left ≡ 16 + 16 * (left - 1) = omega arith in
-      ap (λ (n : ℕ). same (part a i n) (part b j n)) e ∙ same_add a b i j 16 (16 * (left - 1)) (omega arith) (omega arith)
+-- sixteen of n bytes, and those behind them
+module _ (a b : List ℕ) (i j n : ℕ) (all r : Bool) where
+  ahead : i + n ≤ length a → j + n ≤ length b → (m : ℕ) → n ≡ m + 16
+      → same (part a i n) (part b j n) ≡ (same (part a i 16) (part b j 16) && same (part a (i + 16) m) (part b (j + 16) m))
+  ahead h k m o =
+      let e : n ≡ 16 + m = omega arith in
+      rw e (same_add a b i j 16 m (omega arith) (omega arith))
 
-  pub blocks-done : left ≤ 0 → same (part a i (16 * left)) (part b j (16 * left)) ≡ all → true ≡ all
-  unfolding same
-  blocks-done z e =
-      let l : left ≡ 0 = omega arith in
-      rw l at e
-
-  pub blocks-stop : (r : Bool) → 0 < left → i + 16 * left ≤ length a → j + 16 * left ≤ length b → r ≡ same (part a i 16) (part b j 16) → r ≡ false
-      → same (part a i (16 * left)) (part b j (16 * left)) ≡ all → false ≡ all
-  blocks-stop r z h k e f g =
+  pub blocks-stop : same (part a i n) (part b j n) ≡ all → r ≡ same (part a i 16) (part b j 16) → r ≡ false → 16 ≤ n → i + n ≤ length a
+      → j + n ≤ length b → false ≡ all
+  blocks-stop g e f z h k =
       let q : same (part a i 16) (part b j 16) ≡ false = sym e ∙ f in
-      sym (rw q at (blocks-cons z h k)) ∙ g
+      let o : n ≡ n - 16 + 16 = omega arith in
+      sym (rw q at (ahead h k (n - 16) o)) ∙ g
 
-  pub blocks_step : (r : Bool) → 0 < left → i + 16 * left ≤ length a → j + 16 * left ≤ length b → r ≡ same (part a i 16) (part b j 16) → r ≡ true
-      → same (part a i (16 * left)) (part b j (16 * left)) ≡ all
-      → same (part a (i + 16) (16 * (left - 1))) (part b (j + 16) (16 * (left - 1))) ≡ all
-  blocks_step r z h k e f g =
-      let q : same (part a i 16) (part b j 16) ≡ true = sym e ∙ f in
-      sym (rw q at (blocks-cons z h k)) ∙ g
+  pub blocks_next : (m : ℕ) → same (part a i n) (part b j n) ≡ all → r ≡ same (part a i 16) (part b j 16) → r ≡ true → n ≡ m + 16
+      → i + n ≤ length a → j + n ≤ length b → same (part a (i + 16) m) (part b (j + 16) m) ≡ all
+  blocks_next m g e f o h k =
+      let t : same (part a i 16) (part b j 16) ≡ true = sym e ∙ f in
+      sym (rw t at (ahead h k m o)) ∙ g

@@ -1,5 +1,6 @@
 -- A reader so many times in a row, at a place.
 -- Assumes nothing.
+use Rattle.std.specs.Prelude.{Some, None}
 use Prim.Native.Nat.{ℕ, zero, suc, ◌+◌, ◌-◌, ◌<◌, ◌≤◌}
 use native.Mathlib.Omega.{arith}
 use mathlib.Core.Path.{◌≡◌, refl, ap, ◌∙◌}
@@ -9,7 +10,6 @@ use lib.Seq.{drop-drop}
 use Rattle.layout.specs.Reading.{Parsed, Reader, bad, good, onward, behind, times}
 use Rattle.layout.proofs.Readers.{times-suc-takes}
 use Rattle.parts.specs.Parts.{end_of}
-use Rattle.parts.specs.declared.Place.TheVariants as place
 use Rattle.parts.proofs.Readers.{end_later, end-made}
 
 -- k in a row, of which the first was read, or not
@@ -22,14 +22,14 @@ times-end p (suc left) s at x n h e =
     rw (q, e, drop-drop n at s) (end_later (onward (times left p (drop (at + n) s)) (λ xs m. good (x ∷ xs) m)) at n ∙ end-made (λ xs. x ∷ xs) (times left p (drop (at + n) s)) (at + n))
 
 pub times-stop : {A : Type 0} (p : Reader A) (left : ℕ) (s : List ℕ) (at : ℕ) {m : ℕ} → 0 < left → p (drop at s) ≡ bad m
-    → end_of at (times left p (drop at s)) ≡ place.Broken
+    → end_of at (times left p (drop at s)) ≡ None
 unfolding times onward end_of
 times-stop p zero s at h e = absurd (omega arith)
 times-stop p (suc left) s at h e = rw e
 
-pub times-done : {A : Type 0} (p : Reader A) (left : ℕ) (s : List ℕ) (at : ℕ) → left ≤ 0 → end_of at (times left p (drop at s)) ≡ place.End at
+pub times-done : {A : Type 0} (p : Reader A) (left : ℕ) (s : List ℕ) (at : ℕ) → left ≤ 0 → end_of at (times left p (drop at s)) ≡ Some at
 unfolding times end_of
-times-done p zero s at h = ap place.End (omega arith)
+times-done p zero s at h = ap Some (omega arith)
 times-done p (suc left) s at h = absurd (omega arith)
 
 -- ── What was read so many times, taken apart ──

@@ -1,5 +1,5 @@
 // Parts of lent bytes: where a part ends, whether two are equal, copying.
-#![tactic(auto)]
+#![tactic(auto, using(crate::proofs::Laws::laws))]
 
 ghost use Rattle.std.specs.Prelude.{◌≡◌, ◌+◌, ◌*◌, ◌≤◌, length, take, drop};
 ghost use Rattle.layout.specs.Recording.{same};
@@ -29,14 +29,12 @@ fn same_blocks(a: &[u8], here: usize, b: &[u8], there: usize, blocks: usize) -> 
 {
     let mut i = here;
     let mut j = there;
-    let mut left = blocks;
-    while 0 < left {
+    for block in 0..blocks {
         if !same_sixteen(a, i, b, j) {
             return false;
         }
         i += 16;
         j += 16;
-        left -= 1;
     }
     true
 }
@@ -46,18 +44,7 @@ fn same_bytes(a: &[u8], here: usize, b: &[u8], there: usize, n: usize) -> bool
     requires { (here + n ≤ length a.now) × (there + n ≤ length b.now) }
     ensures { result ≡ same (take n (drop here a.now)) (take n (drop there b.now)) }
 {
-    let mut i = here;
-    let mut j = there;
-    let mut left = n;
-    while 0 < left {
-        if a[i] != b[j] {
-            return false;
-        }
-        i += 1;
-        j += 1;
-        left -= 1;
-    }
-    true
+    a[here..here + n] == b[there..there + n]
 }
 
 // Whether the n bytes at two places are the same; false where either part is not all there.
@@ -100,16 +87,11 @@ pub fn copy(from: &[u8], start: usize, to: &mut [u8], at: usize, n: usize)
     if to.len() - n < at {
         return;
     }
-    let mut i = 0;
-    while i < n {
-        to[at + i] = from[start + i];
-        i += 1;
-    }
+    to[at..at + n].copy_from_slice(&from[start..start + n]);
 }
 
-// What stands from a place on: where it ends.
-#[derive(Clone, Copy)]
-pub enum Place {
-    End(usize),
-    Broken,
+// Where bytes break their rule.
+#[derive(Clone, Copy, Debug, PartialEq, Eq)]
+pub struct Fault {
+    pub place: usize,
 }

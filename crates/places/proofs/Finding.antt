@@ -1,5 +1,6 @@
 -- Names of rows one by one, and the row of a name.
 -- Assumes nothing.
+use Rattle.std.specs.Prelude.{Option, Some, None}
 use Prim.Native.Nat.{ℕ, zero, suc, ◌+◌, ◌-◌, ◌<◌, ◌≤◌}
 use native.Mathlib.Omega.{arith}
 use mathlib.Core.Path.{◌≡◌, refl, ap, sym, ◌∙◌}
@@ -10,30 +11,28 @@ use lib.Seq.{drop-drop}
 use Rattle.layout.specs.Recording.{same, among, distinct}
 use Rattle.layout.specs.Reading.{Parsed, Reader, bad, good}
 use Rattle.rows.specs.Rows.{row_name, row_of}
-use Rattle.names.specs.Names.{found, names}
+use Rattle.names.specs.Names.{found_at, found, names}
 use Rattle.rows.specs.declared.Row.{Row}
 use Rattle.rows.specs.declared.RowPlace.{RowPlace}
-use Rattle.rows.specs.declared.RowPlace.TheVariants as row_place
 use Rattle.names.specs.declared.NameFound.{NameFound}
-use Rattle.names.specs.declared.NameFound.TheVariants as found
 use Rattle.rows.proofs.Laws.{row-parts, row-broken}
-use Rattle.names.proofs.Laws.{names-good}
+use Rattle.names.proofs.Laws.{names-good, found-same}
 use Rattle.number.proofs.Bytes.{both_true}
 use Rattle.layout.proofs.Lists.{same_true, or_right}
 
 -- ── Rows found by their name ──
 
 pub found-more : (name : List ℕ) (n : ℕ) (p : Reader (List ℕ)) (s : List ℕ) (i at : ℕ) (v : List ℕ) (m : ℕ) → p (drop at s) ≡ good v m
-    → found name (suc n) p s i at ≡ cond (same name v) (found.At i at) (found name n p s (i + 1) (at + m))
+    → found name (suc n) p s i at ≡ cond (same name v) (found_at i at) (found name n p s (i + 1) (at + m))
 unfolding found
 found-more name n p s i at v m e = rw (e, found)
 
 pub found_none : (name : List ℕ) (n : ℕ) (p : Reader (List ℕ)) (s : List ℕ) (i at : ℕ) {j : ℕ} → p (drop at s) ≡ bad j
-    → found name (suc n) p s i at ≡ found.Nothing
+    → found name (suc n) p s i at ≡ None
 unfolding found
 found_none name n p s i at e = rw (e, found)
 
-pub no_found : (name : List ℕ) (p : Reader (List ℕ)) (s : List ℕ) (i at : ℕ) → found name 0 p s i at ≡ found.Nothing
+pub no_found : (name : List ℕ) (p : Reader (List ℕ)) (s : List ℕ) (i at : ℕ) → found name 0 p s i at ≡ None
 unfolding found
 no_found name p s i at = refl
 
@@ -63,17 +62,17 @@ pub names-done : (k : Row) (s : List ℕ) (at left : ℕ) → left ≤ 0 → nam
 names-done k s at zero h = no_names (row_name k) (drop at s)
 names-done k s at (suc left) h = absurd (omega arith)
 
-pub names-stop : (k : Row) (s : List ℕ) (at left : ℕ) (r : RowPlace) → r ≡ row_of at (row_name k (drop at s)) → r ≡ row_place.Broken
+pub names-stop : (k : Row) (s : List ℕ) (at left : ℕ) (r : Option RowPlace) → r ≡ row_of at (row_name k (drop at s)) → r ≡ None
     → names left (row_name k) (drop at s) ≡ []
 names-stop k s at zero r e f = no_names (row_name k) (drop at s)
 names-stop k s at (suc left) r e f = names-none left (row_name k) (drop at s) (row-broken (row_name k (drop at s)) at (sym e ∙ f)).1
 
-pub names-step : (k : Row) (s : List ℕ) (at left len end : ℕ) (r : RowPlace) → 0 < left → r ≡ row_of at (row_name k (drop at s))
-    → r ≡ row_place.Whole len end → names left (row_name k) (drop at s) ≡ take len (drop (at + 1) s) ∷ names (left - 1) (row_name k) (drop end s)
-names-step k s at left len end r h e f =
-    let (l, m, p, w) = row-parts k s at len end (sym e ∙ f) in
-    names-good k s at left m (take len (drop (at + 1) s)) h p
-    ∙ ap (λ (x : ℕ). take len (drop (at + 1) s) ∷ names (left - 1) (row_name k) (drop x s)) (sym w)
+pub names-step : (k : Row) (s : List ℕ) (at left : ℕ) (p : RowPlace) (r : Option RowPlace) → r ≡ row_of at (row_name k (drop at s)) → r ≡ Some p
+    → 0 < left → names left (row_name k) (drop at s) ≡ take p.name (drop (at + 1) s) ∷ names (left - 1) (row_name k) (drop p.end s)
+names-step k s at left p r e f h =
+    let (l, m, x, w) = row-parts k s at p.name p.end (sym e ∙ f) in
+    names-good k s at left m (take p.name (drop (at + 1) s)) h x
+    ∙ ap (λ (y : ℕ). take p.name (drop (at + 1) s) ∷ names (left - 1) (row_name k) (drop y s)) (sym w)
 
 -- ── A row that is found ──
 
@@ -92,20 +91,19 @@ pub names-next : (n : ℕ) (p : Reader (List ℕ)) (s : List ℕ) (at : ℕ) (v 
 names-next n p s at v m e = names_more n p (drop at s) v m e ∙ rw (drop-drop m at s)
 
 -- it has the name, and its number, and stands no further ahead than the first
-pub found-parts : {G : Type 0} (v : List ℕ) (n : ℕ) (p : Reader (List ℕ)) (s : List ℕ) (i at j q : ℕ) → found v n p s i at ≡ found.At j q
+pub found-parts : {G : Type 0} (v : List ℕ) (n : ℕ) (p : Reader (List ℕ)) (s : List ℕ) (i at j q : ℕ) → found v n p s i at ≡ found_at j q
     → ((c : ℕ) → j ≡ i + c → c < length (names n p (drop at s)) → same v (get_or (names n p (drop at s)) c []) ≡ true → at ≤ q → G) → G
 found-parts v zero p s i at j q e w = let o = no_found v p s i at in let z : ◌≡◌ {A = ℕ} 0 1 = cc in absurd (omega arith)
 found-parts {G} v (suc n) p s i at j q e w = go (p (drop at s)) refl (found-parts {G = G} v n p s (i + 1))
   where
-    go : (r : Parsed (List ℕ)) → p (drop at s) ≡ r → ((at j q : ℕ) → found v n p s (i + 1) at ≡ found.At j q
+    go : (r : Parsed (List ℕ)) → p (drop at s) ≡ r → ((at j q : ℕ) → found v n p s (i + 1) at ≡ found_at j q
         → ((c : ℕ) → j ≡ i + 1 + c → c < length (names n p (drop at s)) → same v (get_or (names n p (drop at s)) c []) ≡ true → at ≤ q → G) → G) → G
     go (bad j) f ih = let o = found_none v n p s i at f in let z : ◌≡◌ {A = ℕ} 0 1 = cc in absurd (omega arith)
     go (good x m) f ih = pick (same v x) refl (sym (found-more v n p s i at x m f) ∙ e)
       where
-        pick : (b : Bool) → same v x ≡ b → cond b (found.At i at) (found v n p s (i + 1) (at + m)) ≡ found.At j q → G
+        pick : (b : Bool) → same v x ≡ b → cond b (found_at i at) (found v n p s (i + 1) (at + m)) ≡ found_at j q → G
         pick true h g =
-            let a : i ≡ j = cc in
-            let b : at ≡ q = cc in
+            let (a, b) = found-same i at j q g in
             w 0 (omega arith) (rw (names-next n p s at x m f) (omega arith)) (rw (names-next n p s at x m f) h) (omega arith)
         pick false h g =
             ih (at + m) j q g (λ c a l t o. w (suc c) (omega arith) (rw (names-next n p s at x m f) (omega arith))
@@ -113,14 +111,14 @@ found-parts {G} v (suc n) p s i at j q e w = go (p (drop at s)) refl (found-part
 
 -- where no two names are equal, the row of a name is the one that is found
 pub found-only : (v : List ℕ) (n : ℕ) (p : Reader (List ℕ)) (s : List ℕ) (i at c : ℕ) → distinct (names n p (drop at s)) ≡ true
-    → c < length (names n p (drop at s)) → same v (get_or (names n p (drop at s)) c []) ≡ true → (q : ℕ) × (found v n p s i at ≡ found.At (i + c) q)
+    → c < length (names n p (drop at s)) → same v (get_or (names n p (drop at s)) c []) ≡ true → (q : ℕ) × (found v n p s i at ≡ found_at (i + c) q)
 unfolding distinct
 found-only v zero p s i at c d l t = let o : length (names 0 p (drop at s)) ≡ 0 = ap length (no_names p (drop at s)) in absurd (omega arith)
 found-only v (suc n) p s i at c d l t = go (p (drop at s)) refl (found-only v n p s (i + 1))
   where
     go : (r : Parsed (List ℕ)) → p (drop at s) ≡ r → ((at c : ℕ) → distinct (names n p (drop at s)) ≡ true → c < length (names n p (drop at s))
-        → same v (get_or (names n p (drop at s)) c []) ≡ true → (q : ℕ) × (found v n p s (i + 1) at ≡ found.At (i + 1 + c) q))
-        → (q : ℕ) × (found v (suc n) p s i at ≡ found.At (i + c) q)
+        → same v (get_or (names n p (drop at s)) c []) ≡ true → (q : ℕ) × (found v n p s (i + 1) at ≡ found_at (i + 1 + c) q))
+        → (q : ℕ) × (found v (suc n) p s i at ≡ found_at (i + c) q)
     go (bad j) f ih = let o : length (names (suc n) p (drop at s)) ≡ 0 = ap length (names-none n p (drop at s) f) in absurd (omega arith)
     go (good x m) f ih = pick c (same v x) refl (rw (names-next n p s at x m f) at l) (rw (names-next n p s at x m f) at t)
       where
@@ -128,8 +126,8 @@ found-only v (suc n) p s i at c d l t = go (p (drop at s)) refl (found-only v n 
         apart = both_true (not (among x (names n p (drop (at + m) s)))) (distinct (names n p (drop (at + m) s))) (rw (names-next n p s at x m f) at d)
 
         pick : (c : ℕ) (b : Bool) → same v x ≡ b → c < length (x ∷ names n p (drop (at + m) s))
-            → same v (get_or (x ∷ names n p (drop (at + m) s)) c []) ≡ true → (q : ℕ) × (found v (suc n) p s i at ≡ found.At (i + c) q)
-        pick zero true h k u = (at, found-more v n p s i at x m f ∙ rw h (ap (λ (z : ℕ). found.At z at) (omega arith)))
+            → same v (get_or (x ∷ names n p (drop (at + m) s)) c []) ≡ true → (q : ℕ) × (found v (suc n) p s i at ≡ found_at (i + c) q)
+        pick zero true h k u = (at, found-more v n p s i at x m f ∙ rw h (ap (λ (z : ℕ). found_at z at) (omega arith)))
         pick zero false h k u = absurd (false-true (sym h ∙ u))
         pick (suc c) true h k u =
             let a : v ≡ x = same_true v x h in
@@ -137,7 +135,7 @@ found-only v (suc n) p s i at c d l t = go (p (drop at s)) refl (found-only v n 
             absurd (false-true (sym (ap not b) ∙ apart.0))
         pick (suc c) false h k u =
             let (q, g) = ih (at + m) c apart.1 (omega arith) u in
-            (q, found-more v n p s i at x m f ∙ rw h (g ∙ ap (λ (z : ℕ). found.At z q) (omega arith)))
+            (q, found-more v n p s i at x m f ∙ rw h (g ∙ ap (λ (z : ℕ). found_at z q) (omega arith)))
 
 -- ── Rows that break off: the whole ones say all ──
 
@@ -163,5 +161,5 @@ found-whole name (suc k) p s i at = go (p (drop at s)) refl (found-whole name k 
     go (good v m) e ih =
         rw (names-next k p s at v m e)
         (found-more name (length (names k p (drop (at + m) s))) p s i at v m e
-        ∙ ap (λ (f : NameFound). cond (same name v) (found.At i at) f) (ih (at + m))
+        ∙ ap (λ (f : Option NameFound). cond (same name v) (found_at i at) f) (ih (at + m))
         ∙ sym (found-more name k p s i at v m e))

@@ -1,5 +1,6 @@
 -- The list of the tags that changes name: word by word, and that in a table without equal names it has three words at most for each change.
 -- Assumes nothing.
+use Rattle.std.specs.Prelude.{Option, Some, None, is_some}
 use Prim.Native.Nat.{ℕ, zero, suc, ◌+◌, ◌*◌, ◌-◌, ◌<◌, ◌≤◌}
 use native.Mathlib.Omega.{arith}
 use mathlib.Core.Path.{◌≡◌, refl, ap, sym, ◌∙◌}
@@ -15,30 +16,29 @@ use Rattle.parts.proofs.Times.{times-parts}
 use Rattle.rows.specs.Rows.{row_name}
 use Rattle.rows.specs.declared.Row.TheVariants as row
 use Rattle.names.specs.declared.NameFound.{NameFound}
-use Rattle.names.specs.declared.NameFound.TheVariants as found
-use Rattle.names.proofs.Laws.{is_found, among-found}
+use Rattle.names.proofs.Laws.{among-found}
 use Rattle.names.proofs.Finding.{same-sym}
 use Rattle.places.specs.Places.{tag_names_at, change_names_at, change_found, Listed, listing, words_for, ahead, listed_by, listed_in, left_after, listed_to}
 use Rattle.places.proofs.Finding.{names-none, no_names, names-next, false-true}
 
 -- ── Tag by tag ──
 
-pub list-end : (change : List ℕ → NameFound) (t : List ℕ) (at i : ℕ) → listed_by change 0 t at i ≡ listing [] i at
+pub list-end : (change : List ℕ → Option NameFound) (t : List ℕ) (at i : ℕ) → listed_by change 0 t at i ≡ listing [] i at
 unfolding listed_by
 list-end change t at i = refl
 
-pub list-broken : (change : List ℕ → NameFound) (n : ℕ) (t : List ℕ) (at i : ℕ) {j : ℕ} → row_name row.Tag (drop at t) ≡ bad j
+pub list-broken : (change : List ℕ → Option NameFound) (n : ℕ) (t : List ℕ) (at i : ℕ) {j : ℕ} → row_name row.Tag (drop at t) ≡ bad j
     → listed_by change (suc n) t at i ≡ listing [] i at
 unfolding listed_by
 list-broken change n t at i e = rw (e, listed_by)
 
-pub list-more : (change : List ℕ → NameFound) (n : ℕ) (t : List ℕ) (at i : ℕ) (v : List ℕ) (m : ℕ) → row_name row.Tag (drop at t) ≡ good v m
+pub list-more : (change : List ℕ → Option NameFound) (n : ℕ) (t : List ℕ) (at i : ℕ) (v : List ℕ) (m : ℕ) → row_name row.Tag (drop at t) ≡ good v m
     → listed_by change (suc n) t at i ≡ ahead (words_for (change v) i at) (listed_by change n t (at + m) (i + 1))
 unfolding listed_by
 list-more change n t at i v m e = rw (e, listed_by)
 
 -- where n tags were read, they are all whole, and end there
-pub list_read : (change : List ℕ → NameFound) (n : ℕ) (t : List ℕ) (at i : ℕ) (vs : List (List ℕ)) (m : ℕ)
+pub list_read : (change : List ℕ → Option NameFound) (n : ℕ) (t : List ℕ) (at i : ℕ) (vs : List (List ℕ)) (m : ℕ)
     → times n (row_name row.Tag) (drop at t) ≡ good vs m → ((listed_by change n t at i).tags ≡ i + n) × ((listed_by change n t at i).end ≡ at + m)
 unfolding ahead times
 list_read change zero t at i vs m e =
@@ -107,10 +107,10 @@ shared-few (c ∷ cs) ns d =
     let e = shared-few cs ns d in
     omega arith
 
-words-length : (f : NameFound) (i tag : ℕ) → length (words_for f i tag) ≡ 3 * cond (is_found f) 1 0
+words-length : (f : Option NameFound) (i tag : ℕ) → length (words_for f i tag) ≡ 3 * cond (is_some f) 1 0
 unfolding words_for
-words-length (found.At c p) i tag = refl
-words-length found.Nothing i tag = refl
+words-length (Some f) i tag = refl
+words-length None i tag = refl
 
 list-shared : (sheet : List ℕ) (k n : ℕ) (t : List ℕ) (at i : ℕ)
     → length (listed_by (change_found sheet k) n t at i).words ≡ 3 * shared (change_names_at sheet k) (tag_names_at t at n)
@@ -141,39 +141,39 @@ list-few sheet k n t at d =
 
 -- ── Up to as many as there are changes ──
 
-pub to_end : (change : List ℕ → NameFound) (k : ℕ) (t : List ℕ) (at i : ℕ) → listed_to change k 0 t at i ≡ []
+pub to_end : (change : List ℕ → Option NameFound) (k : ℕ) (t : List ℕ) (at i : ℕ) → listed_to change k 0 t at i ≡ []
 unfolding listed_to
 to_end change k t at i = refl
 
-pub to-all : (change : List ℕ → NameFound) (n : ℕ) (t : List ℕ) (at i : ℕ) → listed_to change 0 n t at i ≡ []
+pub to-all : (change : List ℕ → Option NameFound) (n : ℕ) (t : List ℕ) (at i : ℕ) → listed_to change 0 n t at i ≡ []
 unfolding listed_to
 to-all change zero t at i = refl
 to-all change (suc n) t at i = refl
 
-pub to-broken : (change : List ℕ → NameFound) (k n : ℕ) (t : List ℕ) (at i : ℕ) {j : ℕ} → row_name row.Tag (drop at t) ≡ bad j
+pub to-broken : (change : List ℕ → Option NameFound) (k n : ℕ) (t : List ℕ) (at i : ℕ) {j : ℕ} → row_name row.Tag (drop at t) ≡ bad j
     → listed_to change k n t at i ≡ []
 unfolding listed_to
 to-broken change k zero t at i e = refl
 to-broken change zero (suc n) t at i e = refl
 to-broken change (suc k) (suc n) t at i e = rw (e, listed_to)
 
-pub to-more : (change : List ℕ → NameFound) (k n : ℕ) (t : List ℕ) (at i : ℕ) (v : List ℕ) (m : ℕ) → row_name row.Tag (drop at t) ≡ good v m
+pub to-more : (change : List ℕ → Option NameFound) (k n : ℕ) (t : List ℕ) (at i : ℕ) (v : List ℕ) (m : ℕ) → row_name row.Tag (drop at t) ≡ good v m
     → listed_to change (suc k) (suc n) t at i ≡ words_for (change v) i at ++ listed_to change (left_after (change v) (suc k)) n t (at + m) (i + 1)
 unfolding listed_to
 to-more change k n t at i v m e = rw (e, listed_to)
 
 -- three words for each change that finds its tag
-pub after-words : (f : NameFound) (i tag k : ℕ) → 0 < k → length (words_for f i tag) + 3 * left_after f k ≡ 3 * k
+pub after-words : (f : Option NameFound) (i tag k : ℕ) → 0 < k → length (words_for f i tag) + 3 * left_after f k ≡ 3 * k
 unfolding words_for left_after
-after-words (found.At c p) i tag k h = omega arith
-after-words found.Nothing i tag k h = omega arith
+after-words (Some f) i tag k h = omega arith
+after-words None i tag k h = omega arith
 
 no_words : (l : List ℕ) → length l ≤ 0 → [] ≡ l
 no_words [] h = refl
 no_words (x ∷ l) h = absurd (omega arith)
 
 -- where there are no more of them, these are all
-pub to_whole : (change : List ℕ → NameFound) (n k : ℕ) (t : List ℕ) (at i : ℕ) → length (listed_by change n t at i).words ≤ 3 * k
+pub to_whole : (change : List ℕ → Option NameFound) (n k : ℕ) (t : List ℕ) (at i : ℕ) → length (listed_by change n t at i).words ≤ 3 * k
     → listed_to change k n t at i ≡ (listed_by change n t at i).words
 unfolding ahead words_for left_after
 to_whole change zero k t at i h = to_end change k t at i ∙ sym (ap (λ (z : Listed). z.words) (list-end change t at i))
@@ -188,10 +188,10 @@ to_whole change (suc n) (suc k) t at i h = go (row_name row.Tag (drop at t)) ref
         to-more change k n t at i v m e ∙ pick (change v) (rw (list-more change n t at i v m e) at h)
         ∙ sym (ap (λ (z : Listed). z.words) (list-more change n t at i v m e))
       where
-        pick : (f : NameFound) → length (ahead (words_for f i at) (listed_by change n t (at + m) (i + 1))).words ≤ 3 * suc k
+        pick : (f : Option NameFound) → length (ahead (words_for f i at) (listed_by change n t (at + m) (i + 1))).words ≤ 3 * suc k
             → words_for f i at ++ listed_to change (left_after f (suc k)) n t (at + m) (i + 1) ≡ (ahead (words_for f i at)
             (listed_by change n t (at + m) (i + 1))).words
-        pick found.Nothing l = ih (suc k) t (at + m) (i + 1) l
-        pick (found.At c q) l =
+        pick None l = ih (suc k) t (at + m) (i + 1) l
+        pick (Some f) l =
             let j : suc k - 1 ≡ k = omega arith in
-            rw j (ap (λ (z : List ℕ). i ∷ at ∷ q ∷ z) (ih k t (at + m) (i + 1) (omega arith)))
+            rw j (ap (λ (z : List ℕ). i ∷ at ∷ f.place ∷ z) (ih k t (at + m) (i + 1) (omega arith)))

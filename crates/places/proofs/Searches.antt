@@ -1,230 +1,178 @@
 -- The search of a sheet by the marks and the places of its changes.
 -- Assumes nothing.
-use Prim.Native.Nat.{ℕ, zero, suc, ◌+◌, ◌-◌, ◌^◌, ◌<◌, ◌≤◌}
+use Rattle.std.specs.Prelude.{Option, Some, None, is_some}
+use Prim.Native.Nat.{ℕ, zero, suc, ◌+◌, ◌-◌, ◌<◌, ◌≤◌}
 use native.Mathlib.Omega.{arith}
 use mathlib.Core.Path.{◌≡◌, refl, ap, sym, ◌∙◌}
 use mathlib.Core.Bool.{Bool, true, false, ◌||◌, cond}
 use mathlib.Core.List.{List, [], ◌∷◌, map}
 use lib.ListN.{length, take, drop, get_or, set, replicate, length-set, length-replicate}
-use lib.Seq.{get_or-set_same, get_or-set_other}
+use lib.Seq.{drop-cons, sets, sets-eq, length-sets, take-append_seam}
 use borrow.Author.Rules.{rules}
-use mir.Syntax.{w64}
-use mir.Val.{Fits}
 use Rattle.marks.specs.Marks.{mark_for, mark_of, with_mark}
-use Rattle.marks.proofs.Laws.{of-there, length_marked}
+use Rattle.marks.proofs.Laws.{of-there}
 use Rattle.layout.specs.Recording.{same, among}
 use Rattle.layout.specs.Reading.{Parsed, bad, good}
 use Rattle.layout.proofs.Lists.{same_true}
 use Rattle.rows.specs.Rows.{row_name, row_of}
-use Rattle.names.specs.Names.{names, found, find_name}
+use Rattle.names.specs.Names.{names, found_at, found, find_name}
 use Rattle.rows.specs.declared.Row.TheVariants as row
 use Rattle.rows.specs.declared.RowPlace.{RowPlace}
-use Rattle.rows.specs.declared.RowPlace.TheVariants as row_place
 use Rattle.names.specs.declared.NameFound.{NameFound}
-use Rattle.names.specs.declared.NameFound.TheVariants as found
+use Rattle.places.specs.declared.Change.{Change}
 use Rattle.rows.proofs.Laws.{row-parts, row-broken}
-use Rattle.names.proofs.Laws.{is_found, among-found, find-there, row-name-there, row-name-place}
-use Rattle.places.specs.Places.{change_names_at, change_mark, change_start, stored, Kept, Known}
-use Rattle.places.proofs.Finding.{found-more, no_found, names-none, no_names, names-next, names-few, names-done, names-stop, names-step, names-whole}
-use Rattle.places.proofs.Walks.{mark-done, mark-stop, mark-step, change-unmarked}
+use Rattle.names.proofs.Laws.{among-found, find-there, row-name-there, row-name-place}
+use Rattle.places.specs.Places.{change_names_at, change_found, all_marked, changes_from, Marked}
+use Rattle.places.proofs.Finding.{found-more, no_found, names-none, no_names, names-next, names-few, names-done, names-stop, names-step}
+use Rattle.places.proofs.Walks.{change-unmarked, marks-cover}
 
--- ── What is stored, change by change ──
+-- ── The whole changes, one by one ──
 
-module _ (f : List ℕ → ℕ → ℕ) where
-  stored_more : (n : ℕ) (s : List ℕ) (at : ℕ) (ps : List ℕ) (i : ℕ) (v : List ℕ) (m : ℕ) → row_name row.Change (drop at s) ≡ good v m
-      → stored f (suc n) s at ps i ≡ stored f n s (at + m) (set ps i (f v at)) (i + 1)
-  unfolding stored
-  stored_more n s at ps i v m e = rw (e, stored)
+abbrev change : (mark place : ℕ) → Change
+change m p = record { mark = m; place = p }
 
-  stored-none : (n : ℕ) (s : List ℕ) (at : ℕ) (ps : List ℕ) (i : ℕ) {j : ℕ} → row_name row.Change (drop at s) ≡ bad j → stored f (suc n) s at ps i ≡ ps
-  unfolding stored
-  stored-none n s at ps i e = rw (e, stored)
+from-none : (s : List ℕ) (at : ℕ) → changes_from 0 s at ≡ []
+unfolding changes_from
+from-none s at = refl
 
-  not-stored : (s : List ℕ) (at : ℕ) (ps : List ℕ) (i : ℕ) → stored f 0 s at ps i ≡ ps
-  unfolding stored
-  not-stored s at ps i = refl
+from-bad : (n : ℕ) (s : List ℕ) (at : ℕ) {j : ℕ} → row_name row.Change (drop at s) ≡ bad j → changes_from n s at ≡ []
+unfolding changes_from
+from-bad zero s at e = refl
+from-bad (suc n) s at e = rw (e, changes_from)
 
-  -- nothing ahead of the number is touched
-  stored-before : (n : ℕ) (s : List ℕ) (at : ℕ) (ps : List ℕ) (i j : ℕ) → j < i → get_or (stored f n s at ps i) j 0 ≡ get_or ps j 0
-  stored-before zero s at ps i j h = ap (λ (x : List ℕ). get_or x j 0) (not-stored s at ps i)
-  stored-before (suc n) s at ps i j h = go (row_name row.Change (drop at s)) refl (stored-before n s)
-    where
-      go : (r : Parsed (List ℕ)) → row_name row.Change (drop at s) ≡ r
-          → ((at : ℕ) (ps : List ℕ) (i j : ℕ) → j < i → get_or (stored f n s at ps i) j 0 ≡ get_or ps j 0)
-          → get_or (stored f (suc n) s at ps i) j 0 ≡ get_or ps j 0
-      go (bad k) e ih = ap (λ (x : List ℕ). get_or x j 0) (stored-none n s at ps i e)
-      go (good v m) e ih =
-          ap (λ (x : List ℕ). get_or x j 0) (stored_more n s at ps i v m e)
-          ∙ ih (at + m) (set ps i (f v at)) (i + 1) j (omega arith)
-          ∙ get_or-set_other ps i j (f v at) 0 (λ o. omega arith)
+from-good : (n : ℕ) (s : List ℕ) (at : ℕ) (v : List ℕ) (m : ℕ) → row_name row.Change (drop at s) ≡ good v m
+    → changes_from (suc n) s at ≡ change (mark_for v) at ∷ changes_from n s (at + m)
+unfolding changes_from
+from-good n s at v m e = rw (e, changes_from)
 
-  stored-length : (n : ℕ) (s : List ℕ) (at : ℕ) (ps : List ℕ) (i : ℕ) → length (stored f n s at ps i) ≡ length ps
-  stored-length zero s at ps i = ap length (not-stored s at ps i)
-  stored-length (suc n) s at ps i = go (row_name row.Change (drop at s)) refl (stored-length n s)
-    where
-      go : (r : Parsed (List ℕ)) → row_name row.Change (drop at s) ≡ r
-          → ((at : ℕ) (ps : List ℕ) (i : ℕ) → length (stored f n s at ps i) ≡ length ps) → length (stored f (suc n) s at ps i) ≡ length ps
-      go (bad j) e ih = ap length (stored-none n s at ps i e)
-      go (good v m) e ih = ap length (stored_more n s at ps i v m e) ∙ ih (at + m) (set ps i (f v at)) (i + 1) ∙ length-set ps i (f v at)
+-- as many as there are names
+from-names : (n : ℕ) (s : List ℕ) (at : ℕ) → length (changes_from n s at) ≡ length (names n (row_name row.Change) (drop at s))
+from-names zero s at = rw (from-none s at, no_names (row_name row.Change) (drop at s))
+from-names (suc n) s at = go (row_name row.Change (drop at s)) refl (from-names n s)
+  where
+    go : (r : Parsed (List ℕ)) → row_name row.Change (drop at s) ≡ r
+        → ((at : ℕ) → length (changes_from n s at) ≡ length (names n (row_name row.Change) (drop at s)))
+        → length (changes_from (suc n) s at) ≡ length (names (suc n) (row_name row.Change) (drop at s))
+    go (bad j) e ih = rw (from-bad (suc n) s at e, names-none n (row_name row.Change) (drop at s) e)
+    go (good v m) e ih = rw (from-good n s at v m e, names-next n (row_name row.Change) s at v m e) (ap suc (ih (at + m)))
 
-  pub stored-whole : (n : ℕ) (s : List ℕ) (at : ℕ) (ps : List ℕ) (i : ℕ)
-      → stored f (length (names n (row_name row.Change) (drop at s))) s at ps i ≡ stored f n s at ps i
-  stored-whole zero s at ps i = rw (no_names (row_name row.Change) (drop at s))
-  stored-whole (suc n) s at ps i = go (row_name row.Change (drop at s)) refl (stored-whole n s)
-    where
-      go : (r : Parsed (List ℕ)) → row_name row.Change (drop at s) ≡ r
-          → ((at : ℕ) (ps : List ℕ) (i : ℕ) → stored f (length (names n (row_name row.Change) (drop at s))) s at ps i ≡ stored f n s at ps i)
-          → stored f (length (names (suc n) (row_name row.Change) (drop at s))) s at ps i ≡ stored f (suc n) s at ps i
-      go (bad j) e ih = rw (names-none n (row_name row.Change) (drop at s) e) (not-stored s at ps i ∙ sym (stored-none n s at ps i e))
-      go (good v m) e ih =
-          rw (names-next n (row_name row.Change) s at v m e)
-          (stored_more (length (names n (row_name row.Change) (drop (at + m) s))) s at ps i v m e ∙ ih (at + m) (set ps i (f v at)) (i + 1)
-          ∙ sym (stored_more n s at ps i v m e))
+-- the whole ones say all
+from-whole : (n : ℕ) (s : List ℕ) (at : ℕ) → changes_from (length (changes_from n s at)) s at ≡ changes_from n s at
+from-whole zero s at = rw (from-none s at) (from-none s at)
+from-whole (suc n) s at = go (row_name row.Change (drop at s)) refl (from-whole n s)
+  where
+    go : (r : Parsed (List ℕ)) → row_name row.Change (drop at s) ≡ r
+        → ((at : ℕ) → changes_from (length (changes_from n s at)) s at ≡ changes_from n s at)
+        → changes_from (length (changes_from (suc n) s at)) s at ≡ changes_from (suc n) s at
+    go (bad j) e ih = rw (from-bad (suc n) s at e) (from-none s at)
+    go (good v m) e ih =
+        rw (from-good n s at v m e) (from-good (length (changes_from n s (at + m))) s at v m e
+        ∙ ap (λ (l : List Change). change (mark_for v) at ∷ l) (ih (at + m)))
 
-  kept-room : (s : List ℕ) (at n : ℕ) (ps : List ℕ) (i : ℕ) → Kept f s at n ps i → i + n ≤ length ps
-  kept-room s at n ps i k =
-      let l : length ps ≡ length k.before = ap length k.stores ∙ stored-length n s at k.before i in
-      let r = k.room in
-      omega arith
+-- ── Marking them ──
 
-  kept_next : (s : List ℕ) (at n : ℕ) (ps : List ℕ) (i : ℕ) (v : List ℕ) (m : ℕ) → row_name row.Change (drop at s) ≡ good v m
-      → Kept f s at (suc n) ps i → (get_or ps i 0 ≡ f v at) × Kept f s (at + m) n ps (i + 1)
-  kept_next s at n ps i v m e k =
-      let a : ps ≡ stored f n s (at + m) (set k.before i (f v at)) (i + 1) = k.stores ∙ stored_more n s at k.before i v m e in
-      let r = k.room in
-      let l = length-set k.before i (f v at) in (
-        ap (λ (x : List ℕ). get_or x i 0) a ∙ stored-before n s (at + m) (set k.before i (f v at)) (i + 1) i (omega arith)
-            ∙ get_or-set_same k.before i (f v at) 0 (omega arith),
-        record { before = set k.before i (f v at); room = omega arith; stores = a },
-      )
+-- what is marked and stored so far, and what is left to do
+pub record Marking (sheet : List ℕ) (count : ℕ) (filter₀ filter : List ℕ) (changes₀ changes : List Change) (place passed : ℕ) : Type 0 where
+  pub room : count ≤ length changes
+  pub told : passed + length (changes_from (count - passed) sheet place) ≡ length (changes_from count sheet 1)
+  pub marks : all_marked (names (count - passed) (row_name row.Change) (drop place sheet)) filter ≡ all_marked (change_names_at sheet count) filter₀
+  pub stores : sets changes passed (changes_from (count - passed) sheet place) ≡ sets changes₀ 0 (changes_from count sheet 1)
 
--- ── Storing it ──
+module _ (sheet : List ℕ) (count : ℕ) (filter₀ : List ℕ) (changes₀ : List Change) where
+  -- what the call gives
+  abbrev pub AllMarked : (whole : ℕ) → (filter : List ℕ) → (changes : List Change) → Type 0
+  AllMarked whole filter changes = (whole ≡ length (changes_from count sheet 1)) × (filter ≡ all_marked (change_names_at sheet count) filter₀)
+      × (changes ≡ sets changes₀ 0 (changes_from count sheet 1))
 
-pub mark-long : (ms₀ ms after : List ℕ) (m : ℕ) → after ≡ with_mark ms m → length ms ≡ length ms₀ → length after ≡ length ms₀
-mark-long ms₀ ms after m e f = ap length e ∙ length_marked ms m ∙ f
+  pub marking_start : count ≤ length changes₀ → Marking sheet count filter₀ filter₀ changes₀ changes₀ 1 0
+  marking_start h =
+      let q : count - 0 ≡ count = omega arith in
+      record { room = h; told = rw q (omega arith); marks = rw q; stores = rw q }
 
--- the whole changes, counted one by one
-module _ (sheet : List ℕ) (place passed left all : ℕ) (e : passed + length (names left (row_name row.Change) (drop place sheet)) ≡ all) where
-  pub whole-done : left ≤ 0 → passed ≡ all
-  whole-done h = let o : length (names left (row_name row.Change) (drop place sheet)) ≡ 0 =
-      ap length (names-done row.Change sheet place left h) in omega arith
+  module _ (filter : List ℕ) (changes : List Change) (place passed : ℕ) (w : Marking sheet count filter₀ filter changes₀ changes place passed) where
+    ended : changes_from (count - passed) sheet place ≡ [] → names (count - passed) (row_name row.Change) (drop place sheet) ≡ []
+        → AllMarked passed filter changes
+    unfolding all_marked
+    ended e f =
+        let a = w.told in
+        let b = ap length e in (
+          omega arith,
+          sym (ap (λ (ns : List (List ℕ)). all_marked ns filter) f) ∙ w.marks,
+          sym (ap (λ (l : List Change). sets changes passed l) e) ∙ w.stores,
+        )
 
-  pub whole-stop : (r : RowPlace) → r ≡ row_of place (row_name row.Change (drop place sheet)) → r ≡ row_place.Broken → passed ≡ all
-  whole-stop r f g = let o : length (names left (row_name row.Change) (drop place sheet)) ≡ 0 =
-      ap length (names-stop row.Change sheet place left r f g) in omega arith
+    pub marked-all : count ≤ passed → passed ≤ count → AllMarked count filter changes
+    marked-all h l =
+        let q : count - passed ≡ 0 = omega arith in
+        let p : passed ≡ count = omega arith in
+        let e = ended (rw q (from-none sheet place)) (names-done row.Change sheet place (count - passed) (omega arith)) in
+        (sym p ∙ e.0, e.1, e.2)
 
-  pub whole-step : (len end : ℕ) (r : RowPlace) → 0 < left → r ≡ row_of place (row_name row.Change (drop place sheet)) → r ≡ row_place.Whole len end
-      → passed + 1 + length (names (left - 1) (row_name row.Change) (drop end sheet)) ≡ all
-  whole-step len end r h f g =
-      let o : length (names left (row_name row.Change) (drop place sheet)) ≡ suc
-      (length (names (left - 1) (row_name row.Change) (drop end sheet))) =
-      ap length (names-step row.Change sheet place left len end r h f g) in
-      omega arith
+    pub marked-stop : (r : Option RowPlace) → r ≡ row_of place (row_name row.Change (drop place sheet)) → r ≡ None → AllMarked passed filter changes
+    marked-stop r e f =
+        ended (from-bad (count - passed) sheet place (row-broken (row_name row.Change (drop place sheet)) place (sym e ∙ f)).1)
+        (names-stop row.Change sheet place (count - passed) r e f)
 
--- what is stored so far, and what is left to store
-pub record Storing (f : List ℕ → ℕ → ℕ) (sheet : List ℕ) (k : ℕ) (ps₀ ps : List ℕ) (place passed left : ℕ) : Type 0 where
-  pub room : passed + left ≤ length ps
-  pub long : length ps ≡ length ps₀
-  pub rest : stored f left sheet place ps passed ≡ stored f k sheet 1 ps₀ 0
+    pub marking-step : (after : List ℕ) (m : ℕ) (p : RowPlace) (r : Option RowPlace) → passed < count
+        → r ≡ row_of place (row_name row.Change (drop place sheet)) → r ≡ Some p → m ≡ mark_of sheet (place + 1) p.name → after ≡ with_mark filter m
+        → Marking sheet count filter₀ after changes₀ (set changes passed (change m place)) p.end (passed + 1)
+    unfolding all_marked
+    marking-step after m p r h a b c d =
+        let (x, j, q, o) = row-parts row.Change sheet place p.name p.end (sym a ∙ b) in
+        let name : List ℕ = take p.name (drop (place + 1) sheet) in
+        let n : m ≡ mark_for name = c ∙ of-there sheet (place + 1) p.name x in
+        let left : count - (passed + 1) ≡ count - passed - 1 = omega arith in
+        let some : count - passed ≡ suc (count - passed - 1) = omega arith in
+        let e : changes_from (count - passed) sheet place ≡ change (mark_for name) place ∷ changes_from (count - passed - 1) sheet p.end =
+        ap (λ (l : ℕ). changes_from l sheet place) some ∙ rw o (from-good (count - passed - 1) sheet place name j q) in
+        let s = w.told in
+        let t = ap length e in
+        let y : passed + 1 ≡ suc passed = omega arith in
+        record {
+          room = rw length-set w.room;
+          told = rw left (omega arith);
+          marks = rw (left, d, n) (sym (ap (λ (ns : List (List ℕ)). all_marked ns filter) (names-step row.Change sheet place (count - passed) p r a b
+              (omega arith))) ∙ w.marks);
+          stores = rw (left, y, n) (sym (ap (λ (l : List Change). sets changes passed l) e) ∙ w.stores);
+        }
 
-pub storing-start : (f : List ℕ → ℕ → ℕ) (sheet : List ℕ) (k : ℕ) (ps : List ℕ) → k ≤ length ps → Storing f sheet k ps ps 1 0 k
-storing-start f sheet k ps h = record { room = omega arith; long = refl; rest = refl }
+-- where all is marked, the changes that are whole are there
+pub record Told (sheet : List ℕ) (k w : ℕ) (fs : List ℕ) (cs : List Change) : Type 0 where
+  pub room : w ≤ length cs
+  pub long : w ≡ length (take w cs)
+  pub few : length (take w cs) ≤ 64
+  pub whole : length (take w cs) ≡ length (change_names_at sheet k)
+  pub marked : Marked sheet fs (take w cs)
 
-module _ (f : List ℕ → ℕ → ℕ) (sheet : List ℕ) (k : ℕ) (ps₀ ps : List ℕ) (place passed left : ℕ)
-    (w : Storing f sheet k ps₀ ps place passed left) where
-  pub storing-room : 0 < left → passed < length ps
-  storing-room h = let r = w.room in omega arith
-
-  pub storing-fits : length ps < 2 ^ 64 → 0 < left → Fits w64 (passed + 1)
-  storing-fits l h = let r = w.room in record { fits = omega arith }
-
-  pub storing-long : length ps ≡ length ps₀
-  storing-long = w.long
-
-  pub storing-done : left ≤ 0 → ps ≡ stored f k sheet 1 ps₀ 0
-  storing-done h = go left h refl
-    where
-      go : (l : ℕ) → l ≤ 0 → left ≡ l → ps ≡ stored f k sheet 1 ps₀ 0
-      go zero h o = sym (rw o (not-stored f sheet place ps passed)) ∙ w.rest
-      go (suc l) h o = absurd (omega arith)
-
-  pub storing-stop : (r : RowPlace) → r ≡ row_of place (row_name row.Change (drop place sheet)) → r ≡ row_place.Broken → ps ≡ stored f k sheet 1 ps₀ 0
-  storing-stop r a b = go left refl
-    where
-      go : (l : ℕ) → left ≡ l → ps ≡ stored f k sheet 1 ps₀ 0
-      go zero o = sym (rw o (not-stored f sheet place ps passed)) ∙ w.rest
-      go (suc l) o = sym (rw o (stored-none f l sheet place ps passed (row-broken (row_name row.Change (drop place sheet)) place (sym a ∙ b)).1))
-          ∙ w.rest
-
-  storing-step : (len end : ℕ) (r : RowPlace) (x : ℕ) → 0 < left → r ≡ row_of place (row_name row.Change (drop place sheet))
-      → r ≡ row_place.Whole len end → x ≡ f (take len (drop (place + 1) sheet)) place
-      → Storing f sheet k ps₀ (set ps passed x) end (passed + 1) (left - 1)
-  storing-step len end r x h a b c =
-      let o = w.room in
-      let l = length-set ps passed x in
-      record { room = omega arith; long = l ∙ w.long; rest = go left refl }
-    where
-      go : (n : ℕ) → left ≡ n → stored f (left - 1) sheet end (set ps passed x) (passed + 1) ≡ stored f k sheet 1 ps₀ 0
-      go zero o = absurd (omega arith)
-      go (suc n) o =
-          let (y, m, q, z) = row-parts row.Change sheet place len end (sym a ∙ b) in
-          let j : suc n - 1 ≡ n = omega arith in
-          rw (o, j, z, c) (sym (rw o (stored_more f n sheet place ps passed (take len (drop (place + 1) sheet)) m q)) ∙ w.rest)
-
-module _ (sheet : List ℕ) (k : ℕ) (ps₀ ps : List ℕ) (place passed left len end : ℕ) (r : RowPlace) (h : 0 < left)
-    (a : r ≡ row_of place (row_name row.Change (drop place sheet))) (b : r ≡ row_place.Whole len end) where
-  pub mark-stored : (m : ℕ) → m ≡ mark_of sheet (place + 1) len → Storing change_mark sheet k ps₀ ps place passed left
-      → Storing change_mark sheet k ps₀ (set ps passed m) end (passed + 1) (left - 1)
-  unfolding change_mark
-  mark-stored m c w = storing-step change_mark sheet k ps₀ ps place passed left w len end r m h a b
-      (c ∙ of-there sheet (place + 1) len (row-name-there row.Change sheet place len end r a b))
-
-  pub start-stored : Storing change_start sheet k ps₀ ps place passed left
-      → Storing change_start sheet k ps₀ (set ps passed place) end (passed + 1) (left - 1)
-  unfolding change_start
-  start-stored w = storing-step change_start sheet k ps₀ ps place passed left w len end r place h a b refl
-
--- ── The changes that are known ──
-
-pub known_start : (sheet ks ps : List ℕ) (k w : ℕ) → k ≤ 64 → w ≡ length (change_names_at sheet k)
-    → ks ≡ stored change_mark k sheet 1 (replicate 64 0) 0 → ps ≡ stored change_start k sheet 1 (replicate 64 0) 0 → Known sheet 1 w ks ps 0
-known_start sheet ks ps k w l f a b =
-    let o = length-replicate {A = ℕ} 64 0 in
+pub marks-told : (sheet : List ℕ) (k w : ℕ) (fs : List ℕ) (cs : List Change) → k ≤ 64
+    → AllMarked sheet k (replicate 512 0) (replicate 64 (change 0 0)) w fs cs → Told sheet k w fs cs
+marks-told sheet k w fs cs h (a, b, c) =
     let few : length (change_names_at sheet k) ≤ k = names-few k (row_name row.Change) (drop 1 sheet) in
+    let o = from-names k sheet 1 in
+    let l = length-replicate {A = Change} 64 (change 0 0) in
+    let m = ap length c ∙ length-sets (replicate 64 (change 0 0)) 0 (changes_from k sheet 1) in
+    let e : take w cs ≡ changes_from k sheet 1 = rw (a, c, sets-eq (changes_from k sheet 1) (replicate 64 (change 0 0)) 0 (omega arith))
+    (take-append_seam (changes_from k sheet 1) (drop (0 + length (changes_from k sheet 1)) (replicate 64 (change 0 0)))) in
+    let n = ap length e in
     record {
-      whole = rw f (ap length (names-whole k (row_name row.Change) (drop 1 sheet)));
-      marks = record { before = replicate 64 0; room = omega arith; stores = a ∙ rw f (sym (stored-whole change_mark k sheet 1 (replicate 64 0) 0)) };
-      places = record {
-        before = replicate 64 0;
-        room = omega arith;
-        stores = b
-            ∙ rw f (sym (stored-whole change_start k sheet 1 (replicate 64 0) 0));
+      room = omega arith;
+      long = omega arith;
+      few = omega arith;
+      whole = omega arith;
+      marked = record {
+        covered = rw e (marks-cover sheet fs k (length (changes_from k sheet 1)) o b);
+        known = rw e (sym (from-whole k sheet 1));
       };
     }
 
--- the first of them, which is whole, and the others
-known_next : {G : Type 0} (s : List ℕ) (at n : ℕ) (ks ps : List ℕ) (i : ℕ) → 0 < n → Known s at n ks ps i
-    → ((v : List ℕ) (m : ℕ) → row_name row.Change (drop at s) ≡ good v m → get_or ks i 0 ≡ mark_for v → get_or ps i 0 ≡ at
-    → Known s (at + m) (n - 1) ks ps (i + 1) → G) → G
-unfolding change_mark change_start
-known_next s at zero ks ps i h k w = absurd (omega arith)
-known_next {G} s at (suc n) ks ps i h k w = go (row_name row.Change (drop at s)) refl
-  where
-    go : (r : Parsed (List ℕ)) → row_name row.Change (drop at s) ≡ r → G
-    go (bad j) e =
-        let o : length (names (suc n) (row_name row.Change) (drop at s)) ≡ 0 = ap length (names-none n (row_name row.Change) (drop at s) e) in
-        let q = k.whole in
-        absurd (omega arith)
-    go (good v m) e =
-        let (a, b) = kept_next change_mark s at n ks i v m e k.marks in
-        let (c, d) = kept_next change_start s at n ps i v m e k.places in
-        let o : length (names (suc n) (row_name row.Change) (drop at s)) ≡ suc (length (names n (row_name row.Change) (drop (at + m) s))) =
-        ap length (names-next n (row_name row.Change) s at v m e) in
-        let q = k.whole in
-        let j : suc n - 1 ≡ n = omega arith in
-        w v m e a c (rw j (record { whole = omega arith; marks = b; places = d }))
-
 -- ── One change ──
+
+whole : (name : List ℕ) → take (length name) (drop 0 name) ≡ name
+whole [] = refl
+whole (b ∷ bs) = ap (λ (l : List ℕ). b ∷ l) (whole bs)
+
+pub mark-whole : (name : List ℕ) (m n : ℕ) → m ≡ mark_of name 0 n → n ≡ length name → m ≡ mark_for name
+mark-whole name m n e f = rw f at e ∙ of-there name 0 (length name) (omega arith) ∙ ap mark_for (whole name)
 
 one_name : (s : List ℕ) (at : ℕ) (v : List ℕ) (m : ℕ) → row_name row.Change (drop at s) ≡ good v m → names 1 (row_name row.Change) (drop at s) ≡ v ∷ []
 one_name s at v m e = names-next 0 (row_name row.Change) s at v m e
@@ -240,125 +188,80 @@ one-among name s at v m e = ap (among name) (one_name s at v m e) ∙ go (same n
     go false = refl
 
 -- a name with another mark is not the one
-other-mark : (name : List ℕ) (ns : List (List ℕ)) (known : ℕ) → map mark_for ns ≡ known ∷ [] → (known ≡ mark_for name → ⊥) → false ≡ among name ns
+pub other-mark : (name : List ℕ) (ns : List (List ℕ)) (known mark : ℕ) → map mark_for ns ≡ known ∷ [] → mark ≡ mark_for name → (known ≡ mark → ⊥)
+    → false ≡ among name ns
 unfolding among
-other-mark name [] known e d = refl
-other-mark name (v ∷ w ∷ ns) known e d = let o = ap length e in absurd (omega arith)
-other-mark name (v ∷ []) known e d = go (same name v) refl
+other-mark name [] known mark e f d = refl
+other-mark name (v ∷ w ∷ ns) known mark e f d = let o = ap length e in absurd (omega arith)
+other-mark name (v ∷ []) known mark e f d = go (same name v) refl
   where
     go : (b : Bool) → same name v ≡ b → false ≡ (b || false)
-    go true h = let o : mark_for v ≡ known = cc in absurd (d (sym o ∙ ap mark_for (sym (same_true name v h))))
+    go true h = let o : mark_for v ≡ known = cc in absurd (d (sym o ∙ ap mark_for (sym (same_true name v h)) ∙ sym f))
     go false h = refl
 
-module _ (a sheet : List ℕ) (here len place : ℕ) (h : here + len ≤ length a) where
-  pub named_other : (mark known : ℕ) → mark ≡ mark_of a here len → map mark_for (names 1 (row_name row.Change) (drop place sheet)) ≡ known ∷ []
-      → (known ≡ mark → ⊥) → false ≡ among (take len (drop here a)) (names 1 (row_name row.Change) (drop place sheet))
-  named_other mark known e f d =
-      other-mark (take len (drop here a)) (names 1 (row_name row.Change) (drop place sheet)) known f (λ o. d (o ∙ sym (of-there a here len h) ∙ sym e))
-
-  named_by : (f : NameFound) → f ≡ find_name a here len sheet place 1 row.Change
-      → is_found f ≡ among (take len (drop here a)) (names 1 (row_name row.Change) (drop place sheet))
-  named_by f e = ap is_found (e ∙ find-there a sheet here len place 1 row.Change h)
-      ∙ sym (among-found (take len (drop here a)) 1 (row_name row.Change) sheet 0 place)
-
-  pub named-found : (f : NameFound) (i p : ℕ) → f ≡ find_name a here len sheet place 1 row.Change → f ≡ found.At i p
-      → true ≡ among (take len (drop here a)) (names 1 (row_name row.Change) (drop place sheet))
-  named-found f i p e g = sym (ap is_found g) ∙ named_by f e
-
-  pub named-nothing : (f : NameFound) → f ≡ find_name a here len sheet place 1 row.Change → f ≡ found.Nothing
-      → false ≡ among (take len (drop here a)) (names 1 (row_name row.Change) (drop place sheet))
-  named-nothing f e g = sym (ap is_found g) ∙ named_by f e
+pub named_by : (name sheet : List ℕ) (place n : ℕ) (f : Option NameFound) (b : Bool) → f ≡ find_name name 0 n sheet place 1 row.Change → n ≡ length name
+    → b ≡ is_some f → b ≡ among name (names 1 (row_name row.Change) (drop place sheet))
+named_by name sheet place n f b e l g =
+    g ∙ ap is_some (rw l at e ∙ find-there name sheet 0 (length name) place 1 row.Change (omega arith))
+    ∙ sym (among-found (take (length name) (drop 0 name)) 1 (row_name row.Change) sheet 0 place)
+    ∙ ap (λ (v : List ℕ). among v (names 1 (row_name row.Change) (drop place sheet))) (whole name)
 
 -- ── The search ──
 
 -- the changes that are left to search, from a place on
-pub record Searching (table : List ℕ) (here len : ℕ) (sheet : List ℕ) (k : ℕ) (ks ps : List ℕ) (passed left : ℕ) : Type 0 where
+pub record Searching (name sheet : List ℕ) (changes : List Change) (passed : ℕ) : Type 0 where
   pub at : ℕ
-  pub known : Known sheet at left ks ps passed
-  pub rest : found (take len (drop here table)) left (row_name row.Change) sheet passed at ≡ find_name table here len sheet 1 k row.Change
+  pub known : drop passed changes ≡ changes_from (length changes - passed) sheet at
+  pub rest : found name (length changes - passed) (row_name row.Change) sheet passed at ≡ change_found sheet (length changes) name
 
-module _ (table : List ℕ) (here len : ℕ) (sheet : List ℕ) (k : ℕ) (ks ps : List ℕ) where
-  pub search-start : here + len ≤ length table → Known sheet 1 k ks ps 0 → Searching table here len sheet k ks ps 0 k
-  search-start h w = record { at = 1; known = w; rest = sym (find-there table sheet here len 1 k row.Change h) }
+module _ (name sheet : List ℕ) (changes : List Change) where
+  pub search-start : (filter : List ℕ) → Marked sheet filter changes → Searching name sheet changes 0
+  search-start filter w =
+      let q : length changes - 0 ≡ length changes = omega arith in
+      record { at = 1; known = rw q w.known; rest = rw q }
 
-  module _ (passed left : ℕ) (w : Searching table here len sheet k ks ps passed left) where
-    pub search-marks : 0 < left → passed < length ks
-    search-marks h = let r = kept-room change_mark sheet w.at left ks passed w.known.marks in omega arith
+  module _ (passed : ℕ) (w : Searching name sheet changes passed) where
+    pub search-done : length changes ≤ passed → None ≡ change_found sheet (length changes) name
+    search-done h =
+        let q : length changes - passed ≡ 0 = omega arith in
+        sym (no_found name (row_name row.Change) sheet passed w.at) ∙ rw q at w.rest
 
-    pub search-places : 0 < left → passed < length ps
-    search-places h = let r = kept-room change_start sheet w.at left ps passed w.known.places in omega arith
+    module _ (x d : Change) (h : passed < length changes) (e : x ≡ get_or changes passed d) where
+      -- the change that is next, and what is left behind it
+      told : {G : Type 0} → ((v : List ℕ) (m : ℕ) → row_name row.Change (drop x.place sheet) ≡ good v m → x.mark ≡ mark_for v
+          → drop (passed + 1) changes ≡ changes_from (length changes - (passed + 1)) sheet (x.place + m)
+          → cond (same name v) (found_at passed x.place) (found name (length changes - (passed + 1)) (row_name row.Change) sheet (passed + 1) (x.place + m))
+          ≡ change_found sheet (length changes) name → G) → G
+      told {G} g = go (row_name row.Change (drop w.at sheet)) refl
+        where
+          some : length changes - passed ≡ suc (length changes - (passed + 1))
+          some = omega arith
 
-    pub search-fits : length ps < 2 ^ 64 → 0 < left → Fits w64 (passed + 1)
-    search-fits l h = let r = search-places h in record { fits = omega arith }
+          here : x ∷ drop (passed + 1) changes ≡ changes_from (suc (length changes - (passed + 1))) sheet w.at
+          here =
+              let q : passed + 1 ≡ suc passed = omega arith in
+              ap (λ (k : ℕ). x ∷ drop k changes) q ∙ ap (λ (y : Change). y ∷ drop (suc passed) changes) e ∙ sym (drop-cons changes passed d h)
+              ∙ w.known ∙ ap (λ (k : ℕ). changes_from k sheet w.at) some
 
-    pub search-row : 0 < left → map mark_for (names 1 (row_name row.Change) (drop (get_or ps passed 0) sheet)) ≡ get_or ks passed 0 ∷ []
-    search-row h =
-        known_next sheet w.at left ks ps passed h w.known (λ v m e a b c.
-        rw (b, one_name sheet w.at v m e, a))
+          go : (r : Parsed (List ℕ)) → row_name row.Change (drop w.at sheet) ≡ r → G
+          go (bad j) f = let o = ap length (here ∙ from-bad (suc (length changes - (passed + 1))) sheet w.at f) in absurd (omega arith)
+          go (good v m) f =
+              let o : x ∷ drop (passed + 1) changes ≡ change (mark_for v) w.at ∷ changes_from (length changes - (passed + 1)) sheet (w.at + m) =
+              here ∙ from-good (length changes - (passed + 1)) sheet w.at v m f in
+              let y : x ≡ change (mark_for v) w.at = cc in
+              let z : drop (passed + 1) changes ≡ changes_from (length changes - (passed + 1)) sheet (w.at + m) = cc in
+              let p : x.place ≡ w.at = ap (λ (c : Change). c.place) y in
+              g v m (rw p f) (ap (λ (c : Change). c.mark) y) (rw p z)
+              (rw p (sym (found-more name (length changes - (passed + 1)) (row_name row.Change) sheet passed w.at v m f) ∙ rw some at w.rest))
 
-    pub search-done : left ≤ 0 → found.Nothing ≡ find_name table here len sheet 1 k row.Change
-    search-done h = go left h refl
-      where
-        go : (l : ℕ) → l ≤ 0 → left ≡ l → found.Nothing ≡ find_name table here len sheet 1 k row.Change
-        go zero h o = sym (rw o (no_found (take len (drop here table)) (row_name row.Change) sheet passed w.at)) ∙ w.rest
-        go (suc l) h o = absurd (omega arith)
+      pub search-row : map mark_for (names 1 (row_name row.Change) (drop x.place sheet)) ≡ x.mark ∷ []
+      search-row = told (λ v m f a b c. rw (one_name sheet x.place v m f, a))
 
-    -- what the row's name tells
-    search-by : {G : Type 0} (r : Bool) → 0 < left → r ≡ among (take len (drop here table))
-        (names 1 (row_name row.Change) (drop (get_or ps passed 0) sheet))
-        → ((at m : ℕ) → get_or ps passed 0 ≡ at → Known sheet (at + m) (left - 1) ks ps (passed + 1)
-        → cond r (found.At passed at) (found (take len (drop here table)) (left - 1) (row_name row.Change) sheet (passed + 1) (at + m)) ≡ find_name
-        table here len sheet 1 k row.Change → G) → G
-    search-by {G} r h f g =
-        known_next sheet w.at left ks ps passed h w.known (λ v m e a b c. g w.at m b c (go left refl v m e b))
-      where
-        go : (l : ℕ) → left ≡ l → (v : List ℕ) (m : ℕ) → row_name row.Change (drop w.at sheet) ≡ good v m → get_or ps passed 0 ≡ w.at
-            → cond r (found.At passed w.at) (found (take len (drop here table)) (left - 1) (row_name row.Change) sheet (passed + 1)
-            (w.at + m)) ≡ find_name table here len sheet 1 k row.Change
-        go zero o v m e b = absurd (omega arith)
-        go (suc l) o v m e b =
-            let j : suc l - 1 ≡ l = omega arith in
-            let x : r ≡ same (take len (drop here table)) v = rw b at f ∙ one-among (take len (drop here table)) sheet w.at v m e in
-            rw (o, j, x) (sym (rw o (found-more (take len (drop here table)) l (row_name row.Change) sheet passed w.at v m e)) ∙ w.rest)
+      module _ (r : Bool) (t : r ≡ among name (names 1 (row_name row.Change) (drop x.place sheet))) where
+        pub search-hit : r ≡ true → found_at passed x.place ≡ change_found sheet (length changes) name
+        search-hit y = told (λ v m f a b c. rw (sym (one-among name sheet x.place v m f) ∙ sym t ∙ y) at c)
 
-    pub search-hit : (r : Bool) → 0 < left → r ≡ among (take len (drop here table)) (names 1 (row_name row.Change) (drop (get_or ps passed 0) sheet))
-        → r ≡ true → found.At passed (get_or ps passed 0) ≡ find_name table here len sheet 1 k row.Change
-    search-hit r h f t = search-by r h f (λ at m b c d. rw b (rw t at d))
+        pub search-step : r ≡ false → Searching name sheet changes (passed + 1)
+        search-step y = told (λ v m f a b c. record { at = x.place + m; known = b; rest = rw (sym (one-among name sheet x.place v m f) ∙ sym t ∙ y) at c })
 
-    pub search-step : (r : Bool) → 0 < left → r ≡ among (take len (drop here table))
-        (names 1 (row_name row.Change) (drop (get_or ps passed 0) sheet)) → r ≡ false
-        → Searching table here len sheet k ks ps (passed + 1) (left - 1)
-    search-step r h f t = search-by r h f (λ at m b c d. record { at = at + m; known = c; rest = rw t at d })
-
-pub ruleset laws = (
-  rules,
-  row-name-there,
-  row-name-place,
-  whole-done,
-  whole-stop,
-  whole-step,
-  mark-long,
-  mark-done,
-  mark-stop,
-  mark-step,
-  change-unmarked,
-  storing-start,
-  storing-room,
-  storing-fits,
-  storing-long,
-  storing-done,
-  storing-stop,
-  mark-stored,
-  start-stored,
-  named_other,
-  named-found,
-  named-nothing,
-  search-start,
-  search-marks,
-  search-places,
-  search-fits,
-  search-row,
-  search-done,
-  search-hit,
-  search-step,
-)
+pub ruleset laws = (rules, row-name-there, row-name-place, marking_start, mark-whole, other-mark, named_by, search-start, search-done, change-unmarked)

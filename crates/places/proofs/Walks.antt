@@ -1,38 +1,35 @@
 -- The walk of the table: the marks of the sheet's names, and what the walk lists.
 -- Assumes nothing.
-use Prim.Native.Nat.{ℕ, zero, suc, ◌+◌, ◌*◌, ◌-◌, ◌^◌, ◌<◌, ◌≤◌}
+use Rattle.std.specs.Prelude.{Option, Some, None, is_some}
+use Prim.Native.Nat.{ℕ, zero, suc, ◌+◌, ◌*◌, ◌-◌, ◌<◌, ◌≤◌}
 use native.Mathlib.Omega.{arith}
 use mathlib.Core.Path.{◌≡◌, refl, ap, sym, ◌∙◌}
-use mathlib.Core.Bool.{Bool, true, false, not, cond}
+use mathlib.Core.Bool.{Bool, true, false, cond}
 use mathlib.Core.List.{List, [], ◌∷◌, ◌++◌}
 use lib.ListN.{length, take, drop, get_or, set, replicate, length-set, length-append}
 use lib.Seq.{set_out, get_or-set_same, get_or-set_other, sets, length-sets, sets-eq, take-append_seam}
 use lib.Dec.{eqb}
 use borrow.Author.Rules.{rules}
 use borrow.Author.Tests.{ne_eqb, lt-ltb, le-ltb}
-use mir.Syntax.{w64}
-use mir.Val.{Fits}
 use Rattle.number.proofs.Bytes.{and-true}
-use Rattle.marks.specs.Marks.{mark_for, mark_of, with_mark, is_marked}
-use Rattle.marks.proofs.Laws.{of-there, mark-told, mark-stays}
+use Rattle.marks.specs.Marks.{mark_for, with_mark, is_marked}
+use Rattle.marks.proofs.Laws.{mark-told, mark-stays}
 use Rattle.layout.specs.Recording.{same}
 use Rattle.layout.specs.Reading.{Parsed, bad, good}
 use Rattle.layout.specs.Saving.{most_changes}
 use Rattle.layout.proofs.Outputs.{sets-append}
 use Rattle.rows.specs.Rows.{row_name, row_of}
-use Rattle.names.specs.Names.{names, found, find_name, distinct_names, covers}
+use Rattle.names.specs.Names.{found_at, found, distinct_names, covers}
 use Rattle.rows.specs.declared.Row.TheVariants as row
 use Rattle.rows.specs.declared.RowPlace.{RowPlace}
-use Rattle.rows.specs.declared.RowPlace.TheVariants as row_place
 use Rattle.names.specs.declared.NameFound.{NameFound}
-use Rattle.names.specs.declared.NameFound.TheVariants as found
 use Rattle.rows.proofs.Laws.{row-parts, row-broken}
-use Rattle.names.proofs.Laws.{is_found, find-there, row-name-there, row-name-place}
+use Rattle.names.proofs.Laws.{find-there, row-name-there, row-name-place}
 use Rattle.names.proofs.Laws as Names
 use Rattle.names.proofs.Marked.{unmarked}
 use Rattle.names.proofs.Finding.{same-sym}
 use Rattle.places.specs.Places.{place_found, change_names_at, change_found, tag_place, Placed, all_marked, words_for, ahead, listed_by, listed_in, left_after, listed_to, noted, walked_to, Placing, placing, placed_for, placed_by}
-use Rattle.places.proofs.Finding.{found-more, found_none, no_found, names-few, names-done, names-stop, names-step, false-true, found-parts, found-only, names-whole, found-whole}
+use Rattle.places.proofs.Finding.{found-more, found_none, no_found, names-few, false-true, found-parts, found-only, names-whole, found-whole}
 use Rattle.places.proofs.Listed.{list-more, list-few, after-words}
 use Rattle.places.proofs.Listed as Listed
 
@@ -49,36 +46,36 @@ or-none (suc x) = rw (ne_eqb (suc x) 0 (λ e. omega arith))
 or_some : (x y : ℕ) → or_else (suc x) y ≡ suc x
 or_some x y = rw (ne_eqb (suc x) 0 (λ e. omega arith))
 
-noted-length : (ps : List ℕ) (f : NameFound) (tag : ℕ) → length (noted ps f tag) ≡ length ps
+noted-length : (ps : List ℕ) (f : Option NameFound) (tag : ℕ) → length (noted ps f tag) ≡ length ps
 unfolding noted
-noted-length ps found.Nothing tag = refl
-noted-length ps (found.At i p) tag = go (eqb (get_or ps i 0) 0)
+noted-length ps None tag = refl
+noted-length ps (Some f) tag = go (eqb (get_or ps f.number 0) 0)
   where
-    go : (b : Bool) → length (cond b (set ps i tag) ps) ≡ length ps
-    go true = length-set ps i tag
+    go : (b : Bool) → length (cond b (set ps f.number tag) ps) ≡ length ps
+    go true = length-set ps f.number tag
     go false = refl
 
 -- the places of all tags, each stored for its change
-unfoldable walked : (change : List ℕ → NameFound) → ℕ → (table : List ℕ) → (at : ℕ) → (ps : List ℕ) → List ℕ
+unfoldable walked : (change : List ℕ → Option NameFound) → ℕ → (table : List ℕ) → (at : ℕ) → (ps : List ℕ) → List ℕ
 walked change zero t at ps = ps
 walked change (suc n) t at ps =
     elim (row_name row.Tag (drop at t)) [ bad j ↦ ps | good name m ↦ walked change n t (at + m) (noted ps (change name) at) ]
 
-walked_more : (change : List ℕ → NameFound) (n : ℕ) (t : List ℕ) (at : ℕ) (ps v : List ℕ) (m : ℕ) → row_name row.Tag (drop at t) ≡ good v m
+walked_more : (change : List ℕ → Option NameFound) (n : ℕ) (t : List ℕ) (at : ℕ) (ps v : List ℕ) (m : ℕ) → row_name row.Tag (drop at t) ≡ good v m
     → walked change (suc n) t at ps ≡ walked change n t (at + m) (noted ps (change v) at)
 unfolding walked
 walked_more change n t at ps v m e = rw (e, walked)
 
-walked_none : (change : List ℕ → NameFound) (n : ℕ) (t : List ℕ) (at : ℕ) (ps : List ℕ) {j : ℕ} → row_name row.Tag (drop at t) ≡ bad j
+walked_none : (change : List ℕ → Option NameFound) (n : ℕ) (t : List ℕ) (at : ℕ) (ps : List ℕ) {j : ℕ} → row_name row.Tag (drop at t) ≡ bad j
     → walked change (suc n) t at ps ≡ ps
 unfolding walked
 walked_none change n t at ps e = rw (e, walked)
 
-not-walked : (change : List ℕ → NameFound) (t : List ℕ) (at : ℕ) (ps : List ℕ) → walked change 0 t at ps ≡ ps
+not-walked : (change : List ℕ → Option NameFound) (t : List ℕ) (at : ℕ) (ps : List ℕ) → walked change 0 t at ps ≡ ps
 unfolding walked
 not-walked change t at ps = refl
 
-walked-length : (change : List ℕ → NameFound) (n : ℕ) (t : List ℕ) (at : ℕ) (ps : List ℕ) → length (walked change n t at ps) ≡ length ps
+walked-length : (change : List ℕ → Option NameFound) (n : ℕ) (t : List ℕ) (at : ℕ) (ps : List ℕ) → length (walked change n t at ps) ≡ length ps
 walked-length change zero t at ps = ap length (not-walked change t at ps)
 walked-length change (suc n) t at ps = go (row_name row.Tag (drop at t)) refl (walked-length change n t)
   where
@@ -88,8 +85,8 @@ walked-length change (suc n) t at ps = go (row_name row.Tag (drop at t)) refl (w
     go (good v m) e ih = ap length (walked_more change n t at ps v m e) ∙ ih (at + m) (noted ps (change v) at) ∙ noted-length ps (change v) at
 
 -- change number c is found for the tags of its name, and for no other
-module _ (change : List ℕ → NameFound) (name : List ℕ) (c : ℕ) (hit : (v : List ℕ) → same name v ≡ true → (q : ℕ) × (change v ≡ found.At c q))
-    (miss : (v : List ℕ) (q : ℕ) → same name v ≡ false → change v ≡ found.At c q → ⊥) where
+module _ (change : List ℕ → Option NameFound) (name : List ℕ) (c : ℕ) (hit : (v : List ℕ) → same name v ≡ true → (q : ℕ) × (change v ≡ found_at c q))
+    (miss : (v : List ℕ) (q : ℕ) → same name v ≡ false → change v ≡ found_at c q → ⊥) where
   noted-at : (ps v : List ℕ) (tag : ℕ) → c < length ps → get_or (noted ps (change v) tag) c 0 ≡ or_else (get_or ps c 0) (cond (same name v) tag 0)
   unfolding noted
   noted-at ps v tag l = go (same name v) refl
@@ -102,9 +99,9 @@ module _ (change : List ℕ → NameFound) (name : List ℕ) (c : ℕ) (hit : (v
       others i true h = get_or-set_other ps i c tag 0 h
       others i false h = refl
 
-      other : (f : NameFound) → change v ≡ f → same name v ≡ false → get_or (noted ps f tag) c 0 ≡ get_or ps c 0
-      other found.Nothing e h = refl
-      other (found.At i q) e h = others i (eqb (get_or ps i 0) 0) (λ z. miss v q h (e ∙ ap (λ (k : ℕ). found.At k q) (sym z)))
+      other : (f : Option NameFound) → change v ≡ f → same name v ≡ false → get_or (noted ps f tag) c 0 ≡ get_or ps c 0
+      other None e h = refl
+      other (Some g) e h = others g.number (eqb (get_or ps g.number 0) 0) (λ z. miss v g.place h (e ∙ ap (λ (k : ℕ). found_at k g.place) (sym z)))
 
       go : (b : Bool) → same name v ≡ b → get_or (noted ps (change v) tag) c 0 ≡ or_else (get_or ps c 0) (cond b tag 0)
       go true h = let (q, e) = hit v h in rw e (own (eqb (get_or ps c 0) 0))
@@ -117,11 +114,11 @@ module _ (change : List ℕ → NameFound) (name : List ℕ) (c : ℕ) (hit : (v
   walked_at zero t i at ps z l = rw (not-walked change t at ps, no_found name (row_name row.Tag) t i at) (sym (or-none (get_or ps c 0)))
   walked_at (suc n) t i at ps z l = go (row_name row.Tag (drop at t)) refl (walked_at n t (i + 1))
     where
-      join : (x : ℕ) (b : Bool) (f : NameFound) → or_else (or_else x (cond b at 0)) (place_found f) ≡ or_else x (place_found (cond b (found.At i at) f))
+      join : (x : ℕ) (b : Bool) (f : Option NameFound) → or_else (or_else x (cond b at 0)) (place_found f) ≡ or_else x (place_found (cond b (found_at i at) f))
       join zero true f = rw (ne_eqb at 0 (λ e. omega arith))
       join zero false f = refl
       join (suc x) b f = ap (λ (w : ℕ). or_else w (place_found f)) (or_some x (cond b at 0)) ∙ or_some x (place_found f)
-          ∙ sym (or_some x (place_found (cond b (found.At i at) f)))
+          ∙ sym (or_some x (place_found (cond b (found_at i at) f)))
 
       go : (r : Parsed (List ℕ)) → row_name row.Tag (drop at t) ≡ r
           → ((at : ℕ) (ps : List ℕ) → 0 < at → c < length ps
@@ -154,12 +151,12 @@ tags-walked table sheet ps at n k z l blank d =
     }
   where
     hit : (c : ℕ) → c < length (change_names_at sheet k) → (v : List ℕ) → same (get_or (change_names_at sheet k) c []) v ≡ true
-        → (q : ℕ) × (change_found sheet k v ≡ found.At c q)
+        → (q : ℕ) × (change_found sheet k v ≡ found_at c q)
     hit c h v f =
         let (q, g) = found-only v k (row_name row.Change) sheet 0 1 c d h (same-sym v (get_or (change_names_at sheet k) c []) ∙ f) in
-        (q, g ∙ ap (λ (x : ℕ). found.At x q) (omega arith))
+        (q, g ∙ ap (λ (x : ℕ). found_at x q) (omega arith))
 
-    miss : (c : ℕ) (v : List ℕ) (q : ℕ) → same (get_or (change_names_at sheet k) c []) v ≡ false → change_found sheet k v ≡ found.At c q → ⊥
+    miss : (c : ℕ) (v : List ℕ) (q : ℕ) → same (get_or (change_names_at sheet k) c []) v ≡ false → change_found sheet k v ≡ found_at c q → ⊥
     miss c v q f g =
         found-parts v k (row_name row.Change) sheet 0 1 c q g (λ b a h t o.
         let x : b ≡ c = omega arith in
@@ -167,29 +164,29 @@ tags-walked table sheet ps at n k z l blank d =
 
 -- ── As many tags as there are changes ──
 
-to_end : (change : List ℕ → NameFound) (k : ℕ) (t : List ℕ) (at : ℕ) (ps : List ℕ) → walked_to change k 0 t at ps ≡ ps
+to_end : (change : List ℕ → Option NameFound) (k : ℕ) (t : List ℕ) (at : ℕ) (ps : List ℕ) → walked_to change k 0 t at ps ≡ ps
 unfolding walked_to
 to_end change k t at ps = refl
 
-to-all : (change : List ℕ → NameFound) (n : ℕ) (t : List ℕ) (at : ℕ) (ps : List ℕ) → walked_to change 0 n t at ps ≡ ps
+to-all : (change : List ℕ → Option NameFound) (n : ℕ) (t : List ℕ) (at : ℕ) (ps : List ℕ) → walked_to change 0 n t at ps ≡ ps
 unfolding walked_to
 to-all change zero t at ps = refl
 to-all change (suc n) t at ps = refl
 
-to-broken : (change : List ℕ → NameFound) (k n : ℕ) (t : List ℕ) (at : ℕ) (ps : List ℕ) {j : ℕ} → row_name row.Tag (drop at t) ≡ bad j
+to-broken : (change : List ℕ → Option NameFound) (k n : ℕ) (t : List ℕ) (at : ℕ) (ps : List ℕ) {j : ℕ} → row_name row.Tag (drop at t) ≡ bad j
     → walked_to change k n t at ps ≡ ps
 unfolding walked_to
 to-broken change k zero t at ps e = refl
 to-broken change zero (suc n) t at ps e = refl
 to-broken change (suc k) (suc n) t at ps e = rw (e, walked_to)
 
-to-more : (change : List ℕ → NameFound) (k n : ℕ) (t : List ℕ) (at : ℕ) (ps v : List ℕ) (m : ℕ) → row_name row.Tag (drop at t) ≡ good v m
+to-more : (change : List ℕ → Option NameFound) (k n : ℕ) (t : List ℕ) (at : ℕ) (ps v : List ℕ) (m : ℕ) → row_name row.Tag (drop at t) ≡ good v m
     → walked_to change (suc k) (suc n) t at ps ≡ walked_to change (left_after (change v) (suc k)) n t (at + m) (noted ps (change v) at)
 unfolding walked_to
 to-more change k n t at ps v m e = rw (e, walked_to)
 
 -- where none is named, nothing is noted
-none-noted : (change : List ℕ → NameFound) (n : ℕ) (t : List ℕ) (at i : ℕ) (ps : List ℕ) → length (listed_by change n t at i).words ≤ 0
+none-noted : (change : List ℕ → Option NameFound) (n : ℕ) (t : List ℕ) (at i : ℕ) (ps : List ℕ) → length (listed_by change n t at i).words ≤ 0
     → ps ≡ walked change n t at ps
 unfolding ahead words_for noted
 none-noted change zero t at i ps h = sym (not-walked change t at ps)
@@ -201,13 +198,13 @@ none-noted change (suc n) t at i ps h = go (row_name row.Tag (drop at t)) refl (
     go (bad j) e ih = sym (walked_none change n t at ps e)
     go (good v m) e ih = pick (change v) (rw (list-more change n t at i v m e) at h) ∙ sym (walked_more change n t at ps v m e)
       where
-        pick : (f : NameFound) → length (ahead (words_for f i at) (listed_by change n t (at + m) (i + 1))).words ≤ 0
+        pick : (f : Option NameFound) → length (ahead (words_for f i at) (listed_by change n t (at + m) (i + 1))).words ≤ 0
             → ps ≡ walked change n t (at + m) (noted ps f at)
-        pick found.Nothing l = ih (at + m) (i + 1) ps l
-        pick (found.At c q) l = absurd (omega arith)
+        pick None l = ih (at + m) (i + 1) ps l
+        pick (Some f) l = absurd (omega arith)
 
 -- where there are no more of them, these are all
-walk-whole : (change : List ℕ → NameFound) (n k : ℕ) (t : List ℕ) (at i : ℕ) (ps : List ℕ) → length (listed_by change n t at i).words ≤ 3 * k
+walk-whole : (change : List ℕ → Option NameFound) (n k : ℕ) (t : List ℕ) (at i : ℕ) (ps : List ℕ) → length (listed_by change n t at i).words ≤ 3 * k
     → walked_to change k n t at ps ≡ walked change n t at ps
 unfolding ahead words_for left_after
 walk-whole change zero k t at i ps h = to_end change k t at ps ∙ sym (not-walked change t at ps)
@@ -221,10 +218,10 @@ walk-whole change (suc n) (suc k) t at i ps h = go (row_name row.Tag (drop at t)
     go (good v m) e ih =
         to-more change k n t at ps v m e ∙ pick (change v) (rw (list-more change n t at i v m e) at h) ∙ sym (walked_more change n t at ps v m e)
       where
-        pick : (f : NameFound) → length (ahead (words_for f i at) (listed_by change n t (at + m) (i + 1))).words ≤ 3 * suc k
+        pick : (f : Option NameFound) → length (ahead (words_for f i at) (listed_by change n t (at + m) (i + 1))).words ≤ 3 * suc k
             → walked_to change (left_after f (suc k)) n t (at + m) (noted ps f at) ≡ walked change n t (at + m) (noted ps f at)
-        pick found.Nothing l = ih (suc k) t (at + m) (i + 1) _ l
-        pick (found.At c q) l = let j : suc k - 1 ≡ k = omega arith in rw j (ih k t (at + m) (i + 1) _ (omega arith))
+        pick None l = ih (suc k) t (at + m) (i + 1) _ l
+        pick (Some f) l = let j : suc k - 1 ≡ k = omega arith in rw j (ih k t (at + m) (i + 1) _ (omega arith))
 
 -- ── What the call gives ──
 
@@ -284,45 +281,46 @@ module _ (table : List ℕ) (at n : ℕ) (sheet ls₀ ps₀ ls ps : List ℕ) (w
 pub store-there : (ls : List ℕ) (at w : ℕ) → length ls ≤ at → ls ≡ set ls at w
 store-there ls at w h = sym (set_out ls at w h)
 
-pub none_end : (at i tag : ℕ) (f : NameFound) → f ≡ found.Nothing → at ≡ at + length (words_for f i tag)
+pub none_end : (at i tag : ℕ) (f : Option NameFound) → f ≡ None → at ≡ at + length (words_for f i tag)
 unfolding words_for
 none_end at i tag f e = rw e (omega arith)
 
-pub none-listed : (ls : List ℕ) (at i tag : ℕ) (f : NameFound) → f ≡ found.Nothing → ls ≡ sets ls at (words_for f i tag)
+pub none-listed : (ls : List ℕ) (at i tag : ℕ) (f : Option NameFound) → f ≡ None → ls ≡ sets ls at (words_for f i tag)
 unfolding words_for
 none-listed ls at i tag f e = rw e
 
-pub tag-end : (at i tag c p : ℕ) (f : NameFound) → f ≡ found.At c p → at + 3 ≡ at + length (words_for f i tag)
+pub tag-end : (at i tag : ℕ) (f : Option NameFound) (x : NameFound) → f ≡ Some x → at + 3 ≡ at + length (words_for f i tag)
 unfolding words_for
-tag-end at i tag c p f e = rw e
+tag-end at i tag f x e = rw e
 
-pub tag-listed : (ls l₁ l₂ l₃ : List ℕ) (at i tag c p : ℕ) (f : NameFound) → f ≡ found.At c p → l₁ ≡ set ls at i → l₂ ≡ set l₁ (at + 1) tag
-    → l₃ ≡ set l₂ (at + 2) p → l₃ ≡ sets ls at (words_for f i tag)
+pub tag-listed : (ls l₁ l₂ l₃ : List ℕ) (at i tag : ℕ) (f : Option NameFound) (x : NameFound) → f ≡ Some x → l₁ ≡ set ls at i
+    → l₂ ≡ set l₁ (at + 1) tag → l₃ ≡ set l₂ (at + 2) x.place → l₃ ≡ sets ls at (words_for f i tag)
 unfolding words_for
-tag-listed ls l₁ l₂ l₃ at i tag c p f e a b d =
-    let x : at + 1 ≡ suc at = omega arith in
-    let y : at + 2 ≡ suc (suc at) = omega arith in
-    rw e (d ∙ rw (b, a, x, y))
+tag-listed ls l₁ l₂ l₃ at i tag f x e a b d =
+    let y : at + 1 ≡ suc at = omega arith in
+    let z : at + 2 ≡ suc (suc at) = omega arith in
+    rw e (d ∙ rw (b, a, y, z))
 
-pub note-nothing : (ps : List ℕ) (f : NameFound) (tag : ℕ) → f ≡ found.Nothing → ps ≡ noted ps f tag
+pub note-nothing : (ps : List ℕ) (f : Option NameFound) (tag : ℕ) → f ≡ None → ps ≡ noted ps f tag
 unfolding noted
 note-nothing ps f tag e = rw e
 
-pub note-past : (ps : List ℕ) (f : NameFound) (tag i p : ℕ) → f ≡ found.At i p → length ps ≤ i → ps ≡ noted ps f tag
-unfolding noted
-note-past ps f tag i p e h = rw (e, set_out ps i tag h) (pick (eqb (get_or ps i 0) 0))
-  where
-    pick : (b : Bool) → ps ≡ cond b ps ps
-    pick true = refl
-    pick false = refl
+module _ (ps : List ℕ) (f : Option NameFound) (tag : ℕ) (x : NameFound) (e : f ≡ Some x) where
+  pub note-past : length ps ≤ x.number → ps ≡ noted ps f tag
+  unfolding noted
+  note-past h = rw (e, set_out ps x.number tag h) (pick (eqb (get_or ps x.number 0) 0))
+    where
+      pick : (b : Bool) → ps ≡ cond b ps ps
+      pick true = refl
+      pick false = refl
 
-pub note-set : (ps : List ℕ) (f : NameFound) (tag i p : ℕ) → f ≡ found.At i p → get_or ps i 0 ≡ 0 → set ps i tag ≡ noted ps f tag
-unfolding noted
-note-set ps f tag i p e h = rw (e, h)
+  pub note-set : get_or ps x.number 0 ≡ 0 → set ps x.number tag ≡ noted ps f tag
+  unfolding noted
+  note-set h = rw (e, h)
 
-pub note-kept : (ps : List ℕ) (f : NameFound) (tag i p : ℕ) → f ≡ found.At i p → (get_or ps i 0 ≡ 0 → ⊥) → ps ≡ noted ps f tag
-unfolding noted
-note-kept ps f tag i p e h = rw (e, ne_eqb (get_or ps i 0) 0 h)
+  pub note-kept : (get_or ps x.number 0 ≡ 0 → ⊥) → ps ≡ noted ps f tag
+  unfolding noted
+  note-kept h = rw (e, ne_eqb (get_or ps x.number 0) 0 h)
 
 -- ── Marks of the sheet's names ──
 
@@ -353,185 +351,103 @@ pub place-few : (table sheet ls₀ ps₀ ls ps : List ℕ) (r at n w : ℕ) → 
 unfolding placed_by placed_for
 place-few table sheet ls₀ ps₀ ls ps r at n w h f a b c = rw (le-ltb most_changes (length ps₀) h, a, b, c, f)
 
-pub place-whole : (sheet : List ℕ) (k w : ℕ) → k ≤ 64 → w ≡ length (change_names_at sheet k) → w ≤ 64
-place-whole sheet k w h e =
-    let a : length (change_names_at sheet k) ≤ k = names-few k (row_name row.Change) (drop 1 sheet) in
-    omega arith
-
-module _ (sheet : List ℕ) (place left : ℕ) (ms all : List ℕ) (e : all_marked (names left (row_name row.Change) (drop place sheet)) ms ≡ all) where
-  pub mark-done : left ≤ 0 → ms ≡ all
-  unfolding all_marked
-  mark-done h = sym (ap (λ ns. all_marked ns ms) (names-done row.Change sheet place left h)) ∙ e
-
-  pub mark-stop : (r : RowPlace) → r ≡ row_of place (row_name row.Change (drop place sheet)) → r ≡ row_place.Broken → ms ≡ all
-  unfolding all_marked
-  mark-stop r f g = sym (ap (λ ns. all_marked ns ms) (names-stop row.Change sheet place left r f g)) ∙ e
-
-  pub mark-step : (after : List ℕ) (len end m : ℕ) (r : RowPlace) → 0 < left → r ≡ row_of place (row_name row.Change (drop place sheet))
-      → r ≡ row_place.Whole len end → m ≡ mark_of sheet (place + 1) len → after ≡ with_mark ms m
-      → all_marked (names (left - 1) (row_name row.Change) (drop end sheet)) after ≡ all
-  unfolding all_marked
-  mark-step after len end m r h a b c d =
-      let y : after ≡ with_mark ms (mark_for (take len (drop (place + 1) sheet))) =
-      d ∙ ap (with_mark ms) (c ∙ of-there sheet (place + 1) len (row-name-there row.Change sheet place len end r a b)) in
-      rw y (sym (ap (λ ns. all_marked ns ms) (names-step row.Change sheet place left len end r h a b)) ∙ e)
-
 -- a name whose mark is not set is none of the sheet's
-pub change-unmarked : (a sheet ms : List ℕ) (here len k m : ℕ) (b : Bool) → here + len ≤ length a → covers ms (change_names_at sheet k) ≡ true
-    → m ≡ mark_of a here len → b ≡ is_marked ms m → not b ≡ true → found.Nothing ≡ find_name a here len sheet 1 k row.Change
-change-unmarked a sheet ms here len k m b h c e f z =
-    none (find_name a here len sheet 1 k row.Change)
-    (ap is_found (find-there a sheet here len 1 k row.Change h) ∙ absent-name)
+pub change-unmarked : (name sheet ms : List ℕ) (k : ℕ) (b : Bool) → covers ms (change_names_at sheet k) ≡ true → b ≡ is_marked ms (mark_for name)
+    → b ≡ false → None ≡ change_found sheet k name
+change-unmarked name sheet ms k b c f z =
+    none (change_found sheet k name) (sym (Names.among-found name k (row_name row.Change) sheet 0 1)
+    ∙ unmarked ms name (change_names_at sheet k) c (sym f ∙ z))
   where
-    none : (r : NameFound) → is_found r ≡ false → found.Nothing ≡ r
-    none (found.At i p) q = absurd (false-true (sym q))
-    none found.Nothing q = refl
-
-    not-true : (x : Bool) → not x ≡ true → x ≡ false
-    not-true true q = absurd (false-true q)
-    not-true false q = refl
-
-    absent-name : is_found (found (take len (drop here a)) k (row_name row.Change) sheet 0 1) ≡ false
-    absent-name =
-        sym (Names.among-found (take len (drop here a)) k (row_name row.Change) sheet 0 1)
-        ∙ unmarked ms (take len (drop here a)) (change_names_at sheet k) c
-        (ap (λ (x : ℕ). is_marked ms x) (sym (of-there a here len h) ∙ sym e) ∙ sym f ∙ not-true b z)
+    none : (r : Option NameFound) → is_some r ≡ false → None ≡ r
+    none (Some f) q = absurd (false-true (sym q))
+    none None q = refl
 
 -- what the walk has listed, and what is left to do: some changes have no tag yet
-pub record Walking (table : List ℕ) (at n : ℕ) (sheet : List ℕ) (k : ℕ) (list₀ places₀ list places : List ℕ) (place passed words left : ℕ) : Type 0 where
+pub record Walking (table : List ℕ) (at n : ℕ) (sheet : List ℕ) (k : ℕ) (list₀ places₀ list places : List ℕ) (place passed words : ℕ) : Type 0 where
   pub more : ℕ
   pub room : words + 3 * more ≡ 3 * k
   pub few : k ≤ 64
-  pub number : passed + left ≡ n
   pub long : length list ≡ length list₀
   pub wide : length places ≡ length places₀
-  pub stored : sets list words (listed_to (change_found sheet k) more left table place passed) ≡ sets list₀ 0
+  pub stored : sets list words (listed_to (change_found sheet k) more (n - passed) table place passed) ≡ sets list₀ 0
       (listed_to (change_found sheet k) k n table at 0)
-  pub count : words + length (listed_to (change_found sheet k) more left table place passed) ≡ length (listed_to (change_found sheet k) k n table at 0)
-  pub walk : walked_to (change_found sheet k) more left table place places ≡ walked_to (change_found sheet k) k n table at places₀
+  pub count : words + length (listed_to (change_found sheet k) more (n - passed) table place passed) ≡ length
+      (listed_to (change_found sheet k) k n table at 0)
+  pub walk : walked_to (change_found sheet k) more (n - passed) table place places ≡ walked_to (change_found sheet k) k n table at places₀
 
 module _ (table : List ℕ) (at n : ℕ) (sheet : List ℕ) (k : ℕ) (list₀ places₀ : List ℕ) where
-  pub walking_start : k ≤ 64 → Walking table at n sheet k list₀ places₀ list₀ places₀ at 0 0 n
-  walking_start h = record {
-    more = k;
-    room = omega arith;
-    few = h;
-    number = omega arith;
-    long = refl;
-    wide = refl;
-    stored = refl;
-    count = omega arith;
-    walk = refl;
-  }
+  -- what the call gives
+  abbrev pub Walked : (words : ℕ) → (list places : List ℕ) → Type 0
+  Walked words list places = (words ≡ length (listed_to (change_found sheet k) k n table at 0))
+      × (list ≡ sets list₀ 0 (listed_to (change_found sheet k) k n table at 0))
+      × (places ≡ walked_to (change_found sheet k) k n table at places₀)
 
-  module _ (list places : List ℕ) (place passed words left : ℕ) (w : Walking table at n sheet k list₀ places₀ list places place passed words left) where
+  pub walking_start : k ≤ 64 → Walking table at n sheet k list₀ places₀ list₀ places₀ at 0 0
+  walking_start h =
+      let q : n - 0 ≡ n = omega arith in
+      record { more = k; room = omega arith; few = h; long = refl; wide = refl; stored = rw q; count = rw q (omega arith); walk = rw q }
+
+  module _ (list places : List ℕ) (place passed words : ℕ) (w : Walking table at n sheet k list₀ places₀ list places place passed words) where
     pub walking-short : words ≤ 192
     walking-short = let a = w.room in let b = w.few in omega arith
 
-    pub walking-fits : n < 2 ^ 64 → 0 < left → Fits w64 (passed + 1)
-    walking-fits l h = let a = w.number in record { fits = omega arith }
-
     -- nothing is left
-    module _ (e : listed_to (change_found sheet k) w.more left table place passed ≡ [])
-        (f : walked_to (change_found sheet k) w.more left table place places ≡ places) where
-      told : words ≡ length (listed_to (change_found sheet k) k n table at 0)
-      told = let a = w.count in let b = ap length e in omega arith
+    ended : listed_to (change_found sheet k) w.more (n - passed) table place passed ≡ []
+        → walked_to (change_found sheet k) w.more (n - passed) table place places ≡ places → Walked words list places
+    ended e f =
+        let a = w.count in
+        let b = ap length e in
+        (omega arith, sym (ap (λ (l : List ℕ). sets list words l) e) ∙ w.stored, sym f ∙ w.walk)
 
-      listed : list ≡ sets list₀ 0 (listed_to (change_found sheet k) k n table at 0)
-      listed = sym (ap (λ (l : List ℕ). sets list words l) e) ∙ w.stored
+    pub walked-all : n ≤ passed → Walked words list places
+    walked-all h =
+        let q : n - passed ≡ 0 = omega arith in
+        ended (rw q (Listed.to_end (change_found sheet k) w.more table place passed)) (rw q (to_end (change_found sheet k) w.more table place places))
 
-      noted-all : places ≡ walked_to (change_found sheet k) k n table at places₀
-      noted-all = sym f ∙ w.walk
+    pub walked-full : words ≡ 3 * k → Walked words list places
+    walked-full h =
+        let a = w.room in
+        let q : w.more ≡ 0 = omega arith in
+        ended (rw q (Listed.to-all (change_found sheet k) (n - passed) table place passed))
+        (rw q (to-all (change_found sheet k) (n - passed) table place places))
 
-    module _ (h : left ≤ 0) where
-      no-left : left ≡ 0
-      no-left = omega arith
+    pub walked-stop : (r : Option RowPlace) → r ≡ row_of place (row_name row.Tag (drop place table)) → r ≡ None → Walked words list places
+    walked-stop r e f =
+        let (j, o) = row-broken (row_name row.Tag (drop place table)) place (sym e ∙ f) in
+        ended (Listed.to-broken (change_found sheet k) w.more (n - passed) table place passed o)
+        (to-broken (change_found sheet k) w.more (n - passed) table place places o)
 
-      done-list : listed_to (change_found sheet k) w.more left table place passed ≡ []
-      done-list = rw no-left (Listed.to_end (change_found sheet k) w.more table place passed)
-
-      done-walk : walked_to (change_found sheet k) w.more left table place places ≡ places
-      done-walk = rw no-left (to_end (change_found sheet k) w.more table place places)
-
-      pub told-done : words ≡ length (listed_to (change_found sheet k) k n table at 0)
-      told-done = told done-list done-walk
-
-      pub listed-done : list ≡ sets list₀ 0 (listed_to (change_found sheet k) k n table at 0)
-      listed-done = listed done-list done-walk
-
-      pub places-done : places ≡ walked_to (change_found sheet k) k n table at places₀
-      places-done = noted-all done-list done-walk
-
-    module _ (h : words ≡ 3 * k) where
-      no_more : w.more ≡ 0
-      no_more = let a = w.room in omega arith
-
-      full-list : listed_to (change_found sheet k) w.more left table place passed ≡ []
-      full-list = rw no_more (Listed.to-all (change_found sheet k) left table place passed)
-
-      full-walk : walked_to (change_found sheet k) w.more left table place places ≡ places
-      full-walk = rw no_more (to-all (change_found sheet k) left table place places)
-
-      pub told-full : words ≡ length (listed_to (change_found sheet k) k n table at 0)
-      told-full = told full-list full-walk
-
-      pub listed-full : list ≡ sets list₀ 0 (listed_to (change_found sheet k) k n table at 0)
-      listed-full = listed full-list full-walk
-
-      pub places-full : places ≡ walked_to (change_found sheet k) k n table at places₀
-      places-full = noted-all full-list full-walk
-
-    module _ (r : RowPlace) (e : r ≡ row_of place (row_name row.Tag (drop place table))) (f : r ≡ row_place.Broken) where
-      broken : (j : ℕ) × (row_name row.Tag (drop place table) ≡ bad j)
-      broken = row-broken (row_name row.Tag (drop place table)) place (sym e ∙ f)
-
-      stop-list : listed_to (change_found sheet k) w.more left table place passed ≡ []
-      stop-list = Listed.to-broken (change_found sheet k) w.more left table place passed broken.1
-
-      stop-walk : walked_to (change_found sheet k) w.more left table place places ≡ places
-      stop-walk = to-broken (change_found sheet k) w.more left table place places broken.1
-
-      pub told-stop : words ≡ length (listed_to (change_found sheet k) k n table at 0)
-      told-stop = told stop-list stop-walk
-
-      pub listed-stop : list ≡ sets list₀ 0 (listed_to (change_found sheet k) k n table at 0)
-      listed-stop = listed stop-list stop-walk
-
-      pub places-stop : places ≡ walked_to (change_found sheet k) k n table at places₀
-      places-stop = noted-all stop-list stop-walk
-
-    pub walking-step : (ls qs : List ℕ) (len end z : ℕ) (r : RowPlace) (f : NameFound) → 0 < left → (words ≡ 3 * k → ⊥)
-        → r ≡ row_of place (row_name row.Tag (drop place table)) → r ≡ row_place.Whole len end
-        → f ≡ find_name table (place + 1) len sheet 1 k row.Change → z ≡ words + length (words_for f passed place)
-        → ls ≡ sets list words (words_for f passed place) → qs ≡ noted places f place
-        → Walking table at n sheet k list₀ places₀ ls qs end (passed + 1) z (left - 1)
-    walking-step ls qs len end z r f h u a b c d e g =
-        let (x, m, q, o) = row-parts row.Tag table place len end (sym a ∙ b) in
-        let v : f ≡ change_found sheet k (take len (drop (place + 1) table)) = c ∙ find-there table sheet (place + 1) len 1 k row.Change x in
+    pub walking-step : (ls qs : List ℕ) (z : ℕ) (p : RowPlace) (r : Option RowPlace) (f : Option NameFound) → passed < n → (words ≡ 3 * k → ⊥)
+        → r ≡ row_of place (row_name row.Tag (drop place table)) → r ≡ Some p → f ≡ change_found sheet k (take p.name (drop (place + 1) table))
+        → z ≡ words + length (words_for f passed place) → ls ≡ sets list words (words_for f passed place) → qs ≡ noted places f place
+        → Walking table at n sheet k list₀ places₀ ls qs p.end (passed + 1) z
+    walking-step ls qs z p r f h u a b v d e g =
+        let (x, m, q, o) = row-parts row.Tag table place p.name p.end (sym a ∙ b) in
         let some : 0 < w.more = more_left w.more w.room in
-        let rest : listed_to (change_found sheet k) w.more left table place passed ≡ words_for f passed place
-        ++ listed_to (change_found sheet k) (left_after f w.more) (left - 1) table end (passed + 1) =
-        rw (v, o) (more-listed w.more left some h m (take len (drop (place + 1) table)) q) in
-        let walks : walked_to (change_found sheet k) w.more left table place places ≡ walked_to (change_found sheet k) (left_after f w.more) (left - 1)
-        table end (noted places f place) = rw (v, o) (more-walked w.more left some h m (take len (drop (place + 1) table)) q) in
+        let left : n - (passed + 1) ≡ n - passed - 1 = omega arith in
+        let rest : listed_to (change_found sheet k) w.more (n - passed) table place passed ≡ words_for f passed place
+        ++ listed_to (change_found sheet k) (left_after f w.more) (n - passed - 1) table p.end (passed + 1) =
+        rw (v, o) (more-listed w.more (n - passed) some (omega arith) m (take p.name (drop (place + 1) table)) q) in
+        let walks : walked_to (change_found sheet k) w.more (n - passed) table place places ≡ walked_to (change_found sheet k) (left_after f w.more)
+        (n - passed - 1) table p.end (noted places f place) =
+        rw (v, o) (more-walked w.more (n - passed) some (omega arith) m (take p.name (drop (place + 1) table)) q) in
         let i : length qs ≡ length places = ap length g ∙ noted-length places f place in
         let j : length ls ≡ length list = ap length e ∙ length-sets list words (words_for f passed place) in
         let s = after-words f passed place w.more some in
         let t = w.room in
         let y = w.count in
-        let p = w.number in
-        let l = ap length rest ∙ length-append (words_for f passed place) (listed_to (change_found sheet k) (left_after f w.more) (left - 1) table end
-        (passed + 1)) in
+        let l = ap length rest ∙ length-append (words_for f passed place) (listed_to (change_found sheet k) (left_after f w.more) (n - passed - 1) table
+        p.end (passed + 1)) in
         record {
           more = left_after f w.more;
           room = omega arith;
           few = w.few;
-          number = omega arith;
           long = j ∙ w.long;
           wide = i ∙ w.wide;
-          stored = rw (e, d) (sym (sets-append list words (words_for f passed place) _) ∙ sym (ap (λ (l : List ℕ). sets list words l) rest) ∙ w.stored);
-          count = omega arith;
-          walk = rw g (sym walks ∙ w.walk);
+          stored = rw (left, e, d)
+              (sym (sets-append list words (words_for f passed place) _) ∙ sym (ap (λ (l : List ℕ). sets list words l) rest) ∙ w.stored);
+          count = rw left (omega arith);
+          walk = rw (left, g) (sym walks ∙ w.walk);
         }
       where
         more_left : (j : ℕ) → words + 3 * j ≡ 3 * k → 0 < j
@@ -561,25 +477,11 @@ pub ruleset laws = (
   row-name-there,
   row-name-place,
   store-there,
-  none_end,
-  none-listed,
-  tag-end,
-  tag-listed,
   note-nothing,
   note-past,
   note-set,
   note-kept,
   walking_start,
   walking-short,
-  walking-fits,
-  told-done,
-  listed-done,
-  places-done,
-  told-full,
-  listed-full,
-  places-full,
-  told-stop,
-  listed-stop,
-  places-stop,
-  walking-step,
+  place-many,
 )

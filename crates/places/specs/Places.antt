@@ -1,20 +1,20 @@
 -- Where the tags that a sheet names stand in the table, and where the changes that name a tag stand in the sheet.
-use Rattle.std.specs.Prelude.{ℕ, zero, suc, ◌+◌, ◌-◌, ◌<◌, ◌≤◌, ◌≡◌, cond, List, [], ◌∷◌, ◌++◌, map, length, drop, get_or, set, eqb, ltb}
+use Rattle.std.specs.Prelude.{ℕ, zero, suc, ◌+◌, ◌-◌, ◌<◌, ◌≤◌, ◌≡◌, cond, List, [], ◌∷◌, ◌++◌, map, length, drop, get_or, set, eqb, ltb, true, Option, Some, None}
 use Rattle.std.proofs.lemmas.List.Edits.{sets}
 use Rattle.marks.specs.Marks.{mark_for, with_mark}
 use Rattle.layout.specs.Reading.{bad, good}
 use Rattle.layout.specs.Saving.{most_changes}
 use Rattle.rows.specs.Rows.{row_name}
-use Rattle.names.specs.Names.{names, found}
+use Rattle.names.specs.Names.{names, found, covers}
 use Rattle.rows.specs.declared.Row.TheVariants as row
 use Rattle.names.specs.declared.NameFound.{NameFound}
-use Rattle.names.specs.declared.NameFound.TheVariants as found
+use Rattle.places.specs.declared.Change.{Change}
 
 -- ── Places by names ──
 
-unfoldable pub place_found : NameFound → ℕ
-place_found (found.At i p) = p
-place_found found.Nothing = 0
+unfoldable pub place_found : Option NameFound → ℕ
+place_found (Some f) = f.place
+place_found None = 0
 
 abbrev pub tag_names_at : (table : List ℕ) → (at n : ℕ) → List (List ℕ)
 tag_names_at table at n = names n (row_name row.Tag) (drop at table)
@@ -23,7 +23,7 @@ abbrev pub change_names_at : (sheet : List ℕ) → (changes : ℕ) → List (Li
 change_names_at sheet k = names k (row_name row.Change) (drop 1 sheet)
 
 -- the change of a name, and its place; the place of the first tag of a name
-abbrev pub change_found : (sheet : List ℕ) → (changes : ℕ) → (name : List ℕ) → NameFound
+abbrev pub change_found : (sheet : List ℕ) → (changes : ℕ) → (name : List ℕ) → Option NameFound
 change_found sheet k name = found name k (row_name row.Change) sheet 0 1
 
 unfoldable pub change_place : (sheet : List ℕ) → (changes : ℕ) → (name : List ℕ) → ℕ
@@ -58,15 +58,15 @@ abbrev pub listing : (words : List ℕ) → (tags end : ℕ) → Listed
 listing words tags end = record { words = words; tags = tags; end = end }
 
 -- the words of a tag for which a change was found, or not
-unfoldable pub words_for : NameFound → (number tag : ℕ) → List ℕ
-words_for (found.At c p) i tag = i ∷ tag ∷ p ∷ []
-words_for found.Nothing i tag = []
+unfoldable pub words_for : Option NameFound → (number tag : ℕ) → List ℕ
+words_for (Some f) i tag = i ∷ tag ∷ f.place ∷ []
+words_for None i tag = []
 
 unfoldable pub ahead : (words : List ℕ) → Listed → Listed
 ahead ws l = listing (ws ++ l.words) l.tags l.end
 
 -- n tags, the first of them having a number and a place
-unfoldable pub listed_by : (change : List ℕ → NameFound) → ℕ → (table : List ℕ) → (at number : ℕ) → Listed
+unfoldable pub listed_by : (change : List ℕ → Option NameFound) → ℕ → (table : List ℕ) → (at number : ℕ) → Listed
 listed_by change zero t at i = listing [] i at
 listed_by change (suc n) t at i =
     elim (row_name row.Tag (drop at t)) [ bad j ↦ listing [] i at | good name m ↦ ahead (words_for (change name) i at) (listed_by change n t (at + m) (i + 1)) ]
@@ -75,12 +75,12 @@ abbrev pub listed_in : (table : List ℕ) → (at n : ℕ) → (sheet : List ℕ
 listed_in table at n sheet k = listed_by (change_found sheet k) n table at 0
 
 -- how many changes have no tag yet
-unfoldable pub left_after : NameFound → (changes : ℕ) → ℕ
-left_after (found.At c p) k = k - 1
-left_after found.Nothing k = k
+unfoldable pub left_after : Option NameFound → (changes : ℕ) → ℕ
+left_after (Some f) k = k - 1
+left_after None k = k
 
 -- the words of the first tags that changes name, as many tags as there are changes
-unfoldable pub listed_to : (change : List ℕ → NameFound) → (changes : ℕ) → ℕ → (table : List ℕ) → (at number : ℕ) → List ℕ
+unfoldable pub listed_to : (change : List ℕ → Option NameFound) → (changes : ℕ) → ℕ → (table : List ℕ) → (at number : ℕ) → List ℕ
 listed_to change k zero t at i = []
 listed_to change zero (suc n) t at i = []
 listed_to change (suc k) (suc n) t at i =
@@ -91,12 +91,12 @@ listed_to change (suc k) (suc n) t at i =
     ]
 
 -- a tag's place, stored for the change that was found for it, unless that has one
-unfoldable pub noted : (ps : List ℕ) → NameFound → (tag : ℕ) → List ℕ
-noted ps (found.At i p) tag = cond (eqb (get_or ps i 0) 0) (set ps i tag) ps
-noted ps found.Nothing tag = ps
+unfoldable pub noted : (ps : List ℕ) → Option NameFound → (tag : ℕ) → List ℕ
+noted ps (Some f) tag = cond (eqb (get_or ps f.number 0) 0) (set ps f.number tag) ps
+noted ps None tag = ps
 
 -- the places of these tags, each stored for its change
-unfoldable pub walked_to : (change : List ℕ → NameFound) → (changes : ℕ) → ℕ → (table : List ℕ) → (at : ℕ) → (ps : List ℕ) → List ℕ
+unfoldable pub walked_to : (change : List ℕ → Option NameFound) → (changes : ℕ) → ℕ → (table : List ℕ) → (at : ℕ) → (ps : List ℕ) → List ℕ
 walked_to change k zero t at ps = ps
 walked_to change zero (suc n) t at ps = ps
 walked_to change (suc k) (suc n) t at ps =
@@ -133,27 +133,13 @@ unfoldable pub all_marked : List (List ℕ) → (marks : List ℕ) → List ℕ
 all_marked [] ms = ms
 all_marked (n ∷ ns) ms = all_marked ns (with_mark ms (mark_for n))
 
--- what is stored for each change: the mark of its name, or where it starts
-unfoldable pub change_mark : (name : List ℕ) → (place : ℕ) → ℕ
-change_mark name p = mark_for name
+-- the whole ones of n changes from a place on: the mark of the name of each, and where it starts
+unfoldable pub changes_from : ℕ → (sheet : List ℕ) → (at : ℕ) → List Change
+changes_from zero s at = []
+changes_from (suc n) s at =
+    elim (row_name row.Change (drop at s)) [ bad j ↦ [] | good name m ↦ record { mark = mark_for name; place = at } ∷ changes_from n s (at + m) ]
 
-unfoldable pub change_start : (name : List ℕ) → (place : ℕ) → ℕ
-change_start name p = p
-
--- so much for each of n changes, stored from a number on
-unfoldable pub stored : (List ℕ → ℕ → ℕ) → ℕ → (sheet : List ℕ) → (at : ℕ) → (ps : List ℕ) → ℕ → List ℕ
-stored f zero s at ps i = ps
-stored f (suc n) s at ps i =
-    elim (row_name row.Change (drop at s)) [ bad j ↦ ps | good name m ↦ stored f n s (at + m) (set ps i (f name at)) (i + 1) ]
-
--- what is stored for n changes from a place on stands from a number on
-pub record Kept (f : List ℕ → ℕ → ℕ) (sheet : List ℕ) (at n : ℕ) (ps : List ℕ) (i : ℕ) : Type 0 where
-  pub before : List ℕ
-  pub room : i + n ≤ length before
-  pub stores : ps ≡ stored f n sheet at before i
-
--- n changes, which are whole, by their marks and places
-pub record Known (sheet : List ℕ) (at n : ℕ) (known starts : List ℕ) (i : ℕ) : Type 0 where
-  pub whole : length (names n (row_name row.Change) (drop at sheet)) ≡ n
-  pub marks : Kept change_mark sheet at n known i
-  pub places : Kept change_start sheet at n starts i
+-- a sheet's changes are all there, and their names are marked
+pub record Marked (sheet filter : List ℕ) (changes : List Change) : Type 0 where
+  pub covered : covers filter (change_names_at sheet (length changes)) ≡ true
+  pub known : changes ≡ changes_from (length changes) sheet 1

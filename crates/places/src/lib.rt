@@ -1,20 +1,35 @@
 // Where the tags that a sheet names stand in a table, and where the changes that name a tag stand in the sheet.
-#![tactic(auto)]
+#![tactic(auto, using(crate::proofs::Walks::laws, crate::proofs::Searches::laws))]
 
-ghost use Rattle.std.specs.Prelude.{◌≡◌, true, [], ◌∷◌, map, ◌+◌, ◌≤◌, length, take, drop, set};
+ghost use Rattle.std.specs.Prelude.{◌≡◌, [], ◌∷◌, map, ◌+◌, ◌≤◌, length, drop, set};
 ghost use Rattle.std.proofs.lemmas.List.Edits.{sets};
-ghost use Rattle.marks.specs.Marks.{mark_for, mark_of};
+ghost use Rattle.marks.specs.Marks.{mark_for};
 ghost use Rattle.layout.specs.Recording.{among};
 ghost use Rattle.rows.specs.Rows.{row_name};
-ghost use Rattle.names.specs.Names.{names, find_name, covers};
-ghost use Rattle.places.specs.Places.{noted, walked_to, change_found, change_names_at, all_marked, change_mark, change_start, stored, Known, words_for, listed_to, placing, placed_by};
+ghost use Rattle.names.specs.Names.{names};
+ghost use Rattle.places.specs.Places.{noted, walked_to, change_found, change_names_at, all_marked, changes_from, Marked, words_for, listed_to, placing, placed_by};
 
 use header::Header;
 use names::NameFound;
-use rows::{Row, RowPlace};
+use rows::Row;
 
 // How many words a list has room for, so that it holds the tags of as many changes as a sheet has.
 pub const WORDS: usize = 192;
+
+// A change of the sheet: the mark of its name, and where it starts.
+#[derive(Clone, Copy)]
+struct Change {
+    mark: usize,
+    place: usize,
+}
+
+// A sheet with its whole changes and the marks of their names: a tag whose name is not marked needs no search.
+#[derive(Clone, Copy)]
+struct Sheet<'a> {
+    bytes: &'a [u8],
+    filter: &'a [u64],
+    changes: &'a [Change],
+}
 
 // Stores a word, where there is room for it.
 fn store(list: &mut [usize], at: usize, word: usize)
@@ -26,134 +41,97 @@ fn store(list: &mut [usize], at: usize, word: usize)
 }
 
 // Lists a tag for which a change was found: its number, its place, and the place of the change. Where the list ends then.
-fn list_tag(list: &mut [usize], at: usize, found: NameFound, number: usize, tag: usize) -> usize
+fn list_tag(
+    list: &mut [usize],
+    at: usize,
+    found: Option<NameFound>,
+    number: usize,
+    tag: usize,
+) -> usize
     requires { at ≤ 192 }
     ensures { (result ≡ at + length (words_for found number tag)) × (list.new ≡ sets list.old at (words_for found number tag)) }
 {
-    let NameFound::At(_, change) = found else {
+    let Some(change) = found else {
         return at;
     };
     store(list, at, number);
     store(list, at + 1, tag);
-    store(list, at + 2, change);
+    store(list, at + 2, change.place);
     at + 3
 }
 
 // Notes for the change that was found where its tag stands: the first one.
-fn note(places: &mut [usize], found: NameFound, tag: usize)
+fn note(places: &mut [usize], found: Option<NameFound>, tag: usize)
     ensures { places.new ≡ noted places.old found tag }
 {
-    let NameFound::At(number, _) = found else {
+    let Some(change) = found else {
         return;
     };
-    if places.len() <= number {
+    if places.len() <= change.number {
         return;
     }
-    if places[number] == 0 {
-        places[number] = tag;
+    if places[change.number] == 0 {
+        places[change.number] = tag;
     }
 }
 
 // Marks the names of the sheet, so that a tag whose name is not marked needs no search; for each change, stores the mark of its name and where it starts.
 // How many of the changes are whole.
-fn mark_names(
-    sheet: &[u8],
-    changes: usize,
-    filter: &mut [u64],
-    marks: &mut [usize],
-    starts: &mut [usize],
-) -> usize
-    requires { (changes ≤ length marks.old) × (changes ≤ length starts.old) }
-    ensures { (result ≡ length (change_names_at sheet.now changes)) × (filter.new ≡ all_marked (change_names_at sheet.now changes) filter.old) × (marks.new ≡ stored change_mark changes sheet.now 1 marks.old 0) × (starts.new ≡ stored change_start changes sheet.now 1 starts.old 0) }
+fn mark_names(sheet: &[u8], count: usize, filter: &mut [u64], changes: &mut [Change]) -> usize
+    requires { count ≤ length changes.old }
+    ensures { (result ≡ length (changes_from count sheet.now 1)) × (filter.new ≡ all_marked (change_names_at sheet.now count) filter.old) × (changes.new ≡ sets changes.old 0 (changes_from count sheet.now 1)) }
 {
     let mut place = 1;
-    let mut passed = 0;
-    let mut left = changes;
-    while 0 < left {
-        let row = rows::row_at(sheet, place, Row::Change);
-        let RowPlace::Whole(len, end) = row else {
+    for passed in 0..count {
+        let Some(row) = rows::row_at(sheet, place, Row::Change) else {
             return passed;
         };
-        let mark = marks::mark_of(sheet, place + 1, len);
+        let mark = marks::mark_of(sheet, place + 1, row.name);
         marks::mark(filter, mark);
-        marks[passed] = mark;
-        starts[passed] = place;
-        place = end;
-        passed += 1;
-        left -= 1;
+        changes[passed] = Change { mark, place };
+        place = row.end;
     }
-    passed
+    count
 }
 
-// Whether the change at a place has the name of `len` bytes that stands in the table. Names with other marks are not compared.
-fn is_named(
-    table: &[u8],
-    here: usize,
-    len: usize,
-    mark: usize,
-    sheet: &[u8],
-    place: usize,
-    other: usize,
-) -> bool
-    requires { (here + len ≤ length table.now) × (mark ≡ mark_of table.now here len) × (map mark_for (names 1 (row_name Row.Change) (drop place sheet.now)) ≡ other ∷ []) }
-    ensures { result ≡ among (take len (drop here table.now)) (names 1 (row_name Row.Change) (drop place sheet.now)) }
+// Whether a change has a name. Names with other marks are not compared.
+fn is_named(name: &[u8], mark: usize, sheet: &[u8], change: Change) -> bool
+    requires { (mark ≡ mark_for name.now) × (map mark_for (names 1 (row_name Row.Change) (drop change.place sheet.now)) ≡ change.mark ∷ []) }
+    ensures { result ≡ among name.now (names 1 (row_name Row.Change) (drop change.place sheet.now)) }
 {
-    if other != mark {
+    if change.mark != mark {
         return false;
     }
-    let found = names::find_name(table, here, len, sheet, place, 1, Row::Change);
-    let NameFound::Nothing = found else {
-        return true;
-    };
-    false
+    let found = names::find_name(name, 0, name.len(), sheet, change.place, 1, Row::Change);
+    found.is_some()
 }
 
-// The change with the name of `len` bytes that stands in the table, by the marks and the places of all changes: no row is read but to compare its name.
-fn search_changes(
-    table: &[u8],
-    here: usize,
-    len: usize,
-    mark: usize,
-    sheet: &[u8],
-    changes: usize,
-    marks: &[usize],
-    starts: &[usize],
-) -> NameFound
-    requires { (here + len ≤ length table.now) × (mark ≡ mark_of table.now here len) × Known sheet.now 1 changes marks.now starts.now 0 }
-    ensures { result ≡ find_name table.now here len sheet.now 1 changes Row.Change }
+// The change with a name, by the marks and the places of all changes: no row is read but to compare its name.
+fn search_changes(name: &[u8], mark: usize, sheet: Sheet<'_>) -> Option<NameFound>
+    requires { (mark ≡ mark_for name.now) × Marked sheet.bytes.now sheet.filter.now sheet.changes.now }
+    ensures { result ≡ change_found sheet.entry.bytes.now (length sheet.entry.changes.now) name.now }
 {
-    let mut passed = 0;
-    let mut left = changes;
-    while 0 < left {
-        let place = starts[passed];
-        if is_named(table, here, len, mark, sheet, place, marks[passed]) {
-            return NameFound::At(passed, place);
+    for (number, change) in sheet.changes.iter().enumerate() {
+        if is_named(name, mark, sheet.bytes, *change) {
+            return Some(NameFound {
+                number,
+                place: change.place,
+            });
         }
-        passed += 1;
-        left -= 1;
     }
-    NameFound::Nothing
+    None
 }
 
-// The change with the name of `len` bytes that stands in the table.
-fn find_change(
-    table: &[u8],
-    here: usize,
-    len: usize,
-    sheet: &[u8],
-    changes: usize,
-    filter: &[u64],
-    marks: &[usize],
-    starts: &[usize],
-) -> NameFound
-    requires { (here + len ≤ length table.now) × (covers filter.now (change_names_at sheet.now changes) ≡ true) × Known sheet.now 1 changes marks.now starts.now 0 }
-    ensures { result ≡ find_name table.now here len sheet.now 1 changes Row.Change }
+// The change with a name.
+fn find_change(name: &[u8], sheet: Sheet<'_>) -> Option<NameFound>
+    requires { Marked sheet.bytes.now sheet.filter.now sheet.changes.now }
+    ensures { result ≡ change_found sheet.entry.bytes.now (length sheet.entry.changes.now) name.now }
 {
-    let mark = marks::mark_of(table, here, len);
-    if !marks::marked(filter, mark) {
-        return NameFound::Nothing;
+    let mark = marks::mark_of(name, 0, name.len());
+    if !marks::marked(sheet.filter, mark) {
+        return None;
     }
-    search_changes(table, here, len, mark, sheet, changes, marks, starts)
+    search_changes(name, mark, sheet)
 }
 
 // Walks the table once for all changes, until each has its tag: lists the tags that they name, and notes for each change where its tag stands. How many words
@@ -162,42 +140,34 @@ fn find_tags(
     table: &[u8],
     at: usize,
     n: usize,
-    sheet: &[u8],
-    changes: usize,
-    filter: &[u64],
-    marks: &[usize],
-    starts: &[usize],
+    sheet: Sheet<'_>,
     list: &mut [usize],
     places: &mut [usize],
 ) -> usize
-    requires { (changes ≤ 64) × (covers filter.now (change_names_at sheet.now changes) ≡ true) × Known sheet.now 1 changes marks.now starts.now 0 }
-    ensures { (result ≡ length (listed_to (change_found sheet.now changes) changes n table.now at 0)) × (list.new ≡ sets list.old 0 (listed_to (change_found sheet.now changes) changes n table.now at 0)) × (places.new ≡ walked_to (change_found sheet.now changes) changes n table.now at places.old) }
+    requires { (length sheet.changes.now ≤ 64) × Marked sheet.bytes.now sheet.filter.now sheet.changes.now }
+    ensures { (result ≡ length (listed_to (change_found sheet.entry.bytes.now (length sheet.entry.changes.now)) (length sheet.entry.changes.now) n table.now at 0)) × (list.new ≡ sets list.old 0 (listed_to (change_found sheet.entry.bytes.now (length sheet.entry.changes.now)) (length sheet.entry.changes.now) n table.now at 0)) × (places.new ≡ walked_to (change_found sheet.entry.bytes.now (length sheet.entry.changes.now)) (length sheet.entry.changes.now) n table.now at places.old) }
 {
     let mut place = at;
-    let mut passed = 0;
     let mut words = 0;
-    let mut left = n;
-    while 0 < left {
-        if words == 3 * changes {
+    for passed in 0..n {
+        if words == 3 * sheet.changes.len() {
             return words;
         }
-        let row = rows::row_at(table, place, Row::Tag);
-        let RowPlace::Whole(len, end) = row else {
+        let Some(row) = rows::row_at(table, place, Row::Tag) else {
             return words;
         };
-        let found = find_change(table, place + 1, len, sheet, changes, filter, marks, starts);
+        let start = place + 1;
+        let found = find_change(&table[start..start + row.name], sheet);
         words = list_tag(list, words, found, passed, place);
         note(places, found, place);
-        place = end;
-        passed += 1;
-        left -= 1;
+        place = row.end;
     }
     words
 }
 
 // Of n tags of the table, from `at` on, lists those that changes name, in the table's order, as far as `list` has room; for as many changes as `places` has,
 // where the tag of each stands in the table; 0 for none. It ends with as many tags as there are changes: no two tags of a table have one name. How many words
-// are listed.
+// are listed. A list of words and places with 0 for none are what is lent: place 0 is no tag's, and an Option would take twice the memory.
 pub fn place_tags(
     table: &[u8],
     at: usize,
@@ -212,10 +182,12 @@ pub fn place_tags(
         return 0;
     }
     let mut filter = [0; marks::MARKS];
-    let mut marks = [0; Header::MOST_CHANGES];
-    let mut starts = [0; Header::MOST_CHANGES];
-    let whole = mark_names(sheet, places.len(), &mut filter, &mut marks, &mut starts);
-    find_tags(
-        table, at, n, sheet, whole, &filter, &marks, &starts, list, places,
-    )
+    let mut changes = [Change { mark: 0, place: 0 }; Header::MOST_CHANGES];
+    let whole = mark_names(sheet, places.len(), &mut filter, &mut changes);
+    let marked = Sheet {
+        bytes: sheet,
+        filter: &filter,
+        changes: &changes[..whole],
+    };
+    find_tags(table, at, n, marked, list, places)
 }

@@ -19,23 +19,20 @@ use Rattle.layout.specs.Items as items
 use Rattle.layout.proofs.Lists.{le-or-lt}
 use Rattle.layout.proofs.Lines.{line-pass, line-holds, lines-first, opening-pass, opens-passes}
 use Rattle.layout.proofs.Places.{item-stands}
-use Rattle.parts.specs.declared.Place.TheVariants.{End}
-use Rattle.opening.specs.Opened.{held_of, open_of, open_refusal}
+use Rattle.std.specs.Prelude.{Some, None, Result, Ok, Err}
+use Rattle.opening.specs.Opened.{held_of, open_of}
 use Rattle.frames.specs.Frames.{frame_at, whole_frame}
 use Rattle.opening.specs.declared.Held.{Held}
-use Rattle.opening.specs.declared.Opening.{Opening}
-use Rattle.opening.specs.declared.Opening.TheVariants as opening_as
 use Rattle.opening.proofs.Lines.{open-opens, open-refuses}
-use Rattle.refusal.specs.Refusal.{placed, plain}
+use Rattle.refusal.specs.Refusal.{placed, unless}
 use Rattle.refusal.specs.declared.Refusal.{Refusal}
-use Rattle.reading.specs.Read.{item_of, found_in, found_by, find_of, refusal_of, refusal_in, frame_by, frame_read_of}
-use Rattle.items.specs.Items.{frame_place, frame_from, held_frame, held_found}
+use Rattle.refusal.specs.declared.Refusal.TheVariants.{NoSuchItem}
+use Rattle.reading.specs.Read.{item_of, found_in, found_as, find_of, refused, refusal_in, read_as, frame_read_of}
+use Rattle.items.specs.Items.{or_no_such, frame_place, frame_from, held_frame, held_found}
 use Rattle.reading.specs.Read as read
 use Rattle.items.specs.declared.Item.{Item}
 use Rattle.items.specs.declared.Found.{Found}
-use Rattle.items.specs.declared.Found.TheVariants.{At, Refused}
 use Rattle.items.specs.declared.FrameRead.{FrameRead}
-use Rattle.items.specs.declared.FrameRead.TheVariants as frame_as
 use Rattle.items.proofs.Bytes.{Bytes}
 use Rattle.reading.proofs.Opened.{legal, here, frame_here}
 use Rattle.items.proofs.Laws.{place-past}
@@ -44,17 +41,11 @@ use Rattle.items.proofs.Frames.{frame-nowhere, frame-there}
 
 -- ── What opening's answer says ──
 
-opens : (f : List ℕ) (r : Opening) (h : Held) → r ≡ open_of f → r ≡ opening_as.Opened h → refusal f ≡ 0
-opens f r h e g = (open-opens f h (sym e ∙ g)).0
-
-holds : (f : List ℕ) (r : Opening) (h : Held) → r ≡ open_of f → r ≡ opening_as.Opened h → h ≡ held_of f
-holds f r h e g = (open-opens f h (sym e ∙ g)).1
-
-refused-with : (f : List ℕ) (r : Opening) (q n : Refusal) → r ≡ open_of f → r ≡ opening_as.Refused q → n ≡ open_refusal r
+refused-with : (f : List ℕ) (r : Result Held Refusal) (n : Refusal) → r ≡ open_of f → r ≡ Err n
     → (k : ℕ) × (refusal f ≡ suc k) × (n ≡ placed (suc k) (opening_place (suc k) f))
-refused-with f r q n e g h =
-    let (k, p, m) = open-refuses f q (sym e ∙ g) in
-    (k, m, h ∙ ap open_refusal g ∙ p)
+refused-with f r n e g =
+    let (k, p, m) = open-refuses f n (sym e ∙ g) in
+    (k, m, p)
 
 -- then 8: opening's number goes ahead of it
 eight-refused : (f : List ℕ) (b : Bool) (k : ℕ) → refusal f ≡ suc k → first_of (opening_lines f ++ (line 8 b ∷ [])) ≡ suc k
@@ -70,98 +61,98 @@ eight-passed f b o e = opening-pass f (line 8 b ∷ []) (opens-passes f o) ∙ l
 
 -- ── Finding an item ──
 
-pub find-refused : (f : List ℕ) (r : Opening) (q n : Refusal) (it : Item) → r ≡ open_of f → r ≡ opening_as.Refused q → n ≡ open_refusal r
-    → Refused n ≡ find_of f it
-unfolding find_of found_by item_refusal
-find-refused f r q n it e g h =
-    let (k, p, m) = refused-with f r q n e g h in
-    let u : find_of f it ≡ Refused (placed (suc k) (opening_place (suc k) f)) = rw (eight-refused f (no_such_item (shown f) (item_of it)) k p) in
-    ap Refused m ∙ sym u
+pub find-refused : (f : List ℕ) (r : Result Held Refusal) (n : Refusal) (it : Item) → r ≡ open_of f → r ≡ Err n → Err n ≡ find_of f it
+unfolding find_of unless item_refusal
+find-refused f r n it e g =
+    let (k, p, m) = refused-with f r n e g in
+    let u : find_of f it ≡ Err (placed (suc k) (opening_place (suc k) f)) = rw (eight-refused f (no_such_item (shown f) (item_of it)) k p) in
+    ap Err m ∙ sym u
 
 -- an item of a file that opens
 pub found-item : (f : List ℕ) (it : items.Item) → refusal f ≡ 0
-    → found_in (shown f) it ≡ found_by (item_refusal f it) (opening_place (item_refusal f it) f) (item_part f it)
-unfolding found_in found_by item_refusal item_part part_of opening_place
+    → or_no_such (found_in (shown f) it) ≡ unless (item_refusal f it) (opening_place (item_refusal f it) f) (found_as (item_part f it))
+unfolding found_in unless item_refusal item_part part_of opening_place
 found-item f it o = go (no_such_item (shown f) it) refl
   where
     go : (b : Bool) → no_such_item (shown f) it ≡ b
-        → found_in (shown f) it ≡ found_by (item_refusal f it) (opening_place (item_refusal f it) f) (item_part f it)
+        → or_no_such (found_in (shown f) it) ≡ unless (item_refusal f it) (opening_place (item_refusal f it) f) (found_as (item_part f it))
     go true e = rw (eight-holds f (no_such_item (shown f) it) o e, e)
     go false e = rw (eight-passed f (no_such_item (shown f) it) o e, e)
 
-pub find-opened : (f : List ℕ) (r : Opening) (h : Held) (it : Item) (x : Found) → Bytes f → r ≡ open_of f → r ≡ opening_as.Opened h
-    → x ≡ held_found f h it → x ≡ find_of f it
-unfolding find_of
-find-opened f r h it x b e g u = u ∙ shown-item f b (opens f r h e g) h (holds f r h e g) it ∙ found-item f (item_of it) (opens f r h e g)
+pub find-opened : (f : List ℕ) (r : Result Held Refusal) (h : Held) (it : Item) (x : Result Found Refusal) → r ≡ open_of f → r ≡ Ok h
+    → x ≡ held_found f h it → Bytes f → x ≡ find_of f it
+unfolding find_of held_found
+find-opened f r h it x e g u b =
+    let (o, i) = open-opens f h (sym e ∙ g) in
+    u ∙ ap or_no_such (shown-item f b o h i it) ∙ found-item f (item_of it) o
 
-pub refusal-found : (f : List ℕ) (it : Item) (r : Found) (n : Refusal) → r ≡ find_of f it → n ≡ refusal_of r → n ≡ refusal_in f (item_of it)
-unfolding find_of found_by opening_place
-refusal-found f it r n e h = go (item_refusal f (item_of it)) (e)
-  where
-    go : (m : ℕ) → r ≡ found_by m (opening_place m f) (item_part f (item_of it)) → n ≡ placed m (opening_place m f)
-    go zero g = h ∙ ap refusal_of g
-    go (suc k) g = h ∙ ap refusal_of g
+module _ (f : List ℕ) (it : Item) (r : Result Found Refusal) (e : r ≡ find_of f it) where
+  pub none-refused : (x : Found) → r ≡ Ok x → None ≡ refusal_in f (item_of it)
+  unfolding find_of unless refused opening_place
+  none-refused x q = go (item_refusal f (item_of it)) (sym e ∙ q)
+    where
+      go : (m : ℕ) → unless m (opening_place m f) (found_as (item_part f (item_of it))) ≡ Ok x → None ≡ refused m (opening_place m f)
+      go zero g = refl
+      go (suc k) g = let z : ◌≡◌ {A = ℕ} 0 1 = cc in absurd (omega arith)
 
-pub none-refused : (r : Found) (start len : ℕ) → r ≡ At start len → plain 0 ≡ refusal_of r
-unfolding refusal_of
-none-refused r start len e = rw e
-
-pub refused-so : (r : Found) (n : Refusal) → r ≡ Refused n → n ≡ refusal_of r
-unfolding refusal_of
-refused-so r n e = rw e
+  pub refused-so : (n : Refusal) → r ≡ Err n → Some n ≡ refusal_in f (item_of it)
+  unfolding find_of unless refused opening_place
+  refused-so n q = go (item_refusal f (item_of it)) (sym e ∙ q)
+    where
+      go : (m : ℕ) → unless m (opening_place m f) (found_as (item_part f (item_of it))) ≡ Err n → Some n ≡ refused m (opening_place m f)
+      go zero g = let z : ◌≡◌ {A = ℕ} 0 1 = cc in absurd (omega arith)
+      go (suc k) g = cc
 
 -- ── The part ──
 
 -- a refused item's part is empty, at the start
-part_none : (f : List ℕ) (it : Item) (n : Refusal) → find_of f it ≡ Refused n → item_part f (item_of it) ≡ record { start = 0; len = 0 }
-unfolding find_of found_by item_part part_of
+part_none : (f : List ℕ) (it : Item) (n : Refusal) → find_of f it ≡ Err n → item_part f (item_of it) ≡ record { start = 0; len = 0 }
+unfolding find_of unless item_part part_of
 part_none f it n e = go (item_refusal f (item_of it)) refl e
   where
-    go : (m : ℕ) → item_refusal f (item_of it) ≡ m → found_by m (opening_place m f) (item_part f (item_of it)) ≡ Refused n
+    go : (m : ℕ) → item_refusal f (item_of it) ≡ m → unless m (opening_place m f) (found_as (item_part f (item_of it))) ≡ Err n
         → item_part f (item_of it) ≡ record { start = 0; len = 0 }
     go zero p u = let z : ◌≡◌ {A = ℕ} 0 1 = cc in absurd (omega arith)
     go (suc k) p u = rw p
 
 -- an item that is found has its part, within the file
-part-some : (f : List ℕ) (it : Item) (start len : ℕ) → find_of f it ≡ At start len → item_part f (item_of it) ≡ record { start = start; len = len }
-unfolding find_of found_by
-part-some f it start len e = go (item_refusal f (item_of it)) e
+part-some : (f : List ℕ) (it : Item) (x : Found) → find_of f it ≡ Ok x → found_as (item_part f (item_of it)) ≡ x
+unfolding find_of unless
+part-some f it x e = go (item_refusal f (item_of it)) e
   where
-    go : (m : ℕ) → found_by m (opening_place m f) (item_part f (item_of it)) ≡ At start len → item_part f (item_of it) ≡ record { start = start; len = len }
-    go zero u =
-        let p : (item_part f (item_of it)).start ≡ start = cc in
-        let q : (item_part f (item_of it)).len ≡ len = cc in
-        rw (← p, ← q)
+    go : (m : ℕ) → unless m (opening_place m f) (found_as (item_part f (item_of it))) ≡ Ok x → found_as (item_part f (item_of it)) ≡ x
+    go zero u = cc
     go (suc k) u = let z : ◌≡◌ {A = ℕ} 0 1 = cc in absurd (omega arith)
 
-found-ends : (f : List ℕ) (it : Item) (start len : ℕ) → Bytes f → find_of f it ≡ At start len → start + len ≤ length f
-unfolding find_of found_by item_refusal item_part part_of opening_place
-found-ends f it start len b e = go (refusal f) refl (no_such_item (shown f) (item_of it)) refl
-  where
-    go : (m : ℕ) → refusal f ≡ m → (c : Bool) → no_such_item (shown f) (item_of it) ≡ c → start + len ≤ length f
-    go (suc k) p c q =
-        let u : find_of f it ≡ Refused (placed (suc k) (opening_place (suc k) f)) = rw (eight-refused f (no_such_item (shown f) (item_of it)) k p) in
-        let z : ◌≡◌ {A = ℕ} 0 1 = cc in
-        absurd (omega arith)
-    go zero p true q =
-        let u : find_of f it ≡ Refused (plain 8) = rw (eight-holds f (no_such_item (shown f) (item_of it)) p q) in
-        let z : ◌≡◌ {A = ℕ} 0 1 = cc in
-        absurd (omega arith)
-    go zero p false q =
-        let g : At start len ≡ At (item_start (shown f) (item_of it)) (length (item_bytes (shown f) (item_of it))) =
-        sym e ∙ rw (eight-passed f (no_such_item (shown f) (item_of it)) p q) in
-        let s : start ≡ item_start (shown f) (item_of it) = cc in
-        let l : len ≡ length (item_bytes (shown f) (item_of it)) = cc in
-        omega (arith, (here f b p (item-stands (shown f) (item_of it) (legal f b p) q)).inside)
+module _ (f : List ℕ) (it : Item) (x : Found) where
+  found-ends : Bytes f → find_of f it ≡ Ok x → x.start + x.len ≤ length f
+  unfolding find_of unless item_refusal item_part part_of opening_place
+  found-ends b e = go (refusal f) refl (no_such_item (shown f) (item_of it)) refl
+    where
+      go : (m : ℕ) → refusal f ≡ m → (c : Bool) → no_such_item (shown f) (item_of it) ≡ c → x.start + x.len ≤ length f
+      go (suc k) p c q =
+          let u : find_of f it ≡ Err (placed (suc k) (opening_place (suc k) f)) = rw (eight-refused f (no_such_item (shown f) (item_of it)) k p) in
+          let z : ◌≡◌ {A = ℕ} 0 1 = cc in
+          absurd (omega arith)
+      go zero p true q =
+          let u : find_of f it ≡ Err NoSuchItem = rw (eight-holds f (no_such_item (shown f) (item_of it)) p q) in
+          let z : ◌≡◌ {A = ℕ} 0 1 = cc in
+          absurd (omega arith)
+      go zero p false q =
+          let g : Ok x ≡ Ok (record { start = item_start (shown f) (item_of it); len = length (item_bytes (shown f) (item_of it)) }) =
+          sym e ∙ rw (eight-passed f (no_such_item (shown f) (item_of it)) p q) in
+          let i : ◌≡◌ {A = Found} x (record { start = item_start (shown f) (item_of it); len = length (item_bytes (shown f) (item_of it)) }) = cc in
+          let s = ap (λ (y : Found). y.start) i in
+          let l = ap (λ (y : Found). y.len) i in
+          omega (arith, (here f b p (item-stands (shown f) (item_of it) (legal f b p) q)).inside)
 
-pub end_fits_lem : (f : List ℕ) (it : Item) (start len : ℕ) (r : Found) → Bytes f → length f < 2 ^ 64 → r ≡ find_of f it → r ≡ At start len
-    → Fits w64 (start + len)
-end_fits_lem f it start len r b h e g = let l = found-ends f it start len b (sym e ∙ g) in record { fits = omega arith }
+  pub end_fits_lem : (r : Result Found Refusal) → r ≡ find_of f it → r ≡ Ok x → Bytes f → length f < 2 ^ 64 → Fits w64 (x.start + x.len)
+  end_fits_lem r e g b h = let l = found-ends b (sym e ∙ g) in record { fits = omega arith }
 
-pub end-within : (f : List ℕ) (it : Item) (start len : ℕ) (r : Found) → Bytes f → r ≡ find_of f it → r ≡ At start len → start + len ≤ length f
-end-within f it start len r b e g = found-ends f it start len b (sym e ∙ g)
+  pub end-within : (r : Result Found Refusal) → r ≡ find_of f it → r ≡ Ok x → Bytes f → x.start + x.len ≤ length f
+  end-within r e g b = found-ends b (sym e ∙ g)
 
-pub part-refused : (block offset : ℕ) (f : List ℕ) (it : Item) (n : Refusal) (r : Found) → r ≡ find_of f it → r ≡ Refused n
+pub part-refused : (block offset : ℕ) (f : List ℕ) (it : Item) (n : Refusal) (r : Result Found Refusal) → r ≡ find_of f it → r ≡ Err n
     → record { block = block; offset = offset; bytes = [] } ≡ read.part_of (record { block = block; offset = offset; bytes = f })
     (item_part f (item_of it))
 unfolding read.part_of
@@ -169,46 +160,57 @@ part-refused block offset f it n r e g =
     let z : 0 + offset ≡ offset = omega arith in
     rw (part_none f it n (sym e ∙ g), z)
 
-pub part-found : (block offset : ℕ) (f : List ℕ) (it : Item) (start len : ℕ) (r : Found) → r ≡ find_of f it → r ≡ At start len
-    → record { block = block; offset = start + offset; bytes = take (start + len - start) (drop start f) } ≡ read.part_of
+pub part-found : (block offset : ℕ) (f : List ℕ) (it : Item) (x : Found) (r : Result Found Refusal) → r ≡ find_of f it → r ≡ Ok x
+    → record { block = block; offset = x.start + offset; bytes = take (x.start + x.len - x.start) (drop x.start f) } ≡ read.part_of
     (record { block = block; offset = offset; bytes = f }) (item_part f (item_of it))
 unfolding read.part_of
-part-found block offset f it start len r e g = rw (part-some f it start len (sym e ∙ g), add-sub_cancel_left)
+part-found block offset f it x r e g = go x (part-some f it x (sym e ∙ g))
+  where
+    go : (y : Found) → found_as (item_part f (item_of it)) ≡ y
+        → record { block = block; offset = y.start + offset; bytes = take (y.start + y.len - y.start) (drop y.start f) } ≡ read.part_of
+        (record { block = block; offset = offset; bytes = f }) (item_part f (item_of it))
+    go y p = rw (← p, add-sub_cancel_left)
 
 -- ── Frames ──
 
-pub frame_refused : (f : List ℕ) (r : Opening) (q n : Refusal) (i : ℕ) → r ≡ open_of f → r ≡ opening_as.Refused q → n ≡ open_refusal r
-    → frame_as.Refused n ≡ frame_read_of f i
-unfolding frame_read_of frame_by frame_refusal
-frame_refused f r q n i e g h =
-    let (k, p, m) = refused-with f r q n e g h in
-    let u : frame_read_of f i ≡ frame_as.Refused (placed (suc k) (opening_place (suc k) f)) = rw (eight-refused f (no_such_frame (shown f) i) k p) in
-    ap frame_as.Refused m ∙ sym u
+pub frame_refused : (f : List ℕ) (r : Result Held Refusal) (n : Refusal) (i : ℕ) → r ≡ open_of f → r ≡ Err n → Err n ≡ frame_read_of f i
+unfolding frame_read_of unless frame_refusal
+frame_refused f r n i e g =
+    let (k, p, m) = refused-with f r n e g in
+    let u : frame_read_of f i ≡ Err (placed (suc k) (opening_place (suc k) f)) = rw (eight-refused f (no_such_frame (shown f) i) k p) in
+    ap Err m ∙ sym u
 
 -- of a file that opens it is the frame shown
 pub shown-frame : (f : List ℕ) (h : Held) (i : ℕ) → Bytes f → refusal f ≡ 0 → h ≡ held_of f → held_frame f h i ≡ frame_read_of f i
-unfolding frame_read_of frame_by frame_refusal frame_shown frame_answer no_such_frame frame_at whole_frame frame_from opening_place
+unfolding held_frame frame_read_of unless frame_refusal frame_shown frame_answer no_such_frame frame_at whole_frame frame_from opening_place
 shown-frame f h i b o e = go (le-or-lt (length (shown f).frames) i)
   where
     go : (length (shown f).frames ≤ i) ⊎ (i < length (shown f).frames) → held_frame f h i ≡ frame_read_of f i
     go (inl l) =
-        let u : frame_read_of f i ≡ frame_as.Refused (plain 8) =
+        let u : frame_read_of f i ≡ Err NoSuchItem =
         rw (eight-holds f (no_such_frame (shown f) i) o (rw (le-ltb i (length (shown f).frames) l))) in
-        sym (frame-nowhere f h i _ refl (sym (place-past f h.frames h.index i (omega (arith, held-frames f b o h e))))) ∙ sym u
+        ap or_no_such (sym (frame-nowhere f h.sections None (frame_place f h.frames h.index i)
+        (place-past f h.frames h.index i (omega (arith, held-frames f b o h e))) refl)) ∙ sym u
     go (inr l) =
         let x : Frame = frame_of (shown f) i in
-        let p : frame_place f h.frames h.index i ≡ End (frame_start (shown f) i) =
+        let p : frame_place f h.frames h.index i ≡ Some (frame_start (shown f) i) =
         shown-place f b o h.frames h.index i (held-frames f b o h e) (held-index f b o h e) (omega (arith, held-frames f b o h e)) in
-        let u : frame_read_of f i ≡ frame_as.Frame (frame_start (shown f) i) (length (frame_bytes x)) (to_z w64 x.time) x.exposure =
-        rw (eight-passed f (no_such_frame (shown f) i) o (rw (lt-ltb i (length (shown f).frames) l))) in
+        let y : FrameRead = record {
+          place = frame_start (shown f) i;
+          length = length (frame_bytes x);
+          time = to_z w64 x.time;
+          exposure = x.exposure;
+        } in
+        let u : frame_read_of f i ≡ Ok y = rw (eight-passed f (no_such_frame (shown f) i) o (rw (lt-ltb i (length (shown f).frames) l))) in
         let a : frame_start (shown f) i + length (frame_bytes x) - frame_start (shown f) i ≡ length (frame_bytes x) = omega arith in
-        let w : frame_from (frame_start (shown f) i) (frame_at f (frame_start (shown f) i) (length (shown f).sections)) ≡ frame_as.Frame
-        (frame_start (shown f) i) (length (frame_bytes x)) (to_z w64 x.time) x.exposure = rw (frame_here f b o i l, a) in
-        frame-there f h i _ (frame_start (shown f) i) refl p ∙ rw (held-sections f b o h e) w ∙ sym u
+        let w : frame_from (frame_start (shown f) i) (frame_at f (frame_start (shown f) i) (length (shown f).sections)) ≡ Some y =
+        rw (frame_here f b o i l, a) in
+        let v : frame_from (frame_start (shown f) i) (frame_at f (frame_start (shown f) i) h.sections) ≡ Some y = rw (held-sections f b o h e) w in
+        ap or_no_such (frame-there f h.sections _ _ (sym p) (frame_start (shown f) i) refl ∙ v) ∙ sym u
 
-pub frame_opened : (f : List ℕ) (r : Opening) (h : Held) (i : ℕ) (x : FrameRead) → Bytes f → r ≡ open_of f → r ≡ opening_as.Opened h
-    → x ≡ held_frame f h i → x ≡ frame_read_of f i
-frame_opened f r h i x b e g u = u ∙ shown-frame f h i b (opens f r h e g) (holds f r h e g)
+pub frame_opened : (f : List ℕ) (r : Result Held Refusal) (h : Held) (i : ℕ) (x : Result FrameRead Refusal) → r ≡ open_of f → r ≡ Ok h
+    → x ≡ held_frame f h i → Bytes f → x ≡ frame_read_of f i
+frame_opened f r h i x e g u b = let (o, j) = open-opens f h (sym e ∙ g) in u ∙ shown-frame f h i b o j
 
 pub ruleset laws = (
   rules,
@@ -220,7 +222,6 @@ pub ruleset laws = (
   frame_opened,
   find-refused,
   find-opened,
-  refusal-found,
   none-refused,
   refused-so,
 )

@@ -24,21 +24,18 @@ use Rattle.layout.proofs.Encoded.{legal-front, legal-user, behind_frames, opens-
 use Rattle.strings.specs.Strings.{text_of}
 use Rattle.parts.specs.Parts.{end_of}
 use Rattle.tables.specs.Tables.{tag_found}
-use Rattle.parts.specs.declared.Place.TheVariants.{End}
-use Rattle.tables.specs.declared.TagFound.TheVariants as tag
-use Rattle.strings.specs.declared.Text.TheVariants as text
+use Rattle.std.specs.Prelude.{Option, Some, None}
+use Rattle.tables.specs.Tables.{tag_at}
 use Rattle.tables.proofs.Places.{tag-found-at, tag-found-past}
 use Rattle.opening.specs.Opened.{held_of}
 use Rattle.frames.specs.Frames.{sized_at, sections_at}
 use Rattle.front.specs.Front.{definition_at, whole_definition}
-use Rattle.front.specs.declared.DefinitionAt.TheVariants as definition_as
+use Rattle.front.specs.declared.DefinitionAt.{DefinitionAt}
 use Rattle.opening.specs.declared.Held.{Held}
-use Rattle.refusal.specs.Refusal.{plain}
 use Rattle.reading.specs.Read.{item_of, found_in}
-use Rattle.items.specs.Items.{frame_place, held_section, definition_place, held_name, offset_or, next_at, held_configuration, name_of, value_of, held_found}
+use Rattle.items.specs.Items.{found_at, frame_place, held_section, definition_place, held_name, next_at, held_configuration, name_of, value_of, held_item}
 use Rattle.items.specs.declared.Item.{Item}
 use Rattle.items.specs.declared.Item.TheVariants as item
-use Rattle.items.specs.declared.Found.TheVariants.{At, Refused}
 use Rattle.reading.proofs.Standing.{configurations-next}
 use Rattle.items.proofs.Bytes.{Bytes}
 use Rattle.reading.proofs.Opened.{legal, again, order, definition_start, definitions-ahead, definition_of, definition-here, definition-next, name-here, frame-within, frame-place, size_start, sections-ahead, section-here}
@@ -94,25 +91,28 @@ module _ (f : List ℕ) (b : Bytes f) (o : refusal f ≡ 0) where
 
 -- tag i of a table that starts at a place
 tag_in : (f : List ℕ) (at n i : ℕ) (ts : List Tag) → table (drop at f) ≡ good ts n
-    → tag_found f at i ≡ cond (ltb i (length ts)) (tag.At (name_start at ts i) (length (get_or ts i no_tag).name) (value_start at ts i)
-    (length (get_or ts i no_tag).value)) tag.Nothing
+    → tag_found f at i ≡ cond (ltb i (length ts)) (tag_at (name_start at ts i) (length (get_or ts i no_tag).name) (value_start at ts i)
+    (length (get_or ts i no_tag).value)) None
 tag_in f at n i ts e = go (le-or-lt (length ts) i)
   where
     go : (length ts ≤ i) ⊎ (i < length ts) → tag_found f at i ≡ cond (ltb i (length ts))
-        (tag.At (name_start at ts i) (length (get_or ts i no_tag).name) (value_start at ts i) (length (get_or ts i no_tag).value)) tag.Nothing
+        (tag_at (name_start at ts i) (length (get_or ts i no_tag).name) (value_start at ts i) (length (get_or ts i no_tag).value)) None
     go (inl h) = rw (le-ltb i (length ts) h) (tag-found-past f at n i ts e h)
     go (inr h) = rw (lt-ltb i (length ts) h) (tag-found-at f at n i ts e h)
 
--- its name, or 8; its value, or 8
-name-or : (b : Bool) (p q k l : ℕ) → name_of (cond b (tag.At p q k l) tag.Nothing) ≡ cond (not b) (Refused (plain 8)) (At p q)
+-- its name, or none; its value, or none
+name-or : (b : Bool) (p q k l : ℕ) → name_of (cond b (tag_at p q k l) None) ≡ cond (not b) None (found_at p q)
 name-or true p q k l = refl
 name-or false p q k l = refl
 
-value-or : (b : Bool) (p q k l : ℕ) → value_of (cond b (tag.At p q k l) tag.Nothing) ≡ cond (not b) (Refused (plain 8)) (At k l)
+value-or : (b : Bool) (p q k l : ℕ) → value_of (cond b (tag_at p q k l) None) ≡ cond (not b) None (found_at k l)
 value-or true p q k l = refl
 value-or false p q k l = refl
 
 -- ── Items by the numbers ──
+
+abbrev defined_at : (next offset : ℕ) → Option DefinitionAt
+defined_at n o = Some (record { next = n; offset = o })
 
 -- of a file that opens each is the item of the recording shown
 module _ (f : List ℕ) (b : Bytes f) (o : refusal f ≡ 0) where
@@ -124,7 +124,7 @@ module _ (f : List ℕ) (b : Bytes f) (o : refusal f ≡ 0) where
         go : (n ≤ i) ⊎ (i < n) → held_name f n i ≡ found_in (shown f) (section_name i)
         go (inl h) = rw (le-ltb i (length (shown f).sections) (omega arith)) (sym (name-past f n i h))
         go (inr h) =
-            let t : text_of (string (drop (definition_start (shown f) i) f)) ≡ text.Whole (length (get_or (shown f).sections i no_section).name) =
+            let t : text_of (string (drop (definition_start (shown f) i) f)) ≡ Some (length (get_or (shown f).sections i no_section).name) =
             rw (name-here f b o i (omega arith)) in
             rw (lt-ltb i (length (shown f).sections) (omega arith))
             (sym (name-found f n i h (definition_place f i) refl (definition_start (shown f) i)
@@ -134,7 +134,7 @@ module _ (f : List ℕ) (b : Bytes f) (o : refusal f ≡ 0) where
     next-offset : (system : ℕ) → i < n → system ≡ system_start (shown f)
         → next_at f (definition_start (shown f) (suc i)) (n - i - 1) system ≡ definitions_end (shown f).sections + length
         (configurations_bytes (take (suc i) (shown f).sections))
-    unfolding next_at offset_or system_start definition_at whole_definition definition_of
+    unfolding system_start definition_at whole_definition definition_of
     next-offset system h s = go (le-or-lt (n - i - 1) 0)
       where
         go : (n - i - 1 ≤ 0) ⊎ (0 < n - i - 1) → next_at f (definition_start (shown f) (suc i)) (n - i - 1) system ≡ definitions_end
@@ -152,8 +152,8 @@ module _ (f : List ℕ) (b : Bytes f) (o : refusal f ≡ 0) where
             let ss : List Section = (shown f).sections in
             let start : ℕ = definitions_end ss + length (configurations_bytes (take i ss)) in
             let end : ℕ = definitions_end ss + length (configurations_bytes (take (suc i) ss)) in
-            let t : definition_at f (definition_start (shown f) i) ≡ definition_as.Whole (definition_start (shown f) (suc i)) start =
-            rw (definition-here f b o i (omega arith)) (ap (λ (m : ℕ). definition_as.Whole m start) (definition-next f b o i (omega arith))) in
+            let t : definition_at f (definition_start (shown f) i) ≡ defined_at (definition_start (shown f) (suc i)) start =
+            rw (definition-here f b o i (omega arith)) (ap (λ (m : ℕ). defined_at m start) (definition-next f b o i (omega arith))) in
             let k : length (configurations_bytes (take (suc i) ss)) ≡ length (configurations_bytes (take i ss)) + length
             (get_or ss i no_section).configuration = configurations-next i ss (omega arith) in
             let l : end ≤ length f = omega (
@@ -167,11 +167,12 @@ module _ (f : List ℕ) (b : Bytes f) (o : refusal f ≡ 0) where
             let m : end - start ≡ length (get_or ss i no_section).configuration = omega arith in
             rw (lt-ltb i (length (shown f).sections) (omega arith), ← m)
             (sym (configuration-found f n i h (definition_place f i) refl (definition_start (shown f) i)
-            (definitions-ahead f b o i (omega arith)) _ refl system _ start end t (sym (next-offset system h s)) (omega arith) l))
+            (definitions-ahead f b o i (omega arith)) _ refl system (record { next = definition_start (shown f) (suc i); offset = start }) end t
+            (sym (next-offset system h s)) (omega arith) l))
 
   module _ (frames index i : ℕ) (c : frames ≡ length (shown f).frames) (d : index ≡ frames_end (shown f)) (h : i < frames) where
     -- a frame starts where it does in the recording
-    pub shown-place : frame_place f frames index i ≡ End (frame_start (shown f) i)
+    pub shown-place : frame_place f frames index i ≡ Some (frame_start (shown f) i)
     shown-place =
         let e : frame_start (shown f) i ≡ read_at f (index + 4 + 16 * i + 4) 8 =
         sym (frame-place f b o i (omega arith)) ∙ ap (λ (k : ℕ). read_at f (k + 4 + 16 * i + 4) 8) (sym d) in
@@ -183,8 +184,8 @@ module _ (f : List ℕ) (b : Bytes f) (o : refusal f ≡ 0) where
   unfolding found_in no_such_item item_start item_bytes size_start sections_at sized_at end_of sized_bytes
   shown-section frames index n i j c d m = go (le-or-lt n j) (le-or-lt frames i)
     where
-      past : (x : Bool) → cond (not (x && false)) (Refused (plain 8))
-          (At (item_start (shown f) (frame_section i j)) (length (item_bytes (shown f) (frame_section i j)))) ≡ Refused (plain 8)
+      past : (x : Bool) → cond (not (x && false)) None
+          (found_at (item_start (shown f) (frame_section i j)) (length (item_bytes (shown f) (frame_section i j)))) ≡ None
       past true = refl
       past false = refl
 
@@ -196,8 +197,8 @@ module _ (f : List ℕ) (b : Bytes f) (o : refusal f ≡ 0) where
       go (inr h) (inr k) =
           let x : List ℕ = get_or (frame_of (shown f) i).sections j [] in
           let s : ℕ = size_start (shown f) i j in
-          let t : sized_at f s ≡ End (s + 4 + length x) = rw (section-here f b o i j (omega arith) (omega arith))
-          (ap End (simp (length-append, length-bytes_of) (omega arith))) in
+          let t : sized_at f s ≡ Some (s + 4 + length x) = rw (section-here f b o i j (omega arith) (omega arith))
+          (ap Some (simp (length-append, length-bytes_of) (omega arith))) in
           let z : s + 4 + length x - s - 4 ≡ length x = omega arith in
           let l : frame_start (shown f) i ≤ length f = omega (arith, frame-within f b o i, (order f b o).index, (order f b o).user) in
           rw (lt-ltb i (length (shown f).frames) (omega arith), lt-ltb j (length (shown f).sections) (omega arith), ← z)
@@ -206,17 +207,17 @@ module _ (f : List ℕ) (b : Bytes f) (o : refusal f ≡ 0) where
 
   module _ (h : Held) (e : h ≡ held_of f) where
     shown-system : (i : ℕ) → tag_found f h.system i ≡ cond (ltb i (length (shown f).system))
-        (tag.At (name_start (system_start (shown f)) (shown f).system i) (length (get_or (shown f).system i no_tag).name)
-        (value_start (system_start (shown f)) (shown f).system i) (length (get_or (shown f).system i no_tag).value)) tag.Nothing
+        (tag_at (name_start (system_start (shown f)) (shown f).system i) (length (get_or (shown f).system i no_tag).name)
+        (value_start (system_start (shown f)) (shown f).system i) (length (get_or (shown f).system i no_tag).value)) None
     shown-system i = rw (held-system f b o h e) (tag_in f (system_start (shown f)) _ i (shown f).system (system-read f b o))
 
     shown-user : (i : ℕ) → tag_found f h.user i ≡ cond (ltb i (length (shown f).user))
-        (tag.At (name_start (user_start (shown f)) (shown f).user i) (length (get_or (shown f).user i no_tag).name)
-        (value_start (user_start (shown f)) (shown f).user i) (length (get_or (shown f).user i no_tag).value)) tag.Nothing
+        (tag_at (name_start (user_start (shown f)) (shown f).user i) (length (get_or (shown f).user i no_tag).name)
+        (value_start (user_start (shown f)) (shown f).user i) (length (get_or (shown f).user i no_tag).value)) None
     shown-user i = rw (held-user f b o h e) (tag_in f (user_start (shown f)) _ i (shown f).user (user-read f b o))
 
-    pub shown-item : (it : Item) → held_found f h it ≡ found_in (shown f) (item_of it)
-    unfolding held_found item_of found_in no_such_item item_start item_bytes
+    pub shown-item : (it : Item) → held_item f h it ≡ found_in (shown f) (item_of it)
+    unfolding item_of found_in no_such_item item_start item_bytes
     shown-item (item.Section i j) = shown-section h.frames h.index h.sections i j (held-frames f b o h e) (held-index f b o h e)
         (held-sections f b o h e)
     shown-item (item.SectionName i) = shown-name i h.sections (held-sections f b o h e)

@@ -21,7 +21,7 @@ use Rattle.layout.proofs.Places.{Stands, stands-front, stands-back, stands_at_le
 use Rattle.layout.proofs.Condition2.{opens-legal}
 use Rattle.parts.specs.Parts.{end_of}
 use Rattle.rows.specs.Rows.{row_name}
-use Rattle.parts.specs.declared.Place.TheVariants.{End}
+use Rattle.std.specs.Prelude.{Some}
 use Rattle.rows.specs.declared.Row.TheVariants as row
 use Rattle.parts.proofs.Times.{times-led}
 use Rattle.names.proofs.Readers.{definition-row}
@@ -99,7 +99,7 @@ module _ (f : List ℕ) (b : Bytes f) (o : refusal f ≡ 0) where
   defined-count = length-defined _ (shown f).sections
 
   pub definitions-ahead : (i : ℕ) → i ≤ length (shown f).sections
-      → end_of 34 (times i (row_name row.Definition) (drop 34 f)) ≡ End (definition_start (shown f) i)
+      → end_of 34 (times i (row_name row.Definition) (drop 34 f)) ≡ Some (definition_start (shown f) i)
   unfolding defined definition_start end_of
   definitions-ahead i h =
       rw (
@@ -196,7 +196,7 @@ module _ (f : List ℕ) (b : Bytes f) (o : refusal f ≡ 0) where
   sections-fit i h = ((frame-legal (length (shown f).sections) (frame_of (shown f) i)).1 (frame-fits i h)).3
 
   pub sections-ahead : (i j : ℕ) → i < length (shown f).frames → j < length (shown f).sections
-      → end_of (frame_start (shown f) i + 16) (times j sized (drop (frame_start (shown f) i + 16) f)) ≡ End (size_start (shown f) i j)
+      → end_of (frame_start (shown f) i + 16) (times j sized (drop (frame_start (shown f) i + 16) f)) ≡ Some (size_start (shown f) i j)
   unfolding size_start end_of
   sections-ahead i j h k = rw (ahead-read sized-exact (frame_of (shown f) i).sections j (omega (arith, frame-section-count i h))
       (sections-fit i h) (sections-stand i h))

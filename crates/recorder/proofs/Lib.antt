@@ -1,4 +1,3 @@
-pub mod Limits
 pub mod Answers
 pub mod Closing
 pub mod Adding

@@ -1,13 +1,14 @@
 -- The recorder's state and its answers as the code holds them, by the layout's definitions of the three calls.
-use Rattle.std.specs.Prelude.{ℕ, zero, suc, List, length, ℤ, pos}
+use Rattle.std.specs.Prelude.{ℕ, zero, suc, List, length, ℤ, pos, Result, Ok, Err}
 use Rattle.std.specs.Int.{w64}
 use Rattle.std.proofs.Common.{of_z, to_z}
 use Rattle.layout.specs.Recorder as layout
 use Rattle.layout.specs.Recorder.{State, Step, filled, begin_place}
 use Rattle.refusal.specs.Refusal.{placed}
+use Rattle.refusal.specs.declared.Refusal.{Refusal}
 use Rattle.stages.specs.declared.Stage.TheVariants.{Fresh}
 use Rattle.recorder.specs.declared.Recorder.{Recorder}
-use Rattle.recorder.specs.declared.Piece.TheVariants.{Given, Refused}
+use Rattle.recorder.specs.declared.Piece.{Piece}
 use Rattle.recorder.specs.declared.Taken.{Taken}
 use Rattle.stages.specs.Stages.{to_stage}
 use Rattle.limits.specs.Limits.{state_in}
@@ -56,10 +57,18 @@ pub record Made : Type 0 where
 abbrev pub made : Taken → (notes out : List ℕ) → Made
 made t notes out = record { taken = t; notes = notes; out = out }
 
+-- a piece of so many bytes for a place in the file
+abbrev pub given : (place len : ℕ) → Result Piece Refusal
+given place len = Ok (record { place = place; length = len })
+
+-- refused, the same recorder
+abbrev pub refused_with : Recorder → Refusal → Taken
+refused_with self n = record { state = self; piece = Err n }
+
 -- refused: the same recorder, the number and its place; accepted: the step's state, and the place and length of its piece
 unfoldable pub answered : (refused at : ℕ) → Recorder → Step → Taken
-answered zero at self step = record { state = recorder_of step.state; piece = Given step.piece.place (length step.piece.bytes) }
-answered (suc n) at self step = record { state = self; piece = Refused (placed (suc n) at) }
+answered zero at self step = record { state = recorder_of step.state; piece = given step.piece.place (length step.piece.bytes) }
+answered (suc n) at self step = refused_with self (placed (suc n) at)
 
 unfoldable pub taken_of : (at : ℕ) → Recorder → Step → Taken
 taken_of at self step = answered step.refused at self step

@@ -1,21 +1,17 @@
 // Recording: the recorder's state is passed in by value and handed back by each call, with its stage inside.
-#![tactic(auto)]
+#![tactic(auto, using(crate::proofs::Laws::laws), unfolding(layout::specs::Recorder::first_after, limits::specs::Limits::state_in, crate::specs::Recorded::numbers_of, crate::specs::Recorded::state_of, crate::specs::Recorded::fresh_recorder,))]
 
 ghost use Rattle.std.specs.Prelude.{◌≡◌};
-ghost use Rattle.layout.specs.Opening.{first_of};
-ghost use Rattle.layout.specs.Recorder.{close_lines, first_after};
-ghost use Rattle.refusal.specs.Refusal.{plain};
-ghost use Rattle.limits.specs.Limits.{add_refusal};
-ghost use Rattle.recorder.specs.Recorded.{numbers_of, state_of, fresh_recorder, made, close_of, add_of, begin_of};
+ghost use Rattle.layout.specs.Recorder.{first_after};
+ghost use Rattle.recorder.specs.Recorded.{numbers_of, state_of, fresh_recorder, refused_with, made, close_of, add_of, begin_of};
 
-use beginning::FirstPiece;
 use header::Header;
 use limits::Numbers;
 use refusal::Refusal;
 use stages::Stage;
 
 // The state: numbers and the stage only. `end` is where the next frame goes.
-#[derive(Clone, Copy)]
+#[derive(Clone, Copy, Debug, PartialEq, Eq)]
 pub struct Recorder {
     pub stage: Stage,
     pub sections: u64,
@@ -25,18 +21,34 @@ pub struct Recorder {
     pub end: u64,
 }
 
-// A place in the file and the number of bytes, which stand at the start of the lent output; or the refusal.
-#[derive(Clone, Copy)]
-pub enum Piece {
-    Given { place: u64, length: usize },
-    Refused(Refusal),
+// A piece to store: its place in the file and its number of bytes, which stand at the start of the lent output.
+#[derive(Clone, Copy, Debug, PartialEq, Eq)]
+pub struct Piece {
+    pub place: u64,
+    pub length: usize,
 }
 
-// What a call hands back.
-#[derive(Clone, Copy)]
+// What a call hands back: refused, the same state.
+#[derive(Clone, Copy, Debug, PartialEq, Eq)]
 pub struct Taken {
     pub state: Recorder,
-    pub piece: Piece,
+    pub piece: Result<Piece, Refusal>,
+}
+
+// The state's numbers, its times as patterns.
+impl From<Recorder> for Numbers {
+    ghost from_gives = { λ recorder numbers. numbers ≡ numbers_of recorder };
+
+    fn from(recorder: Recorder) -> Numbers {
+        Numbers {
+            stage: recorder.stage,
+            sections: recorder.sections,
+            frames: recorder.frames,
+            first: number::pattern_of(recorder.first),
+            last: number::pattern_of(recorder.last),
+            end: recorder.end,
+        }
+    }
 }
 
 impl Recorder {
@@ -58,61 +70,39 @@ impl Recorder {
     pub fn begin(self, list: &[u8], system: &[u8], notes: &mut [u8], out: &mut [u8]) -> Taken
         ensures { made result notes.new out.new ≡ begin_of self list.now system.now notes.old out.old }
     {
-        let stage = self.stage;
-        if !stages::is_fresh(stage) {
-            return Taken {
-                state: self,
-                piece: Piece::Refused(Refusal::STAGE),
-            };
+        if !stages::is_fresh(self.stage) {
+            return self.refused(Refusal::Stage);
         }
-        let first = beginning::first_piece(list, system, notes.len(), out);
-        let FirstPiece::Written { sections, length } = first else {
-            return Taken {
-                state: self,
-                piece: Piece::Refused(beginning::piece_refusal(first)),
-            };
-        };
-        number::write(notes, 0, 4, 0);
+        match beginning::first_piece(list, system, notes.len(), out) {
+            Ok(first) => {
+                number::write(notes, 0, 4, 0);
+                Taken {
+                    state: Recorder {
+                        stage: Stage::Running,
+                        sections: first.sections as u64,
+                        frames: 0,
+                        first: 0,
+                        last: 0,
+                        end: first.length as u64,
+                    },
+                    piece: Ok(Piece {
+                        place: 0,
+                        length: first.length,
+                    }),
+                }
+            }
+            Err(refusal) => self.refused(refusal),
+        }
+    }
+
+    // Refused, the state is handed back as it was.
+    fn refused(self, refusal: Refusal) -> Taken
+        ensures { result ≡ refused_with self refusal }
+    {
         Taken {
-            state: Recorder {
-                stage: Stage::Running,
-                sections: sections as u64,
-                frames: 0,
-                first: 0,
-                last: 0,
-                end: length as u64,
-            },
-            piece: Piece::Given { place: 0, length },
+            state: self,
+            piece: Err(refusal),
         }
-    }
-
-    // The state's numbers, its times as patterns.
-    fn numbers(self) -> Numbers
-        ensures { result ≡ numbers_of self }
-    {
-        let stage = self.stage;
-        Numbers {
-            stage,
-            sections: self.sections,
-            frames: self.frames,
-            first: number::pattern_of(self.first),
-            last: number::pattern_of(self.last),
-            end: self.end,
-        }
-    }
-
-    fn add_refusal(self, time: u64, sections: &[u8], notes: usize, room: usize) -> Refusal
-        ensures { result ≡ plain (add_refusal (state_of self) time sections.now notes room) }
-    {
-        let numbers = self.numbers();
-        numbers.add_refusal(time, sections, notes, room)
-    }
-
-    fn close_refusal(self, notes: &[u8], room: usize) -> Refusal
-        ensures { result ≡ plain (first_of (close_lines (state_of self) notes.now room)) }
-    {
-        let numbers = self.numbers();
-        numbers.close_refusal(notes, room)
     }
 
     // The first frame's time: that of the frame added, where it is the first.
@@ -137,12 +127,9 @@ impl Recorder {
         ensures { made result notes.new out.new ≡ add_of self time exposure sections.now notes.old out.old }
     {
         let pattern = number::pattern_of(time);
-        let refused = self.add_refusal(pattern, sections, notes.len(), out.len());
-        if refused.number != 0 {
-            return Taken {
-                state: self,
-                piece: Piece::Refused(refused),
-            };
+        let asked = Numbers::from(self).add_refusal(pattern, sections, notes.len(), out.len());
+        if let Err(refusal) = asked {
+            return self.refused(refusal);
         }
         let length = Header::FRAME_HEAD + sections.len();
         let frames = self.frames + 1;
@@ -159,10 +146,10 @@ impl Recorder {
                 last: time,
                 end: self.end + length as u64,
             },
-            piece: Piece::Given {
+            piece: Ok(Piece {
                 place: self.end,
                 length,
-            },
+            }),
         }
     }
 
@@ -170,41 +157,33 @@ impl Recorder {
     pub fn close(self, notes: &[u8], out: &mut [u8]) -> Taken
         ensures { made result notes.now out.new ≡ close_of self notes.now out.old }
     {
-        let refused = self.close_refusal(notes, out.len());
-        if refused.number != 0 {
-            return Taken {
-                state: self,
-                piece: Piece::Refused(refused),
-            };
+        if let Err(refusal) = Numbers::from(self).close_refusal(notes, out.len()) {
+            return self.refused(refusal);
         }
-        let stage = self.stage;
-        let piece = stages::piece_of(stage);
-        let next = stages::stage_after(piece);
+        let piece = stages::piece_of(self.stage);
+        let state = Recorder {
+            stage: stages::stage_after(piece),
+            ..self
+        };
         let index = limits::index_length(self.frames);
         if piece == 0 {
             parts::copy(notes, 0, out, 0, index);
             return Taken {
-                state: Recorder {
-                    stage: next,
-                    ..self
-                },
-                piece: Piece::Given {
+                state,
+                piece: Ok(Piece {
                     place: self.end,
                     length: index,
-                },
+                }),
             };
         }
         let number = stages::closing_number(piece, self.frames, self.end, self.end + index as u64);
         number::write(out, 0, number.width, number.value);
         Taken {
-            state: Recorder {
-                stage: next,
-                ..self
-            },
-            piece: Piece::Given {
+            state,
+            piece: Ok(Piece {
                 place: number.place,
                 length: number.width,
-            },
+            }),
         }
     }
 }

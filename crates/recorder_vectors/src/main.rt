@@ -6,10 +6,10 @@ use recorder::{Piece, Recorder, Taken};
 use refusal::Refusal;
 use stages::Stage;
 use std::io;
-use std::rt::{Env, Files};
+use vector::counted;
 use vector::lend::lent;
-use vector::print::{no_vector, refused, say, with, with_check, with_time};
-use vector::sweep::{Tally, line, turn_bytes, turn_length, turns};
+use vector::print::{no_vector, refused, with, with_check, with_time};
+use vector::sweep::{Tally, sweep};
 
 const ADD: u8 = b'a';
 
@@ -47,13 +47,13 @@ fn state_of(fields: &[u8]) -> Recorder {
     }
 }
 
-fn piece(rt: &impl Print, piece: Piece) -> io::Result<()> {
+fn piece(rt: &impl Print, piece: Result<Piece, Refusal>) -> io::Result<()> {
     match piece {
-        Piece::Given { place, length } => {
-            with(rt, b"given ", place)?;
-            with(rt, b" ", length as u64)
+        Ok(given) => {
+            with(rt, b"given ", given.place)?;
+            with(rt, b" ", given.length as u64)
         }
-        Piece::Refused(refusal) => refused(rt, refusal),
+        Err(refusal) => refused(rt, refusal),
     }
 }
 
@@ -67,8 +67,7 @@ fn stage(rt: &impl Print, stage: Stage) -> io::Result<()> {
 }
 
 fn state(rt: &impl Print, state: Recorder) -> io::Result<()> {
-    let now = state.stage;
-    stage(rt, now)?;
+    stage(rt, state.stage)?;
     with(rt, b" sections ", state.sections)?;
     with(rt, b" frames ", state.frames)?;
     with_time(rt, b" first ", state.first)?;
@@ -77,102 +76,86 @@ fn state(rt: &impl Print, state: Recorder) -> io::Result<()> {
 }
 
 fn taken(rt: &impl Print, taken: Taken, notes: &[u8], out: &[u8]) -> io::Result<()> {
-    let given = taken.piece;
-    let after = taken.state;
-    piece(rt, given)?;
-    state(rt, after)?;
+    piece(rt, taken.piece)?;
+    state(rt, taken.state)?;
     with_check(rt, b" notes ", notes)?;
     with_check(rt, b" out ", out)
 }
 
-fn added(rt: &impl Print, fields: &[u8], notes: &mut [u8], out: &mut [u8]) -> io::Result<()> {
-    let time = number::time_of(number::read(fields, STATE, 8));
-    let exposure = (number::read(fields, STATE + 8, 4) % 0x1_0000_0000) as u32;
-    if fields.len() < STATE + 12 {
-        return no_vector(rt);
-    }
-    let answer = state_of(fields).add(time, exposure, &fields[STATE + 12..], notes, out);
-    taken(rt, answer, notes, out)
-}
-
-fn begun(rt: &impl Print, fields: &[u8], notes: &mut [u8], out: &mut [u8]) -> io::Result<()> {
-    if fields.len() < STATE + 2 {
-        return no_vector(rt);
-    }
-    let length = number::read(fields, STATE, 2) as usize;
-    let lists = &fields[STATE + 2..];
-    if lists.len() < length {
-        return no_vector(rt);
-    }
-    let answer = state_of(fields).begin(&lists[..length], &lists[length..], notes, out);
-    taken(rt, answer, notes, out)
-}
-
-fn closed(rt: &impl Print, fields: &[u8], notes: &mut [u8], out: &mut [u8]) -> io::Result<()> {
-    if fields.len() < STATE {
-        return no_vector(rt);
-    }
-    let given = &fields[STATE..];
-    if given.len() < notes.len() {
-        return no_vector(rt);
-    }
-    parts::copy(given, 0, notes, 0, notes.len());
-    let answer = state_of(fields).close(notes, out);
-    taken(rt, answer, notes, out)
-}
-
-fn call(
+fn added(
     rt: &impl Print,
-    kind: u8,
-    fields: &[u8],
+    recorder: Recorder,
+    bytes: &[u8],
     notes: &mut [u8],
     out: &mut [u8],
 ) -> io::Result<()> {
-    match kind {
-        ADD => added(rt, fields, notes, out),
-        BEGIN => begun(rt, fields, notes, out),
-        _ => closed(rt, fields, notes, out),
-    }
-}
-
-// Notes and output of the lengths that the vector asks for.
-fn run(rt: &impl Print, kind: u8, fields: &[u8]) -> io::Result<()> {
-    if fields.len() < STATE {
+    let time = number::time_of(number::read(bytes, 0, 8));
+    let exposure = (number::read(bytes, 8, 4) % 0x1_0000_0000) as u32;
+    let Some(sections) = bytes.get(12..) else {
         return no_vector(rt);
-    }
-    let notes_length = number::read(fields, 42, 2) as usize;
-    let out_length = number::read(fields, 44, 2) as usize;
-    let mut notes_space = lent(0xA5);
-    let mut out_space = lent(0x5A);
-    let notes: &mut [u8] = &mut notes_space;
-    let out: &mut [u8] = &mut out_space;
-    if notes_length <= notes.len() {
-        if out_length <= out.len() {
-            call(
-                rt,
-                kind,
-                fields,
-                &mut notes[..notes_length],
-                &mut out[..out_length],
-            )?;
-        }
-    }
-    Ok(())
+    };
+    let answer = recorder.add(time, exposure, sections, notes, out);
+    taken(rt, answer, notes, out)
 }
 
-fn refusal_of(piece: Piece) -> Refusal {
-    if let Piece::Refused(refusal) = piece {
-        return refusal;
-    }
-    Refusal::NONE
+// The set-up list behind its length, and the system table behind it.
+fn begun(
+    rt: &impl Print,
+    recorder: Recorder,
+    bytes: &[u8],
+    notes: &mut [u8],
+    out: &mut [u8],
+) -> io::Result<()> {
+    let Some((setup, system)) = counted(bytes, 2) else {
+        return no_vector(rt);
+    };
+    let answer = recorder.begin(setup, system, notes, out);
+    taken(rt, answer, notes, out)
 }
 
-fn began(setup: &[u8], system: &[u8]) -> Refusal {
+fn closed(
+    rt: &impl Print,
+    recorder: Recorder,
+    bytes: &[u8],
+    notes: &mut [u8],
+    out: &mut [u8],
+) -> io::Result<()> {
+    let Some(noted) = bytes.get(..notes.len()) else {
+        return no_vector(rt);
+    };
+    notes.copy_from_slice(noted);
+    let answer = recorder.close(notes, out);
+    taken(rt, answer, notes, out)
+}
+
+// Notes and output of the lengths that the vector asks for; nothing where they are more than can be lent.
+fn run(rt: &impl Print, kind: u8, fields: &[u8]) -> io::Result<()> {
+    let Some((state, bytes)) = fields.split_at_checked(STATE) else {
+        return no_vector(rt);
+    };
+    let recorder = state_of(state);
+    let mut notes = lent(0xA5);
+    let mut out = lent(0x5A);
+    let Some(notes) = notes.get_mut(..number::read(state, 42, 2) as usize) else {
+        return Ok(());
+    };
+    let Some(out) = out.get_mut(..number::read(state, 44, 2) as usize) else {
+        return Ok(());
+    };
+    match kind {
+        ADD => added(rt, recorder, bytes, notes, out),
+        BEGIN => begun(rt, recorder, bytes, notes, out),
+        _ => closed(rt, recorder, bytes, notes, out),
+    }
+}
+
+fn began(setup: &[u8], system: &[u8]) -> Option<Refusal> {
     let mut notes = [0; 4];
     let mut out = [0; 512];
-    let taken = Recorder::new().begin(setup, system, &mut notes, &mut out);
-    let given = taken.piece;
-    refusal_of(given)
+    Recorder::new()
+        .begin(setup, system, &mut notes, &mut out)
+        .piece
+        .err()
 }
 
 // A sweep changes the set-up list or the system table, and leaves the other as it is.
@@ -183,70 +166,31 @@ fn tried(kind: u8, bytes: &[u8], other: &[u8], before: Tally) -> Tally {
     vector::sweep::tried(before, began(other, bytes))
 }
 
-// Each turn of a sweep.
-fn sweep(rt: &impl Print, kind: u8, base: &[u8], other: &[u8], values: &[u8]) -> io::Result<()> {
-    let mut tally = Tally::NONE;
-    let mut turn = 0;
-    let end = turns(base.len());
-    while turn < end {
-        let bytes = turn_bytes(base, values, turn);
-        let n = turn_length(base.len(), turn);
-        tally = tried(kind, &bytes[..n], other, tally);
-        turn += 1;
-    }
-    line(rt, tally)
-}
-
-// What a sweep leaves as it is, and behind it what it changes.
-fn swept_by(rt: &impl Print, kind: u8, values: &[u8], fields: &[u8]) -> io::Result<()> {
-    if fields.len() < 2 {
-        return no_vector(rt);
-    }
-    let length = number::read(fields, 0, 2) as usize;
-    let given = &fields[2..];
-    if given.len() < length {
-        return no_vector(rt);
-    }
-    sweep(rt, kind, &given[length..], &given[..length], values)
-}
-
-// The values of a sweep come first.
+// The values of a sweep come first, then what it leaves as it is, and behind it what it changes.
 fn swept(rt: &impl Print, kind: u8, fields: &[u8]) -> io::Result<()> {
-    if fields.len() < 1 {
+    let Some((values, given)) = counted(fields, 1) else {
         return no_vector(rt);
-    }
-    let length = number::read(fields, 0, 1) as usize;
-    let given = &fields[1..];
-    if given.len() < length {
+    };
+    let Some((other, base)) = counted(given, 2) else {
         return no_vector(rt);
-    }
-    let rest = &given[length..];
-    swept_by(rt, kind, &given[..length], rest)
+    };
+    sweep(rt, base, values, |bytes, before| {
+        tried(kind, bytes, other, before)
+    })
 }
 
 // The call that a vector holds, by its first byte.
 fn answer(rt: &impl Print, vector: &[u8]) -> io::Result<()> {
-    if vector.len() == 0 {
+    let Some((&kind, fields)) = vector.split_first() else {
         return no_vector(rt);
-    }
-    let fields = &vector[1..];
-    match vector[0] {
-        ADD | BEGIN | CLOSE => run(rt, vector[0], fields),
-        SWEEP_OF_LIST | SWEEP_OF_TABLE => swept(rt, vector[0], fields),
+    };
+    match kind {
+        ADD | BEGIN | CLOSE => run(rt, kind, fields),
+        SWEEP_OF_LIST | SWEEP_OF_TABLE => swept(rt, kind, fields),
         _ => no_vector(rt),
     }
 }
 
-fn one(rt: &(impl Env + Files + Print), argument: usize) -> io::Result<()> {
-    let mut space = lent(0);
-    let n = vector::read(rt, argument, &mut space)?;
-    answer(rt, &space[..n])?;
-    say(rt, b"\n")
-}
-
 fn main(rt: HostRuntime) -> io::Result<()> {
-    for argument in 1..vector::arguments(&rt) {
-        one(&rt, argument)?;
-    }
-    Ok(())
+    vector::each(&rt, |vector| answer(&rt, vector))
 }

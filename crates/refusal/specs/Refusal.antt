@@ -1,11 +1,48 @@
--- A refusal by its number and its place.
-use Rattle.std.specs.Prelude.{ℕ}
+-- Refusals: document 01's numbers, and the place that some of them carry.
+use Rattle.std.specs.Prelude.{ℕ, zero, suc, ◌-◌, List, [], ◌∷◌, get_or, Result, Ok, Err}
 use Rattle.refusal.specs.declared.Refusal.{Refusal}
+use Rattle.refusal.specs.declared.Refusal.TheVariants.{NotFstf, Revision, Sections, SystemTable, NotClosed, Index, UserTable, NoSuchItem, NoRoom, Sheet, Conflict, Stage, Clock, FrameShape, Full, Whole, TableFull}
 
--- a number that carries a place
+-- document 01's number
+abbrev pub number_of : Refusal → ℕ
+number_of NotFstf = 1
+number_of Revision = 2
+number_of (Sections p) = 3
+number_of (SystemTable p) = 4
+number_of NotClosed = 5
+number_of Index = 6
+number_of (UserTable p) = 7
+number_of NoSuchItem = 8
+number_of NoRoom = 9
+number_of (Sheet p) = 10
+number_of (Conflict p) = 11
+number_of Stage = 12
+number_of Clock = 13
+number_of FrameShape = 14
+number_of Full = 15
+number_of Whole = 16
+number_of TableFull = 17
+
+-- 3, 4, 7 and 10 carry the position of the first fault, 11 the change's number; the others carry none, which is 0
+abbrev pub place_of : Refusal → ℕ
+place_of (Sections p) = p
+place_of (SystemTable p) = p
+place_of (UserTable p) = p
+place_of (Sheet p) = p
+place_of (Conflict p) = p
+place_of r = 0
+
+-- all of them in the order of their numbers, the first with number 1
+abbrev pub in_order : (place : ℕ) → List Refusal
+in_order p =
+    NotFstf ∷ Revision ∷ Sections p ∷ SystemTable p ∷ NotClosed ∷ Index ∷ UserTable p ∷ NoSuchItem ∷ NoRoom ∷ Sheet p ∷ Conflict p ∷ Stage
+    ∷ Clock ∷ FrameShape ∷ Full ∷ Whole ∷ TableFull ∷ []
+
+-- the refusal of a number, with its place where it carries one; a number that is none of document 01's stands for the last
 abbrev pub placed : (number place : ℕ) → Refusal
-placed n p = record { number = n; place = p }
+placed n p = get_or (in_order p) (n - 1) TableFull
 
--- a number that carries none
-abbrev pub plain : (number : ℕ) → Refusal
-plain n = placed n 0
+-- what a call answers that is refused with a number, 0 for none
+unfoldable pub unless : {A : Type 0} → (refused place : ℕ) → A → Result A Refusal
+unless zero p x = Ok x
+unless (suc n) p x = Err (placed (suc n) p)

@@ -1,116 +1,100 @@
-// Refusals: document 01's numbers by their names, and the one shape that every answer gives them in.
+// Refusals: document 01's numbers by their names, and the place that some of them carry.
 #![tactic(auto)]
 
 ghost use Rattle.std.specs.Prelude.{◌≡◌};
-ghost use Rattle.refusal.specs.Refusal.{placed};
+ghost use Rattle.refusal.specs.Refusal.{number_of, place_of, placed};
 
-// A refusal's number, and the place that it carries: 3, 4, 7 and 10 the position of the first fault in the lent bytes, 11 the change's number, from 0;
-// the others carry none, which is 0.
-#[derive(Clone, Copy)]
-pub struct Refusal {
-    pub number: u8,
-    pub place: usize,
+use std::fmt;
+
+// Why a call did nothing. `Sections`, `SystemTable`, `UserTable` and `Sheet` carry the position of the first fault in the lent bytes, `Conflict` the
+// change's number, from 0; the others carry no place.
+#[derive(Clone, Copy, Debug, PartialEq, Eq)]
+pub enum Refusal {
+    NotFstf,
+    Revision,
+    Sections(usize),
+    SystemTable(usize),
+    NotClosed,
+    Index,
+    UserTable(usize),
+    NoSuchItem,
+    NoRoom,
+    Sheet(usize),
+    Conflict(usize),
+    Stage,
+    Clock,
+    FrameShape,
+    Full,
+    Whole,
+    TableFull,
 }
 
 impl Refusal {
-    // not refused
-    pub const NONE: Refusal = Refusal {
-        number: 0,
-        place: 0,
-    };
-
-    pub const NOT_FSTF: Refusal = Refusal {
-        number: 1,
-        place: 0,
-    };
-
-    pub const REVISION: Refusal = Refusal {
-        number: 2,
-        place: 0,
-    };
-
-    pub const SECTIONS: Refusal = Refusal {
-        number: 3,
-        place: 0,
-    };
-
-    pub const SYSTEM_TABLE: Refusal = Refusal {
-        number: 4,
-        place: 0,
-    };
-
-    pub const NOT_CLOSED: Refusal = Refusal {
-        number: 5,
-        place: 0,
-    };
-
-    pub const INDEX: Refusal = Refusal {
-        number: 6,
-        place: 0,
-    };
-
-    pub const USER_TABLE: Refusal = Refusal {
-        number: 7,
-        place: 0,
-    };
-
-    pub const NO_SUCH_ITEM: Refusal = Refusal {
-        number: 8,
-        place: 0,
-    };
-
-    pub const NO_ROOM: Refusal = Refusal {
-        number: 9,
-        place: 0,
-    };
-
-    pub const SHEET: Refusal = Refusal {
-        number: 10,
-        place: 0,
-    };
-
-    pub const CONFLICT: Refusal = Refusal {
-        number: 11,
-        place: 0,
-    };
-
-    pub const STAGE: Refusal = Refusal {
-        number: 12,
-        place: 0,
-    };
-
-    pub const CLOCK: Refusal = Refusal {
-        number: 13,
-        place: 0,
-    };
-
-    pub const FRAME_SHAPE: Refusal = Refusal {
-        number: 14,
-        place: 0,
-    };
-
-    pub const FULL: Refusal = Refusal {
-        number: 15,
-        place: 0,
-    };
-
-    pub const WHOLE: Refusal = Refusal {
-        number: 16,
-        place: 0,
-    };
-
-    pub const TABLE_FULL: Refusal = Refusal {
-        number: 17,
-        place: 0,
-    };
-
-    // The same number with a place.
-    pub fn at(self, place: usize) -> Refusal
-        ensures { result ≡ placed self.number place }
+    // Document 01's number.
+    pub fn number(self) -> u8
+        ensures { result ≡ number_of self }
     {
-        Refusal {
-            number: self.number,
-            place,
+        match self {
+            Refusal::NotFstf => 1,
+            Refusal::Revision => 2,
+            Refusal::Sections(_) => 3,
+            Refusal::SystemTable(_) => 4,
+            Refusal::NotClosed => 5,
+            Refusal::Index => 6,
+            Refusal::UserTable(_) => 7,
+            Refusal::NoSuchItem => 8,
+            Refusal::NoRoom => 9,
+            Refusal::Sheet(_) => 10,
+            Refusal::Conflict(_) => 11,
+            Refusal::Stage => 12,
+            Refusal::Clock => 13,
+            Refusal::FrameShape => 14,
+            Refusal::Full => 15,
+            Refusal::Whole => 16,
+            Refusal::TableFull => 17,
+        }
+    }
+
+    // The place that it carries; 0 where it carries none.
+    pub fn place(self) -> usize
+        ensures { result ≡ place_of self }
+    {
+        match self {
+            Refusal::Sections(place)
+            | Refusal::SystemTable(place)
+            | Refusal::UserTable(place)
+            | Refusal::Sheet(place)
+            | Refusal::Conflict(place) => place,
+            _ => 0,
+        }
+    }
+
+    // The same number with a place, where it carries one.
+    pub fn at(self, place: usize) -> Refusal
+        ensures { result ≡ placed (number_of self) place }
+    {
+        match self {
+            Refusal::Sections(_) => Refusal::Sections(place),
+            Refusal::SystemTable(_) => Refusal::SystemTable(place),
+            Refusal::UserTable(_) => Refusal::UserTable(place),
+            Refusal::Sheet(_) => Refusal::Sheet(place),
+            Refusal::Conflict(_) => Refusal::Conflict(place),
+            other => other,
+        }
+    }
+}
+
+// What a program prints: the number, and the place where one is carried.
+impl fmt::Display for Refusal {
+    fn fmt<W: fmt::Write>(&self, f: &mut fmt::Formatter<W>) -> fmt::Result {
+        let number = self.number();
+        match *self {
+            Refusal::Sections(place)
+            | Refusal::SystemTable(place)
+            | Refusal::UserTable(place)
+            | Refusal::Sheet(place)
+            | Refusal::Conflict(place) => write!(f, "refused {number} place {place}"),
+            _ => write!(f, "refused {number}"),
         }
     }
 }

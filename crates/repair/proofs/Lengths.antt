@@ -2,7 +2,7 @@
 -- Assumes nothing.
 use Prim.Native.Nat.{ℕ, ◌+◌, ◌-◌, ◌<◌, ◌≤◌}
 use native.Mathlib.Omega.{arith}
-use mathlib.Core.Path.{◌≡◌, refl, ap, sym, ◌∙◌}
+use mathlib.Core.Path.{◌≡◌, refl, sym, ◌∙◌}
 use mathlib.Core.Bool.{Bool, true, false, ◌||◌, cond}
 use mathlib.Core.List.{List, [], ◌∷◌}
 use lib.ListN.{length, drop, get_or, set, length-set}
@@ -18,17 +18,16 @@ use Rattle.layout.specs.Reading.{good, frame, stopped, longer, walk}
 use Rattle.layout.proofs.Lists.{bytes_drop}
 use Rattle.layout.proofs.Exact.{frame-exact}
 use Rattle.layout.proofs.Walks.{walk_none, walk-stop}
-use Rattle.parts.specs.declared.Place.{Place}
-use Rattle.parts.specs.declared.Place.TheVariants.{End, Broken}
 use Rattle.frames.specs.Frames.{frame_end}
 use Rattle.frames.proofs.Laws.{ended, not-ended}
 use Rattle.frames.proofs.Walks.{walk-cons}
-use Rattle.repair.specs.Repaired.{step_by, step_of, stopped_by, noted, noted_from, Lengths, listed}
+use Rattle.std.specs.Prelude.{Option, Some, None, Result, Ok, Err}
+use Rattle.refusal.specs.declared.Refusal.{Refusal}
+use Rattle.refusal.specs.declared.Refusal.TheVariants.{Clock}
+use Rattle.repair.specs.Repaired.{step_to, step_by, step_of, noted, noted_from, Lengths, listed}
 use Rattle.repair.proofs.Walks.{stepping}
 use Rattle.repair.specs.declared.Step.{Step}
-use Rattle.repair.specs.declared.Step.TheVariants.{Next, Stop}
 use Rattle.repair.specs.declared.Walked.{Walked}
-use Rattle.repair.specs.declared.Walked.TheVariants.{InOrder, OutOfOrder}
 
 -- ── One length ──
 
@@ -101,45 +100,40 @@ kept-stopped : (f ls : List ℕ) (k left place count : ℕ) → walk left k (dro
 unfolding noted_from stopped
 kept-stopped f ls k left place count e = rw e
 
-module _ (f before ls : List ℕ) (k start left place count end common : ℕ) where
-  pub kept-most : left ≤ 0 → kept f k left place count ls ≡ kept f k 1000000 start 0 before
-      → Lengths f k start (InOrder count end common) before ls
-  kept-most h e =
-      let z : left ≡ 0 = omega arith in
-      record { kept = λ c d m q. sym (kept-stopped f ls k left place count (rw z (walk_none k (drop place f)))) ∙ e }
+pub kept-most : (f before ls : List ℕ) (k start left place count : ℕ) (r : Result Walked Refusal) → kept f k left place count ls ≡ kept f k 1000000 start 0 before
+    → left ≤ 0 → Lengths f k start r before ls
+kept-most f before ls k start left place count r e h =
+    let z : left ≡ 0 = omega arith in
+    record { kept = λ w q. sym (kept-stopped f ls k left place count (rw z (walk_none k (drop place f)))) ∙ e }
 
-pub kept-stops : (f before ls : List ℕ) (k start first last left place count common : ℕ) (r : Step) (late : Bool) (w : Walked)
-    → r ≡ step_of f k first last place → r ≡ Stop late → w ≡ stopped_by r count place common
-    → kept f k left place count ls ≡ kept f k 1000000 start 0 before → Lengths f k start w before ls
-unfolding step_of step_by stopped_by
-kept-stops f before ls k start first last left place count common r late w p q s e =
-    record { kept = λ c d m o. go (frame_end f place k) late c d m refl (sym p ∙ q) (sym (s ∙ ap (λ (x : Step). stopped_by x count place common) q) ∙ o) }
+pub kept-stops : (f before ls : List ℕ) (k start first last left place count : ℕ) (r : Result Walked Refusal)
+    → kept f k left place count ls ≡ kept f k 1000000 start 0 before → Ok None ≡ step_of f k first last place → Lengths f k start r before ls
+unfolding step_of step_by
+kept-stops f before ls k start first last left place count r e p = record { kept = λ w q. go (frame_end f place k) refl p }
   where
-    late-not : (c d m : ℕ) → OutOfOrder ≡ InOrder c d m → ls ≡ kept f k 1000000 start 0 before
-    late-not c d m x = let z : ◌≡◌ {A = ℕ} 0 1 = cc in absurd (omega arith)
+    told : (x : Bool) (next : ℕ) → Ok None ≡ cond x (step_to next (read_at f (place + 4) 8)) (Err Clock) → ls ≡ kept f k 1000000 start 0 before
+    told true next v = cc
+    told false next v = cc
 
-    told : (x b : Bool) (next c d m : ℕ) → cond x (Next next (read_at f (place + 4) 8)) (Stop true) ≡ Stop b
-        → cond b OutOfOrder (InOrder count place common) ≡ InOrder c d m → ls ≡ kept f k 1000000 start 0 before
-    told true b next c d m v o = let z : ◌≡◌ {A = ℕ} 0 1 = cc in absurd (omega arith)
-    told false true next c d m v o = late-not c d m o
-    told false false next c d m v o = let z : ◌≡◌ {A = ℕ} 0 1 = cc in absurd (omega arith)
+    go : (x : Option ℕ) → frame_end f place k ≡ x → Ok None ≡ step_by x f first last place → ls ≡ kept f k 1000000 start 0 before
+    go None g v = sym (kept-stopped f ls k left place count (walk-stop left k (drop place f) (rw (not-ended f place k g).1))) ∙ e
+    go (Some next) g v = told (follows first last (read_at f (place + 4) 8)) next v
 
-    go : (x : Place) (b : Bool) (c d m : ℕ) → frame_end f place k ≡ x → step_by x f first last place ≡ Stop b
-        → cond b OutOfOrder (InOrder count place common) ≡ InOrder c d m → ls ≡ kept f k 1000000 start 0 before
-    go Broken b c d m g v o = sym (kept-stopped f ls k left place count (walk-stop left k (drop place f) (rw (not-ended f place k g).1))) ∙ e
-    go (End next) b c d m g v o = told (follows first last (read_at f (place + 4) 8)) b next c d m v o
+pub kept-refused : (f before ls : List ℕ) (k start : ℕ) (r : Refusal) → Lengths f k start (Err r) before ls
+kept-refused f before ls k start r = record { kept = λ w q. cc }
 
-pub kept_goes : (f ls all : List ℕ) (k first last left place count next t : ℕ) (new : List ℕ) (r : Step) → ((i : ℕ) → Fits w8 (get_or f i 0))
-    → 0 < left → r ≡ step_of f k first last place → r ≡ Next next t → new ≡ noted ls count (next - place) → kept f k left place count ls ≡ all
-    → kept f k (left - 1) next (count + 1) new ≡ all
+pub kept_goes : (f ls all : List ℕ) (k first last left place count next : ℕ) (new : List ℕ) (s : Step) → ((i : ℕ) → Fits w8 (get_or f i 0))
+    → kept f k left place count ls ≡ all → Ok (Some s) ≡ step_of f k first last place → new ≡ noted ls count (s.next - place) → left ≡ next + 1
+    → kept f k next s.next (count + 1) new ≡ all
 unfolding noted_from longer
-kept_goes f ls all k first last left place count next t new r b h p q u e = go (ended f place k next (stepping f k first last place next t r p q).ends)
+kept_goes f ls all k first last left place count next new s b e p u h = go (ended f place k s.next (stepping f k first last place s (Ok (Some s)) p refl).ends)
   where
-    go : ((x : Frame) × (n : ℕ) × (frame k (drop place f) ≡ good x n) × (place + n ≡ next) × (x.time ≡ read_at f (place + 4) 8)
-        × (x.exposure ≡ read_at f (place + 12) 4)) → noted_from new (count + 1) (walk (left - 1) k (drop next f)).frames ≡ all
+    go : ((x : Frame) × (n : ℕ) × (frame k (drop place f) ≡ good x n) × (place + n ≡ s.next) × (x.time ≡ read_at f (place + 4) 8)
+        × (x.exposure ≡ read_at f (place + 12) 4)) → noted_from new (count + 1) (walk next k (drop s.next f)).frames ≡ all
     go (x, n, g, a, c, d) =
-        let m : next - place ≡ n = omega arith in
+        let o : next ≡ left - 1 = omega arith in
+        let m : s.next - place ≡ n = omega arith in
         let z : n ≡ length (frame_bytes x) = ((frame-exact k).gives (drop place f) x n (bytes_drop place f (slice-bytes f b)) g).1 in
         let w : noted_from (noted ls count (length (frame_bytes x))) (count + 1) (walk (left - 1) k (drop (place + n) f)).frames ≡ all =
-        rw (walk-cons f k left place x n h g) at e in
-        rw (u, m, z, ← a) w
+        rw (walk-cons f k left place x n (omega arith) g) at e in
+        rw (u, m, z, o, ← a) w

@@ -15,30 +15,25 @@ use Rattle.layout.specs.Reading.{Walk, walk}
 use Rattle.layout.specs.Opening.{line, defined_in, walk_start, walk_of, first_of, front_lines, refusal, opening_place}
 use Rattle.layout.specs.Repair.{walked, kept_length, kept_count, tail, repair_lines, repair_refusal, repair}
 use Rattle.layout.proofs.Lines.{line-pass, line-holds, FrontPasses, front-pass, lines-first}
-use Rattle.front.specs.Front.{front_held, front_of, front_refusal}
+use Rattle.front.specs.Front.{front_held, front_of}
 use Rattle.opening.specs.Opened.{open_of}
 use Rattle.front.specs.declared.FrontHeld.{FrontHeld}
-use Rattle.front.specs.declared.Front.{Front}
-use Rattle.front.specs.declared.Front.TheVariants as front_as
 use Rattle.opening.specs.declared.Held.{Held}
-use Rattle.opening.specs.declared.Opening.{Opening}
-use Rattle.opening.specs.declared.Opening.TheVariants as opening_as
 use Rattle.front.proofs.Passed.{front-passes, front-refuses, start-within, few-sections}
 use Rattle.opening.proofs.Lines.{open-opens, open-refuses}
 use Rattle.repair.proofs.Frames.{refused-made}
-use Rattle.refusal.specs.Refusal.{placed, plain}
+use Rattle.std.specs.Prelude.{Result, Ok, Err, is_ok}
+use Rattle.refusal.specs.Refusal.{placed}
 use Rattle.refusal.specs.declared.Refusal.{Refusal}
+use Rattle.refusal.specs.declared.Refusal.TheVariants.{Whole}
 use Rattle.repair.specs.Repaired.{made, repair_of, tail_of, walk_lines, keeping, walk_repaired, frames_repaired}
 use Rattle.repair.specs.declared.Repaired.{Repaired}
-use Rattle.repair.specs.declared.Repaired.TheVariants.{Refused}
 
 -- ── 16 ──
 
-pub opens-whole : (f : List ℕ) (r : Opening) (h : Held) → r ≡ open_of f → r ≡ opening_as.Opened h → true ≡ eqb (refusal f) 0
-opens-whole f r h p q = sym (eq-eqb (refusal f) 0 (open-opens f h (sym p ∙ q)).0)
-
-pub opens_not : (f : List ℕ) (r : Opening) (n : Refusal) → r ≡ open_of f → r ≡ opening_as.Refused n → false ≡ eqb (refusal f) 0
-opens_not f r n p q = go (open-refuses f n (sym p ∙ q))
+opens-whole : (f : List ℕ) (r : Result Held Refusal) → r ≡ open_of f → is_ok r ≡ eqb (refusal f) 0
+opens-whole f (Ok h) p = sym (eq-eqb (refusal f) 0 (open-opens f h (sym p)).0)
+opens-whole f (Err n) p = go (open-refuses f n (sym p))
   where
     go : ((m : ℕ) × (n ≡ placed (suc m) (opening_place (suc m) f)) × (refusal f ≡ suc m)) → false ≡ eqb (refusal f) 0
     go (m, k, e) = sym (ne_eqb (refusal f) 0 (λ z. omega arith))
@@ -58,30 +53,29 @@ unfolding walk_lines
 walk-placeless f w start room = placeless f _ _ _
 
 refused-repair : (f out : List ℕ) (n : ℕ) → repair_refusal f (length out) ≡ suc n
-    → made (Refused (placed (suc n) (opening_place (suc n) f))) out ≡ repair_of f out
+    → made (Err (placed (suc n) (opening_place (suc n) f))) out ≡ repair_of f out
 unfolding repair_of repair
 refused-repair f out n e =
-    ap (λ (m : ℕ). made (Refused (placed (suc n) (opening_place m f))) out) (sym e)
+    ap (λ (m : ℕ). made (Err (placed (suc n) (opening_place m f))) out) (sym e)
     ∙ refused-made (opening_place (repair_refusal f (length out)) f) out (repair_refusal f (length out)) n _ e
 
-pub repair-front : (f out : List ℕ) (r : Front) (n m : Refusal) → r ≡ front_of f → r ≡ front_as.Refused n → m ≡ front_refusal r
-    → made (Refused m) out ≡ repair_of f out
+pub repair-front : (f out : List ℕ) (n : Refusal) → Err n ≡ front_of f → made (Err n) out ≡ repair_of f out
 unfolding repair_refusal repair_lines
-repair-front f out r n m p q s = go (front-refuses f n (sym p ∙ q)) (s ∙ ap front_refusal q)
+repair-front f out n p = go (front-refuses f n (sym p))
   where
-    go : ((j : ℕ) × (n ≡ placed (suc j) (opening_place (suc j) f)) × (first_of (front_lines f) ≡ suc j)) → m ≡ n → made (Refused m) out ≡ repair_of f out
-    go (j, k, e) l = rw (l, k) (refused-repair f out j (lines-first (front_lines f) _ j e))
+    go : ((j : ℕ) × (n ≡ placed (suc j) (opening_place (suc j) f)) × (first_of (front_lines f) ≡ suc j)) → made (Err n) out ≡ repair_of f out
+    go (j, k, e) = rw k (refused-repair f out j (lines-first (front_lines f) _ j e))
 
-module _ (f out : List ℕ) (r : Front) (held : FrontHeld) (p : r ≡ front_of f) (q : r ≡ front_as.Whole held) where
+module _ (f out : List ℕ) (held : FrontHeld) (p : Ok held ≡ front_of f) where
   passes : FrontPasses f
-  passes = (front-passes f held (sym p ∙ q)).0
+  passes = (front-passes f held (sym p)).0
 
   held-is : held ≡ front_held f
-  held-is = (front-passes f held (sym p ∙ q)).1
+  held-is = (front-passes f held (sym p)).1
 
-  pub repair-whole : (b : Bool) → b ≡ eqb (refusal f) 0 → b ≡ true → made (Refused (plain 16)) out ≡ repair_of f out
+  pub repair-whole : (b : Bool) (r : Result Held Refusal) → r ≡ open_of f → b ≡ is_ok r → b ≡ true → made (Err Whole) out ≡ repair_of f out
   unfolding repair_refusal repair_lines opening_place
-  repair-whole b s t = refused-repair f out 15 (front-pass f _ passes ∙ line-holds 16 _ _ (sym s ∙ t))
+  repair-whole b r o s t = refused-repair f out 15 (front-pass f _ passes ∙ line-holds 16 _ _ (sym (opens-whole f r o) ∙ sym s ∙ t))
 
   -- the lines of the frames are left
   lines_are : eqb (refusal f) 0 ≡ false → repair_refusal f (length out) ≡ first_of (walk_lines (walked f) (walk_start f) (length out))
@@ -92,18 +86,17 @@ module _ (f out : List ℕ) (r : Front) (held : FrontHeld) (p : r ≡ front_of f
   unfolding frames_repaired walk_repaired keeping tail_of repair_of repair walked walk_of kept_length kept_count tail
   frames-are e = rw (lines_are e, walk-placeless f (walk 1000000 (length (defined_in f)) (drop (walk_start f) f)) (walk_start f) (length out))
 
-  pub repair-behind : (b : Bool) (a : Repaired) (new : List ℕ) → b ≡ eqb (refusal f) 0 → b ≡ false
+  pub repair-behind : (b : Bool) (r : Result Held Refusal) (a : Result Repaired Refusal) (new : List ℕ) → r ≡ open_of f → b ≡ is_ok r → b ≡ false
       → made a new ≡ frames_repaired f held.sections held.start out → made a new ≡ repair_of f out
   unfolding front_held
-  repair-behind b a new s t e = rw held-is at e ∙ frames-are (sym s ∙ t)
+  repair-behind b r a new o s t e = rw held-is at e ∙ frames-are (sym (opens-whole f r o) ∙ sym s ∙ t)
 
-pub start-there : (f : List ℕ) (r : Front) (held : FrontHeld) → ((i : ℕ) → Fits w8 (get_or f i 0)) → r ≡ front_of f → r ≡ front_as.Whole held
-    → held.start ≤ length f
+pub start-there : (f : List ℕ) (held : FrontHeld) → ((i : ℕ) → Fits w8 (get_or f i 0)) → Ok held ≡ front_of f → held.start ≤ length f
 unfolding front_held
-start-there f r held b p q = rw (held-is f [] r held p q) (start-within f (slice-bytes f b) (passes f [] r held p q).system)
+start-there f held b p = rw (held-is f [] held p) (start-within f (slice-bytes f b) (passes f [] held p).system)
 
-pub sections-few : (f : List ℕ) (r : Front) (held : FrontHeld) → r ≡ front_of f → r ≡ front_as.Whole held → held.sections ≤ 8
+pub sections-few : (f : List ℕ) (held : FrontHeld) → Ok held ≡ front_of f → held.sections ≤ 8
 unfolding front_held
-sections-few f r held p q = rw (held-is f [] r held p q) (few-sections f (passes f [] r held p q).sections)
+sections-few f held p = rw (held-is f [] held p) (few-sections f (passes f [] held p).sections)
 
-pub ruleset order = (opens-whole, opens_not, repair-front, repair-whole, repair-behind, start-there, sections-few)
+pub ruleset order = (repair-front, repair-whole, repair-behind, start-there, sections-few)

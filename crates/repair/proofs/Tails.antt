@@ -1,6 +1,6 @@
 -- The tail as it is written: an entry, the frames that are known to stand, the entries one by one, the index, and the empty table.
 -- Assumes nothing.
-use Prim.Native.Nat.{ℕ, zero, suc, ◌+◌, ◌*◌, ◌-◌, ◌^◌, ◌<◌, ◌≤◌}
+use Prim.Native.Nat.{ℕ, suc, ◌+◌, ◌*◌, ◌-◌, ◌^◌, ◌<◌, ◌≤◌}
 use native.Mathlib.Omega.{arith}
 use mathlib.Core.Path.{◌≡◌, refl, ap, sym, ◌∙◌}
 use mathlib.Core.Bool.{Bool, true, false, ◌||◌, cond}
@@ -23,8 +23,7 @@ use Rattle.layout.proofs.Walks.{walk_none, walk-stop}
 use Rattle.layout.proofs.Exact.{frame-exact}
 use Rattle.layout.proofs.Sizes.{length-entry}
 use Rattle.parts.specs.Parts.{end_of}
-use Rattle.parts.specs.declared.Place.{Place}
-use Rattle.parts.specs.declared.Place.TheVariants.{End, Broken}
+use Rattle.std.specs.Prelude.{Option, Some, None}
 use Rattle.frames.specs.Frames.{frame_end}
 use Rattle.times.specs.Times.{since_first}
 use Rattle.frames.proofs.Laws.{ended, end-behind, end-within}
@@ -79,11 +78,11 @@ entry-part out at h =
 
 -- the frame that stands where some are left, and as many as are left behind it
 stands : (f : List ℕ) (k left place : ℕ) → 0 < left → frames_in f k left place ≡ left
-    → (next : ℕ) × (frame_end f place k ≡ End next) × (frames_in f k (left - 1) next ≡ left - 1)
+    → (next : ℕ) × (frame_end f place k ≡ Some next) × (frames_in f k (left - 1) next ≡ left - 1)
 unfolding frames_in frame_end end_of stopped longer
 stands f k left place h e = go (frame k (drop place f)) refl
   where
-    go : (p : Parsed Frame) → frame k (drop place f) ≡ p → (next : ℕ) × (frame_end f place k ≡ End next) × (frames_in f k (left - 1) next ≡ left - 1)
+    go : (p : Parsed Frame) → frame k (drop place f) ≡ p → (next : ℕ) × (frame_end f place k ≡ Some next) × (frames_in f k (left - 1) next ≡ left - 1)
     go (bad m) g =
         let z : 0 ≡ left = rw (walk-stop left k (drop place f) (rw g)) at e in
         absurd (omega arith)
@@ -93,7 +92,7 @@ stands f k left place h e = go (frame k (drop place f)) refl
 
 -- where it ends, and as many behind it
 known : (f : List ℕ) (k left place next : ℕ) → 0 < left → frames_in f k left place ≡ left → next ≡ end_in (frame_end f place k)
-    → (frame_end f place k ≡ End next) × (frames_in f k (left - 1) next ≡ left - 1)
+    → (frame_end f place k ≡ Some next) × (frames_in f k (left - 1) next ≡ left - 1)
 unfolding end_in
 known f k left place next h e p =
     let (m, a, b) = stands f k left place h e in
@@ -101,40 +100,38 @@ known f k left place next h e p =
     (rw q a, rw q b)
 
 -- a step from a frame that is known to be whole
-pub next-ended : (f : List ℕ) (k place next : ℕ) (r : Place) → r ≡ frame_end f place k → r ≡ End next → next ≡ end_in (frame_end f place k)
+pub next-ended : (f : List ℕ) (k place next : ℕ) (r : Option ℕ) → r ≡ frame_end f place k → r ≡ Some next → next ≡ end_in (frame_end f place k)
 unfolding end_in
 next-ended f k place next r p q = rw (sym p ∙ q)
 
-pub next-there : (f : List ℕ) (k place end : ℕ) (r : Place) → r ≡ frame_end f place k → r ≡ Broken → frame_end f place k ≡ End end
+pub next-there : (f : List ℕ) (k place end : ℕ) (r : Option ℕ) → r ≡ frame_end f place k → r ≡ None → frame_end f place k ≡ Some end
     → place ≡ end_in (frame_end f place k)
 next-there f k place end r p q e =
-    let z : Broken ≡ End end = sym q ∙ p ∙ e in
+    let z : None ≡ Some end = sym q ∙ p ∙ e in
     let w : ◌≡◌ {A = ℕ} 0 1 = cc in
     absurd (omega arith)
 
-pub next-common : (f ls : List ℕ) (k place common i : ℕ) → (common ≡ 0 → ⊥) → frame_end f place k ≡ End (next_by f place k common ls i)
-    → place + common ≡ end_in (frame_end f place k)
+pub next-common : (f ls : List ℕ) (k place size i : ℕ) → frame_end f place k ≡ Some (next_by f place k (Some size) ls i)
+    → place + size ≡ end_in (frame_end f place k)
 unfolding next_by end_in
-next-common f ls k place zero i n e = absurd (n refl)
-next-common f ls k place (suc c) i n e = rw e
+next-common f ls k place size i e = rw e
 
-pub next-kept : (f ls : List ℕ) (k place common i m : ℕ) → common ≡ 0 → i < length ls → m ≡ get_or ls i 0
-    → frame_end f place k ≡ End (next_by f place k common ls i) → place + m ≡ end_in (frame_end f place k)
+pub next-kept : (f ls : List ℕ) (k place i m : ℕ) → i < length ls → m ≡ get_or ls i 0
+    → frame_end f place k ≡ Some (next_by f place k None ls i) → place + m ≡ end_in (frame_end f place k)
 unfolding next_by next_kept end_in
-next-kept f ls k place zero i m z h g e = rw (e, lt-ltb i (length ls) h, g)
-next-kept f ls k place (suc c) i m z h g e = absurd (omega arith)
+next-kept f ls k place i m h g e = rw (e, lt-ltb i (length ls) h, g)
 
 -- a frame that is known to be whole lies in the file
-end-there : (f : List ℕ) (k place next : ℕ) → ((i : ℕ) → Fits w8 (get_or f i 0)) → frame_end f place k ≡ End next → next ≤ length f
+end-there : (f : List ℕ) (k place next : ℕ) → ((i : ℕ) → Fits w8 (get_or f i 0)) → frame_end f place k ≡ Some next → next ≤ length f
 end-there f k place next b q =
     let (x, n, g, a, t, d) = ended f place k next q in
     let (o, z, r) = (frame-exact k).gives (drop place f) x n (bytes_drop place f (slice-bytes f b)) g in
     let l : length (drop place f) ≡ length (frame_bytes x) + length (drop n (drop place f)) =
     ap length r ∙ length-append (frame_bytes x) (drop n (drop place f)) in
-    omega (arith, length-drop place f, end-within f place k next (End next) (sym q) refl)
+    omega (arith, length-drop place f, end-within f place k next (Some next) (sym q) refl)
 
 -- so its end fits
-ends-fit : (f : List ℕ) (k place next sum : ℕ) → ((i : ℕ) → Fits w8 (get_or f i 0)) → length f < 2 ^ 64 → frame_end f place k ≡ End next
+ends-fit : (f : List ℕ) (k place next sum : ℕ) → ((i : ℕ) → Fits w8 (get_or f i 0)) → length f < 2 ^ 64 → frame_end f place k ≡ Some next
     → sum ≡ end_in (frame_end f place k) → Fits w64 sum
 unfolding end_in
 ends-fit f k place next sum b l e q =
@@ -142,21 +139,21 @@ ends-fit f k place next sum b l e q =
     let m : sum ≡ next = q ∙ ap end_in e in
     record { fits = omega arith }
 
-pub next_fits : (f ls : List ℕ) (k place common i : ℕ) → ((i : ℕ) → Fits w8 (get_or f i 0)) → (common ≡ 0 → ⊥)
-    → frame_end f place k ≡ End (next_by f place k common ls i) → length f < 2 ^ 64 → Fits w64 (place + common)
-next_fits f ls k place common i b n e l = ends-fit f k place (next_by f place k common ls i) (place + common) b l e (next-common f ls k place common i n e)
+pub next_fits : (f ls : List ℕ) (k place size i : ℕ) → ((i : ℕ) → Fits w8 (get_or f i 0))
+    → frame_end f place k ≡ Some (next_by f place k (Some size) ls i) → length f < 2 ^ 64 → Fits w64 (place + size)
+next_fits f ls k place size i b e l = ends-fit f k place (next_by f place k (Some size) ls i) (place + size) b l e (next-common f ls k place size i e)
 
-pub kept-fits : (f ls : List ℕ) (k place common i m : ℕ) → ((i : ℕ) → Fits w8 (get_or f i 0)) → common ≡ 0 → i < length ls → m ≡ get_or ls i 0
-    → frame_end f place k ≡ End (next_by f place k common ls i) → length f < 2 ^ 64 → Fits w64 (place + m)
-kept-fits f ls k place common i m b z h g e l =
-    ends-fit f k place (next_by f place k common ls i) (place + m) b l e (next-kept f ls k place common i m z h g e)
+pub kept-fits : (f ls : List ℕ) (k place i m : ℕ) → ((i : ℕ) → Fits w8 (get_or f i 0)) → i < length ls → m ≡ get_or ls i 0
+    → frame_end f place k ≡ Some (next_by f place k None ls i) → length f < 2 ^ 64 → Fits w64 (place + m)
+kept-fits f ls k place i m b h g e l =
+    ends-fit f k place (next_by f place k None ls i) (place + m) b l e (next-kept f ls k place i m h g e)
 
 -- frames that have a length in common stand at places that it gives
-alike-first : (x : Frame) (n : ℕ) (w : Walk) (c : ℕ) → alike (suc c) (longer x n w).frames ≡ true
-    → (length (frame_bytes x) ≡ suc c) × (alike (suc c) w.frames ≡ true)
+alike-first : (x : Frame) (n : ℕ) (w : Walk) (c : ℕ) → alike (Some c) (longer x n w).frames ≡ true
+    → (length (frame_bytes x) ≡ c) × (alike (Some c) w.frames ≡ true)
 unfolding alike longer
-alike-first x n w c e = let b = both_true (eqb (length (frame_bytes x)) (suc c)) (alike (suc c) w.frames) e in
-    (eqb-true (length (frame_bytes x)) (suc c) b.0, b.1)
+alike-first x n w c e = let b = both_true (eqb (length (frame_bytes x)) c) (alike (Some c) w.frames) e in
+    (eqb-true (length (frame_bytes x)) c b.0, b.1)
 
 -- frames whose lengths are kept stand at places that these give
 listed-first : (x : Frame) (n : ℕ) (w : Walk) (ls : List ℕ) (i : ℕ) → listed ls i (longer x n w).frames ≡ true
@@ -168,25 +165,25 @@ listed-length : (ls : List ℕ) (i n : ℕ) → i < length ls → (leb (length l
 listed-length ls i n h e = eqb-true (get_or ls i 0) n (rw (lt-leb (length ls) i h) at e)
 
 -- a frame and those behind it
-pub record Next (f : List ℕ) (k left place next common : ℕ) (ls : List ℕ) (i : ℕ) : Type 0 where
+pub record Next (f : List ℕ) (k left place next : ℕ) (common : Option ℕ) (ls : List ℕ) (i : ℕ) : Type 0 where
   pub by : next ≡ next_by f place k common ls i
   pub alike : alike_in f k common (left - 1) next ≡ true
   pub listed : listed_in f k ls (i + 1) (left - 1) next ≡ true
 
-next-alike : (f ls : List ℕ) (k left place next common i : ℕ) → ((i : ℕ) → Fits w8 (get_or f i 0)) → 0 < left → frame_end f place k ≡ End next
+next-alike : (f ls : List ℕ) (k left place next : ℕ) (common : Option ℕ) (i : ℕ) → ((i : ℕ) → Fits w8 (get_or f i 0)) → 0 < left → frame_end f place k ≡ Some next
     → alike_in f k common left place ≡ true → listed_in f k ls i left place ≡ true → Next f k left place next common ls i
 unfolding alike_in listed_in next_by next_kept end_in alike
 next-alike f ls k left place next common i b h q e m = go (ended f place k next q)
   where
-    in-common : (c n : ℕ) (x : Frame) (w : Walk) → place + n ≡ next → n ≡ length (frame_bytes x) → alike c (longer x n w).frames ≡ true
+    in-common : (c : Option ℕ) (n : ℕ) (x : Frame) (w : Walk) → place + n ≡ next → n ≡ length (frame_bytes x) → alike c (longer x n w).frames ≡ true
         → (leb (length ls) i || eqb (get_or ls i 0) (length (frame_bytes x))) ≡ true
         → (next ≡ next_by f place k c ls i) × (alike c w.frames ≡ true)
-    in-common zero n x w a z t l = (kept (ltb i (length ls)) refl, refl)
+    in-common None n x w a z t l = (kept (ltb i (length ls)) refl, refl)
       where
         kept : (t : Bool) → ltb i (length ls) ≡ t → next ≡ cond t (place + get_or ls i 0) (end_in (frame_end f place k))
         kept true o = sym a ∙ ap (λ (j : ℕ). place + j) (z ∙ sym (listed-length ls i (length (frame_bytes x)) (omega (arith, ltb-true i (length ls) o)) l))
         kept false o = rw q
-    in-common (suc c) n x w a z t l =
+    in-common (Some c) n x w a z t l =
         let (o, u) = alike-first x n w c t in
         (sym a ∙ ap (λ (j : ℕ). place + j) (z ∙ o), u)
 
@@ -199,18 +196,18 @@ next-alike f ls k left place next common i b h q e m = go (ended f place k next 
         let (v, y) = in-common common n x w a z (rw (walk-cons f k left place x n h g) at e) o in
         record { by = v; alike = rw (← a) y; listed = rw (← a) u }
 
-pub next_known : (f ls : List ℕ) (k left place common i : ℕ) → ((i : ℕ) → Fits w8 (get_or f i 0)) → 0 < left → frames_in f k left place ≡ left
-    → alike_in f k common left place ≡ true → listed_in f k ls i left place ≡ true → frame_end f place k ≡ End (next_by f place k common ls i)
+pub next_known : (f ls : List ℕ) (k left place : ℕ) (common : Option ℕ) (i : ℕ) → ((i : ℕ) → Fits w8 (get_or f i 0)) → 0 < left → frames_in f k left place ≡ left
+    → alike_in f k common left place ≡ true → listed_in f k ls i left place ≡ true → frame_end f place k ≡ Some (next_by f place k common ls i)
 next_known f ls k left place common i b h e a m =
     let (n, q, l) = stands f k left place h e in
-    q ∙ ap End (next-alike f ls k left place n common i b h q a m).by
+    q ∙ ap Some (next-alike f ls k left place n common i b h q a m).by
 
-pub alike-left : (f ls : List ℕ) (k left place next common i : ℕ) → ((i : ℕ) → Fits w8 (get_or f i 0)) → 0 < left → frames_in f k left place ≡ left
+pub alike-left : (f ls : List ℕ) (k left place next : ℕ) (common : Option ℕ) (i : ℕ) → ((i : ℕ) → Fits w8 (get_or f i 0)) → 0 < left → frames_in f k left place ≡ left
     → next ≡ end_in (frame_end f place k) → listed_in f k ls i left place ≡ true → alike_in f k common left place ≡ true
     → alike_in f k common (left - 1) next ≡ true
 alike-left f ls k left place next common i b h e p m a = (next-alike f ls k left place next common i b h (known f k left place next h e p).0 a m).alike
 
-pub listed-left : (f ls : List ℕ) (k left place next common i : ℕ) → ((i : ℕ) → Fits w8 (get_or f i 0)) → 0 < left → frames_in f k left place ≡ left
+pub listed-left : (f ls : List ℕ) (k left place next : ℕ) (common : Option ℕ) (i : ℕ) → ((i : ℕ) → Fits w8 (get_or f i 0)) → 0 < left → frames_in f k left place ≡ left
     → next ≡ end_in (frame_end f place k) → alike_in f k common left place ≡ true → listed_in f k ls i left place ≡ true
     → listed_in f k ls (i + 1) (left - 1) next ≡ true
 listed-left f ls k left place next common i b h e p a m = (next-alike f ls k left place next common i b h (known f k left place next h e p).0 a m).listed
@@ -228,13 +225,13 @@ part-read f at n l e =
 pub head-there : (f : List ℕ) (k left place : ℕ) → 0 < left → frames_in f k left place ≡ left → place + 4 + 8 ≤ length f
 head-there f k left place h e =
     let (m, a, b) = stands f k left place h e in
-    omega (arith, end-within f place k m (End m) (sym a) refl)
+    omega (arith, end-within f place k m (Some m) (sym a) refl)
 
 pub known-time-fits : (f : List ℕ) (k left place : ℕ) → 0 < left → frames_in f k left place ≡ left → length f < 2 ^ 64 → Fits w64 (place + 4)
 known-time-fits f k left place h e l = let w = head-there f k left place h e in record { fits = omega arith }
 
 pub known_behind : (f : List ℕ) (k left place next : ℕ) → 0 < left → frames_in f k left place ≡ left → next ≡ end_in (frame_end f place k) → place ≤ next
-known_behind f k left place next h e p = end-behind f place k next (End next) (sym (known f k left place next h e p).0) refl
+known_behind f k left place next h e p = end-behind f place k next (Some next) (sym (known f k left place next h e p).0) refl
 
 pub known-left : (f : List ℕ) (k left place next : ℕ) → 0 < left → frames_in f k left place ≡ left → next ≡ end_in (frame_end f place k)
     → frames_in f k (left - 1) next ≡ left - 1
@@ -256,7 +253,7 @@ longer-entries : (w : Walk) (x : Frame) (n first place : ℕ) → n ≡ length (
 unfolding longer entries_bytes
 longer-entries w x n first place e = rw e
 
-entries-cons : (f : List ℕ) (k first left place next t : ℕ) → ((i : ℕ) → Fits w8 (get_or f i 0)) → 0 < left → frame_end f place k ≡ End next
+entries-cons : (f : List ℕ) (k first left place next t : ℕ) → ((i : ℕ) → Fits w8 (get_or f i 0)) → 0 < left → frame_end f place k ≡ Some next
     → t ≡ read_at f (place + 4) 8 → entries_in f k first left place ≡ entry_bytes first t place (next - place) ++ entries_in f k first (left - 1) next
 unfolding entries_in
 entries-cons f k first left place next t b h q v = go (ended f place k next q)

@@ -1,96 +1,79 @@
 // Repair of a recording that was cut: its frames are walked, and the index and the empty user table that it lacks are written.
 // Nothing is written before all is accepted.
-#![tactic(auto)]
+#![tactic(auto, using(crate::proofs::Laws::laws))]
 
-ghost use Rattle.std.specs.Prelude.{◌≡◌, true, [], ◌+◌, ◌*◌, ◌^◌, ◌<◌, ◌≤◌, length};
+ghost use Rattle.std.specs.Prelude.{◌≡◌, true, [], Some, ◌+◌, ◌*◌, ◌^◌, ◌<◌, ◌≤◌, length};
 ghost use Rattle.std.proofs.lemmas.List.Edits.{sets};
 ghost use Rattle.number.specs.Number.{read_at};
 ghost use Rattle.layout.specs.Recording.{entry_bytes, table_bytes};
 ghost use Rattle.layout.specs.Repair.{whole};
-ghost use Rattle.parts.specs.declared.Place.TheVariants.{End};
 ghost use Rattle.frames.specs.Frames.{frame_end};
-ghost use Rattle.repair.specs.Repaired.{end_in, next_by, step_of, stopped_by, common_with, noted, frames_in, alike_in, listed_in, walked_in, Lengths, entries_in, index_in, tailed, made, frames_repaired, repair_of};
+ghost use Rattle.repair.specs.Repaired.{end_in, next_by, step_of, common_with, noted, frames_in, alike_in, listed_in, walked_in, Lengths, entries_in, index_in, tailed, made, frames_repaired, repair_of};
 
-use front::Front;
 use header::Header;
-use opening::Opening;
-use parts::Place;
 use refusal::Refusal;
 
-// The kept length, the three header fields, and the length of the tail, which stands at the start of the lent output; or the refusal number.
-#[derive(Clone, Copy)]
-pub enum Repaired {
-    Kept {
-        kept: usize,
-        count: usize,
-        index: usize,
-        user: usize,
-        tail: usize,
-    },
-    Refused(Refusal),
+// The kept length, the three header fields, and the length of the tail, which stands at the start of the lent output.
+#[derive(Clone, Copy, Debug, PartialEq, Eq)]
+pub struct Repaired {
+    pub kept: usize,
+    pub count: usize,
+    pub index: usize,
+    pub user: usize,
+    pub tail: usize,
 }
 
 // Of how many frames the lengths are kept from the walk for the writing.
 const KEPT_LENGTHS: usize = 10_000;
 
-// A step of the walk: where a whole frame ends, and its time, which follows the last one; or that the walk stops there, with whether a time that breaks
-// its rule is why.
-#[derive(Clone, Copy)]
-enum Step {
-    Next(usize, u64),
-    Stop(bool),
+// A step of the walk: where a whole frame ends, and its time, which follows the last one.
+#[derive(Clone, Copy, Debug, PartialEq, Eq)]
+struct Step {
+    next: usize,
+    time: u64,
 }
 
-// What the walk found: how many frames there are, where the last one ends and the length that they have in common; or that their times break the rule.
-#[derive(Clone, Copy)]
-enum Walked {
-    InOrder {
-        count: usize,
-        end: usize,
-        common: usize,
-    },
-    OutOfOrder,
+// What the walk found: how many frames there are, where the last one ends and the length that they have in common, if they do.
+#[derive(Clone, Copy, Debug, PartialEq, Eq)]
+struct Walked {
+    count: usize,
+    end: usize,
+    common: Option<usize>,
 }
 
-fn frame_step(file: &[u8], sections: usize, first: u64, last: u64, place: usize) -> Step
+// The step from a place on, where a whole frame stands there; refused where its time breaks its rule.
+fn frame_step(
+    file: &[u8],
+    sections: usize,
+    first: u64,
+    last: u64,
+    place: usize,
+) -> Result<Option<Step>, Refusal>
     ensures { result ≡ step_of file.now sections first last place }
 {
-    let end = frames::frame_end(file, place, sections);
-    let Place::End(next) = end else {
-        return Step::Stop(false);
+    let Some(next) = frames::frame_end(file, place, sections) else {
+        return Ok(None);
     };
     let time = number::read(file, place + 4, 8);
     if times::follows_last(first, last, time) {
-        Step::Next(next, time)
+        Ok(Some(Step { next, time }))
     } else {
-        Step::Stop(true)
+        Err(Refusal::Clock)
     }
 }
 
-// The walk that a step has stopped.
-fn stopped(step: Step, count: usize, end: usize, common: usize) -> Walked
-    ensures { result ≡ stopped_by step count end common }
-{
-    let Step::Stop(late) = step else {
-        return Walked::OutOfOrder;
-    };
-    if late {
-        return Walked::OutOfOrder;
-    }
-    Walked::InOrder { count, end, common }
-}
-
-// The length that `count` frames and one more have in common: 0 where they differ.
-fn common_length(count: usize, common: usize, size: usize) -> usize
+// The length that `count` frames and one more have in common; none where they differ.
+fn common_length(count: usize, common: Option<usize>, size: usize) -> Option<usize>
     ensures { result ≡ common_with count common size }
 {
     if count == 0 {
-        return size;
+        return Some(size);
     }
-    if common == size {
-        return size;
+    let length = common?;
+    if length != size {
+        return None;
     }
-    0
+    Some(length)
 }
 
 // Keeps the length of a frame, where there is a place for it.
@@ -106,34 +89,29 @@ fn note_length(lengths: &mut [u32], number: usize, size: usize)
 
 // "The walk takes whole frames one behind the other and stops at the first place without one, or after 1,000,000."
 // A time that breaks its rule settles the answer, so the walk goes no further then. It keeps the lengths of as many frames as there are places for.
-fn walk(file: &[u8], sections: usize, start: usize, lengths: &mut [u32]) -> Walked
+fn walk(file: &[u8], sections: usize, start: usize, lengths: &mut [u32]) -> Result<Walked, Refusal>
     requires { (sections ≤ 8) × (start ≤ length file.now) }
     ensures { (result ≡ walked_in file.now sections start) × Lengths file.now sections start result lengths.old lengths.new }
 {
     // the first frame's time stands behind its mark
     let first = number::read(file, start + 4, 8);
-    let mut count = 0;
-    let mut place = start;
+    let mut end = start;
     let mut last = first;
-    let mut common = 0;
-    let mut left = Header::MOST_FRAMES;
-    while 0 < left {
-        let step = frame_step(file, sections, first, last, place);
-        let Step::Next(next, time) = step else {
-            return stopped(step, count, place, common);
+    let mut common = None;
+    for count in 0..Header::MOST_FRAMES {
+        let Some(step) = frame_step(file, sections, first, last, end)? else {
+            return Ok(Walked { count, end, common });
         };
-        common = common_length(count, common, next - place);
-        note_length(lengths, count, next - place);
-        count += 1;
-        place = next;
-        last = time;
-        left -= 1;
+        common = common_length(count, common, step.next - end);
+        note_length(lengths, count, step.next - end);
+        end = step.next;
+        last = step.time;
     }
-    Walked::InOrder {
-        count,
-        end: place,
+    Ok(Walked {
+        count: Header::MOST_FRAMES,
+        end,
         common,
-    }
+    })
 }
 
 // A frame's time, where the frame is known to be whole: in a part of just its bytes it is read with no test.
@@ -145,37 +123,26 @@ fn known_time(file: &[u8], at: usize) -> u64
     number::read(&file[at..end], 0, 8)
 }
 
-// A length that was kept, as a number: so that only one place asks that it fits.
-fn wide(length: u32) -> usize
-    ensures { result ≡ length }
-{
-    length as usize
-}
-
 // Where a frame that is known to be whole ends. Frames that have a length in common, or whose lengths were kept, need no size read: the place of one does
 // not wait for the bytes of the one ahead of it.
 fn next_place(
     file: &[u8],
     place: usize,
     sections: usize,
-    common: usize,
+    common: Option<usize>,
     lengths: &[u32],
     number: usize,
 ) -> usize
-    requires { frame_end file.now place sections ≡ End (next_by file.now place sections common lengths.now number) }
+    requires { frame_end file.now place sections ≡ Some (next_by file.now place sections common lengths.now number) }
     ensures { result ≡ end_in (frame_end file.now place sections) }
 {
-    if common != 0 {
-        return place + common;
+    if let Some(size) = common {
+        return place + size;
     }
     if number < lengths.len() {
-        return place + wide(lengths[number]);
+        return place + lengths[number] as usize;
     }
-    let end = frames::frame_end(file, place, sections);
-    let Place::End(next) = end else {
-        return place;
-    };
-    next
+    frames::frame_end(file, place, sections).unwrap_or(place)
 }
 
 // An index entry in its sixteen bytes, all of which there is room for: time since the first frame, offset, length.
@@ -204,7 +171,7 @@ fn write_entries(
     start: usize,
     first: u64,
     count: usize,
-    common: usize,
+    common: Option<usize>,
     lengths: &[u32],
     out: &mut [u8],
 )
@@ -213,16 +180,12 @@ fn write_entries(
 {
     let mut place = start;
     let mut entry = 4;
-    let mut passed = 0;
-    let mut left = count;
-    while 0 < left {
+    for passed in 0..count {
         let next = next_place(file, place, sections, common, lengths, passed);
         let time = known_time(file, place + 4);
         write_entry(out, entry, first, time, place, next - place);
         place = next;
         entry += Header::INDEX_ENTRY;
-        passed += 1;
-        left -= 1;
     }
 }
 
@@ -232,7 +195,7 @@ fn write_index(
     sections: usize,
     start: usize,
     count: usize,
-    common: usize,
+    common: Option<usize>,
     lengths: &[u32],
     out: &mut [u8],
 )
@@ -258,7 +221,7 @@ fn write_tail(
     sections: usize,
     start: usize,
     count: usize,
-    common: usize,
+    common: Option<usize>,
     lengths: &[u32],
     out: &mut [u8],
 )
@@ -276,40 +239,44 @@ fn repair_frames(
     start: usize,
     lengths: &mut [u32],
     out: &mut [u8],
-) -> Repaired
+) -> Result<Repaired, Refusal>
     requires { (sections ≤ 8) × (start ≤ length file.now) }
     ensures { made result out.new ≡ frames_repaired file.now sections start out.old }
 {
-    let walked = walk(file, sections, start, lengths);
-    let Walked::InOrder { count, end, common } = walked else {
-        return Repaired::Refused(Refusal::CLOCK);
-    };
+    let walked = walk(file, sections, start, lengths)?;
+    let count = walked.count;
+    let end = walked.end;
     // the end alone is compared first, so that no sum passes a usize
     if Header::LARGEST_USER_OFFSET < end {
-        return Repaired::Refused(Refusal::FULL);
+        return Err(Refusal::Full);
     }
     let index_length = 4 + Header::INDEX_ENTRY * count;
     let user = end + index_length;
     if Header::LARGEST_USER_OFFSET < user {
-        return Repaired::Refused(Refusal::FULL);
+        return Err(Refusal::Full);
     }
     let tail = index_length + 4;
     if out.len() < tail {
-        return Repaired::Refused(Refusal::NO_ROOM);
+        return Err(Refusal::NoRoom);
     }
-    write_tail(file, sections, start, count, common, lengths, out);
-    Repaired::Kept {
+    write_tail(file, sections, start, count, walked.common, lengths, out);
+    Ok(Repaired {
         kept: end,
         count,
         index: end,
         user,
         tail,
-    }
+    })
 }
 
 // The same with places for the lengths of as many frames as a recording of 1 GiB may well have. A short file is read from end to end while these are
 // cleared: it does without.
-fn repair_walked(file: &[u8], sections: usize, start: usize, out: &mut [u8]) -> Repaired
+fn repair_walked(
+    file: &[u8],
+    sections: usize,
+    start: usize,
+    out: &mut [u8],
+) -> Result<Repaired, Refusal>
     requires { (sections ≤ 8) × (start ≤ length file.now) }
     ensures { made result out.new ≡ frames_repaired file.now sections start out.old }
 {
@@ -321,27 +288,13 @@ fn repair_walked(file: &[u8], sections: usize, start: usize, out: &mut [u8]) -> 
     repair_frames(file, sections, start, &mut lengths, out)
 }
 
-// 16: "repair of a file that opens"
-fn opens(file: &[u8]) -> bool
-    ensures { result ≡ whole file.now }
-{
-    let answer = opening::open(file);
-    let Opening::Opened(_) = answer else {
-        return false;
-    };
-    true
-}
-
 // "Repair: 1 to 4, 16, 13, 15, 9." The output is the tail, from its start; refused, it stays as it is.
-pub fn repair(file: &[u8], out: &mut [u8]) -> Repaired
+pub fn repair(file: &[u8], out: &mut [u8]) -> Result<Repaired, Refusal>
     ensures { made result out.new ≡ repair_of file.now out.old }
 {
-    let front = front::open_front(file);
-    let Front::Whole(held) = front else {
-        return Repaired::Refused(front::front_refusal(front));
-    };
-    if opens(file) {
-        return Repaired::Refused(Refusal::WHOLE);
+    let held = front::open_front(file)?;
+    if opening::open(file).is_ok() {
+        return Err(Refusal::Whole);
     }
     repair_walked(file, held.sections, held.start, out)
 }

@@ -5,31 +5,25 @@
 use refusal::Refusal;
 use repair::Repaired;
 use std::io;
-use std::rt::{Env, Files};
+use vector::counted;
 use vector::lend::lent;
-use vector::print::{no_vector, refused, say, with, with_check};
-use vector::sweep::{Tally, line, turn_bytes, turn_length, turns};
+use vector::print::{no_vector, refused, with, with_check};
+use vector::sweep::{Tally, sweep};
 
 const REPAIR: u8 = b'r';
 
 const SWEEP: u8 = b'R';
 
-fn kept(rt: &impl Print, answer: Repaired) -> io::Result<()> {
+fn kept(rt: &impl Print, answer: Result<Repaired, Refusal>) -> io::Result<()> {
     match answer {
-        Repaired::Kept {
-            kept,
-            count,
-            index,
-            user,
-            tail,
-        } => {
-            with(rt, b"repaired kept ", kept as u64)?;
-            with(rt, b" count ", count as u64)?;
-            with(rt, b" index ", index as u64)?;
-            with(rt, b" user ", user as u64)?;
-            with(rt, b" tail ", tail as u64)
+        Ok(repaired) => {
+            with(rt, b"repaired kept ", repaired.kept as u64)?;
+            with(rt, b" count ", repaired.count as u64)?;
+            with(rt, b" index ", repaired.index as u64)?;
+            with(rt, b" user ", repaired.user as u64)?;
+            with(rt, b" tail ", repaired.tail as u64)
         }
-        Repaired::Refused(refusal) => refused(rt, refusal),
+        Err(refusal) => refused(rt, refusal),
     }
 }
 
@@ -39,81 +33,38 @@ fn repaired(rt: &impl Print, file: &[u8], out: &mut [u8]) -> io::Result<()> {
 }
 
 fn repair(rt: &impl Print, fields: &[u8]) -> io::Result<()> {
-    if fields.len() < 2 {
+    let Some((room, file)) = fields.split_at_checked(2) else {
         return no_vector(rt);
-    }
-    let room = number::read(fields, 0, 2) as usize;
+    };
     let mut space = lent(0x5A);
-    let out: &mut [u8] = &mut space;
-    if room <= out.len() {
-        repaired(rt, &fields[2..], &mut out[..room])?;
+    match space.get_mut(..number::read(room, 0, 2) as usize) {
+        Some(out) => repaired(rt, file, out),
+        None => Ok(()),
     }
-    Ok(())
-}
-
-fn refusal_of(answer: Repaired) -> Refusal {
-    if let Repaired::Refused(refusal) = answer {
-        return refusal;
-    }
-    Refusal::NONE
 }
 
 fn tried(file: &[u8], before: Tally) -> Tally {
     let mut out = [0; 512];
-    let answer = repair::repair(file, &mut out);
-    vector::sweep::tried(before, refusal_of(answer))
-}
-
-// Each turn of a sweep of the file.
-fn sweep(rt: &impl Print, base: &[u8], values: &[u8]) -> io::Result<()> {
-    let mut tally = Tally::NONE;
-    let mut turn = 0;
-    let end = turns(base.len());
-    while turn < end {
-        let bytes = turn_bytes(base, values, turn);
-        let n = turn_length(base.len(), turn);
-        tally = tried(&bytes[..n], tally);
-        turn += 1;
-    }
-    line(rt, tally)
+    vector::sweep::tried(before, repair::repair(file, &mut out).err())
 }
 
 // The values of a sweep, and behind them the file.
 fn swept(rt: &impl Print, fields: &[u8]) -> io::Result<()> {
-    if fields.len() < 1 {
+    let Some((values, base)) = counted(fields, 1) else {
         return no_vector(rt);
-    }
-    let length = number::read(fields, 0, 1) as usize;
-    let given = &fields[1..];
-    if given.len() < length {
-        return no_vector(rt);
-    }
-    sweep(rt, &given[length..], &given[..length])
+    };
+    sweep(rt, base, values, tried)
 }
 
 // The call that a vector holds, by its first byte.
 fn answer(rt: &impl Print, vector: &[u8]) -> io::Result<()> {
-    if vector.len() == 0 {
-        return no_vector(rt);
-    }
-    let fields = &vector[1..];
-    match vector[0] {
-        REPAIR => repair(rt, fields),
-        SWEEP => swept(rt, fields),
+    match vector.split_first() {
+        Some((&REPAIR, fields)) => repair(rt, fields),
+        Some((&SWEEP, fields)) => swept(rt, fields),
         _ => no_vector(rt),
     }
 }
 
-fn one(rt: &(impl Env + Files + Print), argument: usize) -> io::Result<()> {
-    let mut space = lent(0);
-    let n = vector::read(rt, argument, &mut space)?;
-    answer(rt, &space[..n])?;
-    say(rt, b"\n")
-}
-
 fn main(rt: HostRuntime) -> io::Result<()> {
-    for argument in 1..vector::arguments(&rt) {
-        one(&rt, argument)?;
-    }
-    Ok(())
+    vector::each(&rt, |vector| answer(&rt, vector))
 }

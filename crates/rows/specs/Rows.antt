@@ -1,11 +1,10 @@
 -- Rows that begin with a name, read by their length bytes alone: where they end.
-use Rattle.std.specs.Prelude.{ℕ, ◌+◌, cond, List, [], length, eqb}
+use Rattle.std.specs.Prelude.{ℕ, ◌+◌, cond, List, [], length, eqb, Option, Some, None}
 use Rattle.layout.specs.Reading.{Parsed, bad, good, Reader, ◌then◌, give, number, block, string}
 use Rattle.layout.specs.Saving.{Entry, kind, entry_of}
 use Rattle.rows.specs.declared.Row.{Row}
 use Rattle.rows.specs.declared.Row.TheVariants.{Definition, SetUp, Tag, Change}
 use Rattle.rows.specs.declared.RowPlace.{RowPlace}
-use Rattle.rows.specs.declared.RowPlace.TheVariants as row_place
 
 -- an entry of a change: its kind and, for kind 1, a value
 unfoldable pub entry : Reader (List ℕ)
@@ -26,6 +25,10 @@ rest Change = entry then λ seen. entry
 unfoldable pub row_name : Row → Reader (List ℕ)
 row_name k = string then λ name. rest k then λ r. give name
 
-unfoldable pub row_of : (at : ℕ) → Parsed (List ℕ) → RowPlace
-row_of at (bad m) = row_place.Broken
-row_of at (good name n) = row_place.Whole (length name) (at + n)
+-- a row whose name has so many bytes, and which ends there
+abbrev pub row_whole : (name end : ℕ) → Option RowPlace
+row_whole n e = Some (record { name = n; end = e })
+
+unfoldable pub row_of : (at : ℕ) → Parsed (List ℕ) → Option RowPlace
+row_of at (bad m) = None
+row_of at (good name n) = row_whole (length name) (at + n)

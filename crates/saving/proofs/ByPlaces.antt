@@ -1,5 +1,6 @@
 -- That by places the table and the sheet say the same as by names.
 -- Assumes nothing.
+use Rattle.std.specs.Prelude.{Option, Some, None}
 use Prim.Native.Nat.{ℕ, zero, suc, ◌+◌, ◌<◌, ◌≤◌}
 use native.Mathlib.Omega.{arith}
 use mathlib.Core.Path.{◌≡◌, refl, ap, sym, ◌∙◌}
@@ -11,11 +12,10 @@ use borrow.Author.Tests.{ne_eqb, lt-ltb}
 use Rattle.layout.specs.Recording.{Tag, same, among, tag_names}
 use Rattle.layout.specs.Reading.{Parsed, Reader, bad, good, onward}
 use Rattle.rows.specs.Rows.{row_name}
-use Rattle.names.specs.Names.{found, names}
+use Rattle.names.specs.Names.{found_at, found, names}
 use Rattle.rows.specs.declared.Row.{Row}
 use Rattle.rows.specs.declared.Row.TheVariants as row
 use Rattle.names.specs.declared.NameFound.{NameFound}
-use Rattle.names.specs.declared.NameFound.TheVariants as found
 use Rattle.sheet.specs.Rows.{rows, row_with, tag_with_name, made, tag_holds, change_with_name, changes_at, pair, beside, tags_at, change_makes, tag_entry}
 use Rattle.layout.specs.Saving.{Change, conflicts, absent, holds, look_up, new_entry, tag_with, kept_tags, new_tags, applied}
 use Rattle.look.specs.Look.{differs, compared_by}
@@ -32,9 +32,9 @@ use Rattle.places.proofs.Finding.{found-more, found_none, no_found, names_more, 
 -- ── Rows found by their name ──
 
 -- what is made of the row that was found
-unfoldable pub found_in : {A B : Type 0} → (Parsed A → B) → Reader A → B → List ℕ → NameFound → B
-found_in make p none s (found.At i at) = make (p (drop at s))
-found_in make p none s found.Nothing = none
+unfoldable pub found_in : {A B : Type 0} → (Parsed A → B) → Reader A → B → List ℕ → Option NameFound → B
+found_in make p none s (Some f) = make (p (drop f.place s))
+found_in make p none s None = none
 
 -- a function of rows that goes by the first of a name goes by the row that is found
 module _ {A B : Type 0} (k : Row) (make : List ℕ → List ℕ → A) (name : List ℕ) (G : List A → B) (hit : A → B) (none other : B) (nil : G [] ≡ none)
@@ -54,7 +54,7 @@ module _ {A B : Type 0} (k : Row) (make : List ℕ → List ℕ → A) (name : L
       ) (cons v _ _ ∙ pick (same name v))
     where
       pick : (b : Bool) → cond b (hit (make v (drop (1 + length v) (drop at s)))) (G (rows n (row_with k make) (drop m (drop at s)))) ≡ found_in
-          (made hit other) (row_with k make) none s (cond b (found.At i at) (found name n (row_name k) s (i + 1) (at + m)))
+          (made hit other) (row_with k make) none s (cond b (found_at i at) (found name n (row_name k) s (i + 1) (at + m)))
       pick true = rw e
       pick false = rw (drop-drop m at s) (ih (i + 1) (at + m))
 
@@ -72,9 +72,9 @@ by_place : {A B : Type 0} (make : Parsed A → B) (r : Reader A) (none : B) (v :
 unfolding found_in place_found
 by_place {A} {B} make r none v n p s at z = go (found v n p s 0 at) refl
   where
-    go : (f : NameFound) → found v n p s 0 at ≡ f → cond (eqb (place_found f) 0) none (make (r (drop (place_found f) s))) ≡ found_in make r none s f
-    go (found.At i q) e = found-parts v n p s 0 at i q e (λ c a l t o. rw (ne_eqb q 0 (λ h. omega arith)))
-    go found.Nothing e = refl
+    go : (f : Option NameFound) → found v n p s 0 at ≡ f → cond (eqb (place_found f) 0) none (make (r (drop (place_found f) s))) ≡ found_in make r none s f
+    go (Some f) e = found-parts v n p s 0 at f.number f.place e (λ c a l t o. rw (ne_eqb f.place 0 (λ h. omega arith)))
+    go None e = refl
 
 -- what a table has under a name
 look_up-found : (name s : List ℕ) (n i at : ℕ) → look_up name (tags_at s at n) ≡ found_in tag_holds (row_with row.Tag tag_with_name) absent s
@@ -125,11 +125,11 @@ unfolding new_by tag_place place_found found_in
 new-by-place table at n z c = ap (λ b. cond b [] (tag_with c.name c.new))
     (go (found c.name n (row_name row.Tag) table 0 at) refl ∙ sym (among-found c.name table n 0 at))
   where
-    go : (f : NameFound) → found c.name n (row_name row.Tag) table 0 at ≡ f
+    go : (f : Option NameFound) → found c.name n (row_name row.Tag) table 0 at ≡ f
         → ltb 0 (place_found f) ≡ found_in (made (λ t. true) true) (row_with row.Tag tag_with_name) false table f
-    go (found.At i q) e = found-parts c.name n (row_name row.Tag) table 0 at i q e
-        (λ b a l t o. rw (lt-ltb 0 q (omega arith)) (sym (made-true (row_with row.Tag tag_with_name (drop q table)))))
-    go found.Nothing e = refl
+    go (Some f) e = found-parts c.name n (row_name row.Tag) table 0 at f.number f.place e
+        (λ b a l t o. rw (lt-ltb 0 f.place (omega arith)) (sym (made-true (row_with row.Tag tag_with_name (drop f.place table)))))
+    go None e = refl
 
 -- the places behind the first are those of the names behind it
 pub lists-next : (place : List ℕ → ℕ) (ps : List ℕ) (i : ℕ) (v : List ℕ) (ns : List (List ℕ)) → Lists place ps i (v ∷ ns) → Lists place ps (i + 1) ns

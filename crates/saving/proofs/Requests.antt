@@ -1,5 +1,6 @@
 -- What look and commit begin with, and the converter too: 1 to 7, 10; and that the table and the sheet are legal then.
 -- Assumes nothing.
+use Rattle.std.specs.Prelude.{Result, Ok, Err}
 use Prim.Native.Nat.{ℕ, zero, suc, ◌+◌, ◌^◌, ◌<◌, ◌≤◌}
 use native.Mathlib.Omega.{arith}
 use mathlib.Core.Path.{◌≡◌, refl, ap, sym, ◌∙◌}
@@ -27,22 +28,19 @@ use Rattle.parts.proofs.Taken.{then-parts, only_parts}
 use Rattle.parts.proofs.Times.{times-length, times-led}
 use Rattle.names.proofs.Readers.{LeadsEntry, tag-row, up-to-leads, distinct-tags, distinct-changes}
 use Rattle.tables.proofs.Places.{table-read}
-use Rattle.opening.specs.Opened.{open_of, open_refusal, held_of}
+use Rattle.opening.specs.Opened.{open_of, held_of}
 use Rattle.opening.specs.declared.Held.{Held}
-use Rattle.opening.specs.declared.Opening.{Opening}
-use Rattle.opening.specs.declared.Opening.TheVariants as opening_as
 use Rattle.opening.proofs.Lines.{open-opens, open-refuses}
 use Rattle.sheet.specs.Sheet.{sheet_up_to, sheet_of}
 use Rattle.sheet.specs.Rows.{tags_at, changes_at}
-use Rattle.sheet.specs.declared.Sheet.{Sheet}
-use Rattle.sheet.specs.declared.Sheet.TheVariants as sheet
 use Rattle.sheet.proofs.Legal.{tags-are, changes-are}
 use Rattle.refusal.specs.Refusal.{placed}
 use Rattle.refusal.specs.declared.Refusal.{Refusal}
-use Rattle.saving.specs.Answers.{asked_by, asked_of}
+use Rattle.refusal.specs.declared.Refusal.TheVariants.{Sheet}
+use Rattle.parts.specs.declared.Fault.{Fault}
+use Rattle.saving.specs.Answers.{asked_as, asked_by, asked_of}
 use Rattle.saving.specs.Begun.{Legal}
 use Rattle.saving.specs.declared.Asked.{Asked}
-use Rattle.saving.specs.declared.Asked.TheVariants as asked
 
 -- ── The user table of a file that opens ──
 
@@ -108,26 +106,27 @@ changes-stand p leads bytes cs m e =
     let o : length cs ≡ c = times-length (change_with p) c (drop a bytes) cs k g in
     (omega arith, rw o (distinct-changes p leads bytes 1 c k cs (rw r g) ∙ y), k, rw (o, r) g))
 
-pub sheet-is-bad : {A : Type 0} (p : Parsed (List A)) (k : ℕ) → sheet_of p ≡ sheet.Broken k → (is_bad p ≡ true) × (fault_of p ≡ k)
+pub sheet-is-bad : {A : Type 0} (p : Parsed (List A)) (k : Fault) → sheet_of p ≡ Err k → (is_bad p ≡ true) × (fault_of p ≡ k.place)
 unfolding sheet_of fault_of
-sheet-is-bad (bad j) k e = (refl, cc)
+sheet-is-bad (bad j) k e =
+    let q : ◌≡◌ {A = Fault} (record { place = j }) k = cc in
+    (refl, ap (λ (f : Fault). f.place) q)
 sheet-is-bad (good cs n) k e = let z : ◌≡◌ {A = ℕ} 0 1 = cc in absurd (omega arith)
 
-sheet-is-good : {A : Type 0} (p : Parsed (List A)) (k : ℕ) → sheet_of p ≡ sheet.Whole k → (cs : List A) × (m : ℕ) × (p ≡ good cs m) × (length cs ≡ k)
+sheet-is-good : {A : Type 0} (p : Parsed (List A)) (k : ℕ) → sheet_of p ≡ Ok k → (cs : List A) × (m : ℕ) × (p ≡ good cs m) × (length cs ≡ k)
 unfolding sheet_of
 sheet-is-good (bad j) k e = let z : ◌≡◌ {A = ℕ} 0 1 = cc in absurd (omega arith)
 sheet-is-good (good cs n) k e = (cs, n, refl, cc)
 
 -- ── What all begin with ──
 
-pub asked-unopened : (most : ℕ) (f bytes : List ℕ) (o : Opening) (n m : Refusal) → o ≡ open_of f → o ≡ opening_as.Refused n → m ≡ open_refusal o
-    → asked.Refused m ≡ asked_of most f bytes
+pub asked-unopened : (most : ℕ) (f bytes : List ℕ) (o : Result Held Refusal) (q : Refusal) → o ≡ open_of f → o ≡ Err q → Err q ≡ asked_of most f bytes
 unfolding asked_of asked_by
-asked-unopened most f bytes o n m e g h =
-    let (j, a, b) = open-refuses f n (sym e ∙ g) in
-    rw b (ap asked.Refused (h ∙ ap open_refusal g ∙ a))
+asked-unopened most f bytes o q e g =
+    let (j, a, b) = open-refuses f q (sym e ∙ g) in
+    ap (λ (x : Refusal). Err x) a ∙ sym (ap (λ (n : ℕ). asked_by n f (sheet_of (exactly (sheet_up_to most) bytes))) b)
 
-module _ (f : List ℕ) (o : Opening) (held : Held) (e : o ≡ open_of f) (g : o ≡ opening_as.Opened held) where
+module _ (f : List ℕ) (o : Result Held Refusal) (held : Held) (e : o ≡ open_of f) (g : o ≡ Ok held) where
   opens : (refusal f ≡ 0) × (held ≡ held_of f)
   opens = open-opens f held (sym e ∙ g)
 
@@ -138,31 +137,33 @@ module _ (f : List ℕ) (o : Opening) (held : Held) (e : o ≡ open_of f) (g : o
       let l = (user-stands f opens.0).0 in
       record { fits = omega arith }
 
-  pub asked-malformed : (most : ℕ) (bytes : List ℕ) (s : Sheet) (k : ℕ) (q : Refusal) → s ≡ sheet_of (exactly (sheet_up_to most) bytes) → s ≡ sheet.Broken k
-      → q ≡ placed 10 k → asked.Refused q ≡ asked_of most f bytes
+  pub asked-malformed : (most : ℕ) (bytes : List ℕ) (s : Result ℕ Fault) (k : Fault) → s ≡ sheet_of (exactly (sheet_up_to most) bytes) → s ≡ Err k
+      → Err (Sheet k.place) ≡ asked_of most f bytes
   unfolding asked_of asked_by
-  asked-malformed most bytes s k q h i j = rw (opens.0, ← h, i, j)
+  asked-malformed most bytes s k h i = rw (opens.0, ← h, i)
 
-  pub asked-changes : (most : ℕ) (bytes : List ℕ) (s : Sheet) (k : ℕ) → s ≡ sheet_of (exactly (sheet_up_to most) bytes) → s ≡ sheet.Whole k
-      → asked.Changes (held.user + 4) held.user_tags k ≡ asked_of most f bytes
+  pub asked-changes : (most : ℕ) (bytes : List ℕ) (s : Result ℕ Fault) (k : ℕ) → s ≡ sheet_of (exactly (sheet_up_to most) bytes) → s ≡ Ok k
+      → asked_as (held.user + 4) held.user_tags k ≡ asked_of most f bytes
   unfolding asked_of asked_by held_of user_tags
   asked-changes most bytes s k h i = rw (opens.0, ← h, i, opens.1)
 
 -- changes that are asked for: the file opens and the sheet is whole
-changes-asked : (f : List ℕ) (s : Sheet) (at n k r : ℕ) → asked_by r f s ≡ asked.Changes at n k
-    → (r ≡ 0) × (s ≡ sheet.Whole k) × (user_offset f + 4 ≡ at) × (length (user_tags f) ≡ n)
+changes-asked : (f : List ℕ) (s : Result ℕ Fault) (a : Asked) (r : ℕ) → asked_by r f s ≡ Ok a
+    → (r ≡ 0) × (s ≡ Ok a.changes) × (user_offset f + 4 ≡ a.at) × (length (user_tags f) ≡ a.tags)
 unfolding asked_by
-changes-asked f (sheet.Whole j) at n k zero e = (refl, ap sheet.Whole cc, cc, cc)
-changes-asked f (sheet.Broken p) at n k zero e = let z : ◌≡◌ {A = ℕ} 0 1 = cc in absurd (omega arith)
-changes-asked f s at n k (suc r) e = let z : ◌≡◌ {A = ℕ} 0 1 = cc in absurd (omega arith)
+changes-asked f (Ok j) a zero e =
+    let q : ◌≡◌ {A = Asked} (record { at = user_offset f + 4; tags = length (user_tags f); changes = j }) a = cc in
+    (refl, ap (λ (x : Asked). Ok x.changes) q, ap (λ (x : Asked). x.at) q, ap (λ (x : Asked). x.tags) q)
+changes-asked f (Err p) a zero e = let z : ◌≡◌ {A = ℕ} 0 1 = cc in absurd (omega arith)
+changes-asked f s a (suc r) e = let z : ◌≡◌ {A = ℕ} 0 1 = cc in absurd (omega arith)
 
 -- a refusal: the file's, or the sheet's
-pub refused-asked : (f : List ℕ) (s : Sheet) (q : Refusal) (r : ℕ) {G : Type 0} → asked_by r f s ≡ asked.Refused q
+pub refused-asked : (f : List ℕ) (s : Result ℕ Fault) (q : Refusal) (r : ℕ) {G : Type 0} → asked_by r f s ≡ Err q
     → ((n : ℕ) → r ≡ suc n → q ≡ placed (suc n) (opening_place (suc n) f) → G)
-    → ((p : ℕ) → r ≡ 0 → s ≡ sheet.Broken p → q ≡ placed 10 p → G) → G
+    → ((p : Fault) → r ≡ 0 → s ≡ Err p → q ≡ placed 10 p.place → G) → G
 unfolding asked_by
-refused-asked f (sheet.Whole j) q zero e unopened malformed = let z : ◌≡◌ {A = ℕ} 0 1 = cc in absurd (omega arith)
-refused-asked f (sheet.Broken p) q zero e unopened malformed = malformed p refl refl cc
+refused-asked f (Ok j) q zero e unopened malformed = let z : ◌≡◌ {A = ℕ} 0 1 = cc in absurd (omega arith)
+refused-asked f (Err p) q zero e unopened malformed = malformed p refl refl cc
 refused-asked f s q (suc n) e unopened malformed = unopened n refl cc
 
 -- ── What was asked for is legal ──
@@ -179,11 +180,11 @@ pub record Asks {S : Type 0} (p : Reader S) (f bytes : List ℕ) (at n k : ℕ) 
   pub taken : ℕ
   pub read : times k (change_with p) (drop 1 bytes) ≡ good changes taken
 
-pub asks : {S : Type 0} (p : Reader S) → LeadsEntry p → (f bytes : List ℕ) (at n k : ℕ)
-    → asked_by (refusal f) f (sheet_of (exactly (sheet_with p) bytes)) ≡ asked.Changes at n k → Asks p f bytes at n k
-asks p leads f bytes at n k e =
-    let (o, w, x, y) = changes-asked f (sheet_of (exactly (sheet_with p) bytes)) at n k (refusal f) e in
-    let (cs, m, g, c) = sheet-is-good (exactly (sheet_with p) bytes) k w in
+pub asks : {S : Type 0} (p : Reader S) → LeadsEntry p → (f bytes : List ℕ) (a : Asked)
+    → asked_by (refusal f) f (sheet_of (exactly (sheet_with p) bytes)) ≡ Ok a → Asks p f bytes a.at a.tags a.changes
+asks p leads f bytes a e =
+    let (o, w, x, y) = changes-asked f (sheet_of (exactly (sheet_with p) bytes)) a (refusal f) e in
+    let (cs, m, g, c) = sheet-is-good (exactly (sheet_with p) bytes) a.changes w in
     let (there, few, tags, apart, size, read, end) = user-stands f o in
     let (most, differ, taken, rows) = changes-stand p leads bytes cs m g in
     rw (← x, ← y, ← c) (record {
@@ -209,9 +210,10 @@ asks p leads f bytes at n k e =
       read = rows;
     })
 
-pub asked-legal : (most : ℕ) (f bytes : List ℕ) (a : Asked) (at n k : ℕ) → a ≡ asked_of most f bytes → a ≡ asked.Changes at n k → Legal f at n bytes k
+pub asked-legal : (most : ℕ) (f bytes : List ℕ) (r : Result Asked Refusal) (a : Asked) → r ≡ asked_of most f bytes → r ≡ Ok a
+    → Legal f a.at a.tags bytes a.changes
 unfolding asked_of sheet_up_to
-asked-legal most f bytes a at n k e g = (asks (entry_up_to most) (up-to-leads most) f bytes at n k (sym e ∙ g)).legal
+asked-legal most f bytes r a e g = (asks (entry_up_to most) (up-to-leads most) f bytes a (sym e ∙ g)).legal
 
 -- ── What look and commit begin with ──
 
@@ -221,15 +223,15 @@ pub record Stands (f bytes : List ℕ) (at n k : ℕ) : Type 0 where
   pub changes : changes_at bytes 1 k ≡ changes_of bytes
   pub count : length (changes_of bytes) ≡ k
 
-pub stands : (f bytes : List ℕ) (a : Asked) (at n k : ℕ) → a ≡ asked_of 1 f bytes → a ≡ asked.Changes at n k → Stands f bytes at n k
+pub stands : (f bytes : List ℕ) (r : Result Asked Refusal) (a : Asked) → r ≡ asked_of 1 f bytes → r ≡ Ok a → Stands f bytes a.at a.tags a.changes
 unfolding asked_of sheet_up_to entry_up_to entry_part sheet changes_of value_or
-stands f bytes a at n k e g =
-    let w = asks entry_part (up-to-leads 1) f bytes at n k (sym e ∙ g) in
+stands f bytes r a e g =
+    let w = asks entry_part (up-to-leads 1) f bytes a (sym e ∙ g) in
     let x = w.exact in
     record {
       accepted = sym (look-number f bytes) ∙ (look-accepted f bytes).1 (w.opens, rw x);
       tags = w.tags;
-      changes = rw x (changes-are bytes 1 k w.taken w.changes w.read);
+      changes = rw x (changes-are bytes 1 a.changes w.taken w.changes w.read);
       count = rw x w.count;
     }
 
@@ -239,10 +241,10 @@ unfolding refusal opening_lines front_lines without look_place
 opening-place f bytes n e = rw (ne_eqb n 10 (λ z. lines-not (opening_lines f) 10 refl (λ o. omega arith) (e ∙ z)))
 
 -- a refusal is look's
-pub asked-refused : (f bytes : List ℕ) (a : Asked) (q : Refusal) → a ≡ asked_of 1 f bytes → a ≡ asked.Refused q
+pub asked-refused : (f bytes : List ℕ) (r : Result Asked Refusal) (q : Refusal) → r ≡ asked_of 1 f bytes → r ≡ Err q
     → (n : ℕ) × (look_refusal f bytes ≡ suc n) × (q ≡ placed (suc n) (look_place (suc n) f bytes))
 unfolding asked_of sheet_up_to entry_up_to entry_part sheet look_refusal look_lines look_place refusal
-asked-refused f bytes a q e g =
+asked-refused f bytes r q e g =
     refused-asked f (sheet_of (exactly sheet bytes)) q (refusal f) (sym e ∙ g)
     (λ n o i. (n, lines-first (opening_lines f) _ n o, i ∙ ap (placed (suc n)) (sym (opening-place f bytes (suc n) o))))
     (λ p o w i.

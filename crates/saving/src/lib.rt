@@ -1,58 +1,42 @@
 // Saving tags: to look at what a sheet's changes have seen, and to commit them.
-#![tactic(auto)]
+#![tactic(auto, using(crate::proofs::Answered::laws))]
 
 ghost use Rattle.std.specs.Prelude.{◌≡◌, length};
-ghost use Rattle.saving.specs.Answers.{asked_of, set_in, look_of, outcome, answer_of, committed_in, commit_of};
+ghost use Rattle.apply.specs.Applied.{applying};
+ghost use Rattle.saving.specs.Answers.{asked_of, set_in, look_of, committed_in, commit_of};
 ghost use Rattle.saving.specs.Begun.{Legal, Begun};
 
-use apply::{Applied, Walk};
+use apply::Walk;
 use header::Header;
-use opening::Opening;
 use refusal::Refusal;
-use sheet::Sheet;
 
-// What a sheet asks of a file: so many changes of the `tags` tags that stand from `at` on; or the refusal, whose place is in the file for 3, 4 and 7 and in
-// the sheet for 10.
-#[derive(Clone, Copy)]
-pub enum Asked {
-    Changes {
-        at: usize,
-        tags: usize,
-        changes: usize,
-    },
-    Refused(Refusal),
+// What a sheet asks of a file: so many changes of the `tags` tags that stand from `at` on.
+#[derive(Clone, Copy, Debug, PartialEq, Eq)]
+pub struct Asked {
+    pub at: usize,
+    pub tags: usize,
+    pub changes: usize,
 }
 
-// What look answers: the number of changes, and the set of those that conflict, the first one's bit lowest; or the refusal.
-#[derive(Clone, Copy)]
-pub enum Looked {
-    Changes(usize, u64),
-    Refused(Refusal),
+// What look answers: the number of changes, and the set of those that conflict, the first one's bit lowest.
+#[derive(Clone, Copy, Debug, PartialEq, Eq)]
+pub struct Looked {
+    pub changes: usize,
+    pub conflicts: u64,
 }
 
-// What a commit answers: the length of the new table, or the refusal, with look's places; 11's is the number of the change, from 0.
-#[derive(Clone, Copy)]
-pub enum Committed {
-    Table(usize),
-    Refused(Refusal),
-}
-
-// What look and commit begin with: 1 to 7, 10. The kinds of what was seen go up to `most`.
-pub fn asked_of(file: &[u8], sheet: &[u8], most: usize) -> Asked
+// What look and commit begin with: 1 to 7, 10. The place of a refusal is in the file for 3, 4 and 7 and in the sheet for 10. The kinds of what was seen go up
+// to `most`.
+pub fn asked_of(file: &[u8], sheet: &[u8], most: usize) -> Result<Asked, Refusal>
     ensures { result ≡ asked_of most file.now sheet.now }
 {
-    let opening = opening::open(file);
-    let Opening::Opened(held) = opening else {
-        return Asked::Refused(opening::open_refusal(opening));
-    };
-    match sheet::changes_of(sheet, most) {
-        Sheet::Whole(changes) => Asked::Changes {
-            at: held.user + 4,
-            tags: held.user_tags,
-            changes,
-        },
-        Sheet::Broken(place) => Asked::Refused(Refusal::SHEET.at(place)),
-    }
+    let held = opening::open(file)?;
+    let changes = sheet::changes_of(sheet, most).map_err(|fault| Refusal::Sheet(fault.place))?;
+    Ok(Asked {
+        at: held.user + 4,
+        tags: held.user_tags,
+        changes,
+    })
 }
 
 // The changes that conflict. `list` has room for the tags of all changes, `places` has a place for each change.
@@ -72,38 +56,28 @@ fn compare_changes(
 }
 
 // The same with places for the changes, and a list for their tags.
-fn conflicts(table: &[u8], at: usize, n: usize, sheet: &[u8], changes: usize) -> u64
-    requires { Legal table.now at n sheet.now changes }
-    ensures { result ≡ set_in table.now at n sheet.now changes }
+fn conflicts(file: &[u8], asked: Asked, sheet: &[u8]) -> u64
+    requires { Legal file.now asked.at asked.tags sheet.now asked.changes }
+    ensures { result ≡ set_in file.now asked.at asked.tags sheet.now asked.changes }
 {
     let mut list = [0; places::WORDS];
     let mut places = [0; Header::MOST_CHANGES];
-    compare_changes(table, at, n, sheet, &mut list, &mut places[..changes])
+    let lent = &mut places[..asked.changes];
+    compare_changes(file, asked.at, asked.tags, sheet, &mut list, lent)
 }
 
 // "Look takes a file and a sheet and answers, for each change, agrees or conflicts": 1 to 7, 10.
-pub fn look(file: &[u8], sheet: &[u8]) -> Looked
+pub fn look(file: &[u8], sheet: &[u8]) -> Result<Looked, Refusal>
     ensures { result ≡ look_of file.now sheet.now }
 {
-    match asked_of(file, sheet, sheet::MOST_SEEN) {
-        Asked::Changes { at, tags, changes } => {
-            Looked::Changes(changes, conflicts(file, at, tags, sheet, changes))
-        }
-        Asked::Refused(refusal) => Looked::Refused(refusal),
-    }
+    let asked = asked_of(file, sheet, sheet::MOST_SEEN)?;
+    Ok(Looked {
+        changes: asked.changes,
+        conflicts: conflicts(file, asked, sheet),
+    })
 }
 
-// What was applied, as a commit answers it.
-fn answer_of(applied: Applied) -> Committed
-    ensures { result ≡ answer_of applied }
-{
-    match applied {
-        Applied::Table(bytes) => Committed::Table(bytes),
-        Applied::Refused(refusal) => Committed::Refused(refusal),
-    }
-}
-
-// The new table, where no change conflicts; else the lowest that does. `list` and `places` as above.
+// The length of the new table, where no change conflicts; else the lowest that does. `list` and `places` as above.
 fn apply_changes(
     table: &[u8],
     at: usize,
@@ -112,15 +86,14 @@ fn apply_changes(
     list: &mut [usize],
     places: &mut [usize],
     out: &mut [u8],
-) -> Committed
+) -> Result<usize, Refusal>
     requires { Begun table.now at n sheet.now list.old places.old }
-    ensures { outcome result out.new ≡ committed_in table.now at n sheet.now (length places.old) out.old }
+    ensures { applying result out.new ≡ committed_in table.now at n sheet.now (length places.old) out.old }
 {
     let words = places::place_tags(table, at, n, sheet, list, places);
     let set = look::compare(table, sheet, places);
     if 0 < set {
-        let conflict = Refusal::CONFLICT;
-        return Committed::Refused(conflict.at(u64::trailing_zeros(set) as usize));
+        return Err(Refusal::Conflict(set.trailing_zeros() as usize));
     }
     let walk = Walk {
         changes: places.len(),
@@ -128,34 +101,25 @@ fn apply_changes(
         tags: n,
         end: table.len(),
     };
-    answer_of(apply::apply(table, at, walk, sheet, list, places, out))
+    apply::apply(table, at, walk, sheet, list, places, out)
 }
 
 // The same with places for the changes, and a list for their tags.
-fn commit_changes(
-    table: &[u8],
-    at: usize,
-    n: usize,
-    sheet: &[u8],
-    changes: usize,
-    out: &mut [u8],
-) -> Committed
-    requires { Legal table.now at n sheet.now changes }
-    ensures { outcome result out.new ≡ committed_in table.now at n sheet.now changes out.old }
+fn commit_changes(file: &[u8], asked: Asked, sheet: &[u8], out: &mut [u8]) -> Result<usize, Refusal>
+    requires { Legal file.now asked.at asked.tags sheet.now asked.changes }
+    ensures { applying result out.new ≡ committed_in file.now asked.at asked.tags sheet.now asked.changes out.old }
 {
     let mut list = [0; places::WORDS];
     let mut places = [0; Header::MOST_CHANGES];
-    apply_changes(table, at, n, sheet, &mut list, &mut places[..changes], out)
+    let lent = &mut places[..asked.changes];
+    apply_changes(file, asked.at, asked.tags, sheet, &mut list, lent, out)
 }
 
-// "Commit does what the save did": 1 to 7, 10, 11, 17, 9. The answer is the new user table.
-pub fn commit(file: &[u8], sheet: &[u8], out: &mut [u8]) -> Committed
-    ensures { outcome result out.new ≡ commit_of file.now sheet.now out.old }
+// "Commit does what the save did": 1 to 7, 10, 11, 17, 9. The answer is the new user table: its length; 11 carries the number of the change, from 0, the
+// others look's places.
+pub fn commit(file: &[u8], sheet: &[u8], out: &mut [u8]) -> Result<usize, Refusal>
+    ensures { applying result out.new ≡ commit_of file.now sheet.now out.old }
 {
-    match asked_of(file, sheet, sheet::MOST_SEEN) {
-        Asked::Changes { at, tags, changes } => {
-            commit_changes(file, at, tags, sheet, changes, out)
-        }
-        Asked::Refused(refusal) => Committed::Refused(refusal),
-    }
+    let asked = asked_of(file, sheet, sheet::MOST_SEEN)?;
+    commit_changes(file, asked, sheet, out)
 }

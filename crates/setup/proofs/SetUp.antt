@@ -1,5 +1,6 @@
 -- The sections of a set-up list, read by their length bytes: what stands in a row, and the rows one behind the other.
 -- Assumes nothing.
+use Rattle.std.specs.Prelude.{Option, Some, None, is_some}
 use Prim.Native.Nat.{ℕ, zero, suc, ◌+◌, ◌-◌, ◌<◌, ◌≤◌}
 use native.Mathlib.Omega.{arith}
 use mathlib.Core.Path.{◌≡◌, refl, ap, sym, ◌∙◌}
@@ -7,29 +8,25 @@ use mathlib.Core.Bool.{Bool, true, false, not, ◌&&◌, ◌||◌, cond}
 use mathlib.Core.List.{List, [], ◌∷◌}
 use lib.ListN.{length, take, drop, get_or, length-drop}
 use lib.Seq.{drop-drop}
-use lib.Dec.{leb}
+use lib.Dec.{leb, eqb}
 use borrow.Author.Rules.{rules}
-use borrow.Author.Tests.{le-leb, lt-leb, leb-true, not-false, not-true}
+use borrow.Author.Tests.{leb-true, eqb-true, eqb-false, not-false, not-true}
+use Rattle.std.specs.Option.{option_eq}
 use Rattle.number.specs.Number.{number_of, read_at}
 use Rattle.number.proofs.Bytes.{both_true}
 use Rattle.number.proofs.Laws.{read_is}
 use Rattle.layout.specs.Recording.{Section, within, is_name_byte, every, distinct, legal_section_name, section_names}
-use Rattle.layout.specs.Reading.{Parsed, bad, good, onward, only, times, exactly, number, block, string, string_fault, section_name, ◌then◌, give, is_bad, value_or, taken}
+use Rattle.layout.specs.Reading.{Parsed, bad, good, Reader, onward, only, times, exactly, number, block, string, string_fault, section_name, ◌then◌, give, is_bad, value_or, taken}
 use Rattle.layout.specs.Recorder.{configured, set_up_section, set_up_list, sections_of, bad_set_up}
-use Rattle.layout.proofs.Lists.{or-false, or_right}
+use Rattle.layout.proofs.Lists.{or-false}
 use Rattle.layout.proofs.Readers.{number-good, block-good, exactly-good, then-takes, times-suc-takes}
 use Rattle.layout.proofs.Fronts.{read-good}
 use Rattle.strings.specs.Strings.{text_of}
 use Rattle.parts.specs.Parts.{end_of}
 use Rattle.rows.specs.Rows.{row_name, row_of, rest}
 use Rattle.names.specs.Names.{distinct_names}
-use Rattle.parts.specs.declared.Place.{Place}
-use Rattle.parts.specs.declared.Place.TheVariants as place
-use Rattle.strings.specs.declared.Text.{Text}
-use Rattle.strings.specs.declared.Text.TheVariants as text
 use Rattle.rows.specs.declared.Row.TheVariants.{SetUp}
 use Rattle.rows.specs.declared.RowPlace.{RowPlace}
-use Rattle.rows.specs.declared.RowPlace.TheVariants.{Whole, Broken}
 use Rattle.strings.proofs.Laws.{string-parts, part_length, text-placed}
 use Rattle.rows.proofs.Laws.{row-parts, row-broken}
 use Rattle.parts.proofs.Readers.{then-bad, then-onward, end_later, number_cut}
@@ -38,7 +35,6 @@ use Rattle.parts.proofs.Taken.{then-parts, give-parts, then-give, number_read, n
 use Rattle.names.proofs.Readers.{set-up-row, distinct-set-up}
 use Rattle.setup.specs.SetUp.{rows}
 use Rattle.parts.proofs.Exactly.{ends-broken, ends-exact, ends-other}
-use Rattle.number.proofs.Bools.{or_left, tested}
 
 -- ── A row ──
 
@@ -96,12 +92,13 @@ row-read-parts s at n end m l q w =
           read = rw (y, ← z, ← i) t;
         }
 
-pub row_read : (s : List ℕ) (at n end : ℕ) (r : RowPlace) → r ≡ row_of at (row_name SetUp (drop at s)) → r ≡ Whole n end → RowRead s at n end
-row_read s at n end r e h =
-    let (l, m, q, w) = row-parts SetUp s at n end (sym e ∙ h) in
-    row-read-parts s at n end m l q w
+pub row_read : (s : List ℕ) (at : ℕ) (p : RowPlace) (r : Option RowPlace) → r ≡ row_of at (row_name SetUp (drop at s)) → r ≡ Some p
+    → RowRead s at p.name p.end
+row_read s at p r e h =
+    let (l, m, q, w) = row-parts SetUp s at p.name p.end (sym e ∙ h) in
+    row-read-parts s at p.name p.end m l q w
 
-pub row-none : (s : List ℕ) (at : ℕ) (r : RowPlace) → r ≡ row_of at (row_name SetUp (drop at s)) → r ≡ Broken
+pub row-none : (s : List ℕ) (at : ℕ) (r : Option RowPlace) → r ≡ row_of at (row_name SetUp (drop at s)) → r ≡ None
     → (m : ℕ) × (set_up_section (drop at s) ≡ bad m)
 row-none s at r e h = go (set_up_section (drop at s)) refl (row-broken (row_name SetUp (drop at s)) at (sym e ∙ h))
   where
@@ -125,12 +122,11 @@ rows_next : (left : ℕ) (t : List ℕ) (x : Section) (m : ℕ) → set_up_secti
 unfolding rows
 rows_next left t x m e = rw (e, rows)
 
-pub rows_step : (left : ℕ) (s : List ℕ) (at m : ℕ) (x : Section) → 0 < left → set_up_section (drop at s) ≡ good x m
-    → rows left (drop at s) ≡ x ∷ rows (left - 1) (drop (at + m) s)
-rows_step zero s at m x h e = absurd (omega arith)
-rows_step (suc left) s at m x h e =
-    let p : suc left - 1 ≡ left = omega arith in
-    rows_next left (drop at s) x m e ∙ rw (drop-drop m at s, p)
+pub rows_step : (left later : ℕ) (s : List ℕ) (at m : ℕ) (x : Section) → left ≡ later + 1 → set_up_section (drop at s) ≡ good x m
+    → rows left (drop at s) ≡ x ∷ rows later (drop (at + m) s)
+rows_step left later s at m x h e =
+    let p : left ≡ suc later = omega arith in
+    rw (p, rows_next later (drop at s) x m e, drop-drop m at s)
 
 pub rows-times : (n : ℕ) (t : List ℕ) (ss : List Section) (m : ℕ) → times n set_up_section t ≡ good ss m → rows n t ≡ ss
 unfolding rows times
@@ -144,7 +140,7 @@ rows-times (suc n) t ss m e = times-parts set_up_section n t ss m e
 row_back : (t : List ℕ) (v : List ℕ) (n : ℕ) → row_name SetUp t ≡ good v n → (x : Section) × (set_up_section t ≡ good x n)
 unfolding row_of
 row_back t v n e =
-    let r = row_read t 0 (length v) (0 + n) (Whole (length v) (0 + n)) (rw e) refl in
+    let r = row_read t 0 (record { name = length v; end = 0 + n }) (row_of 0 (row_name SetUp t)) refl (rw e) in
     let f : 3 + length v + r.size ≡ n = omega (arith, r.ends) in
     (record { name = take (length v) (drop (0 + 1) t); configuration = take r.size (drop (0 + 3 + length v) t) }, r.read ∙ rw f)
 
@@ -161,7 +157,7 @@ rows_end : (k : ℕ) (t : List ℕ) (at : ℕ) → end_of at (times k (row_name 
 unfolding end_of
 rows_end k t at = go (times k set_up_section t) refl
   where
-    none : (y : Parsed (List (List ℕ))) (i : ℕ) → times k (row_name SetUp) t ≡ y → times k set_up_section t ≡ bad i → end_of at y ≡ place.Broken
+    none : (y : Parsed (List (List ℕ))) (i : ℕ) → times k (row_name SetUp) t ≡ y → times k set_up_section t ≡ bad i → end_of at y ≡ None
     none (bad m) i f e = refl
     none (good vs m) i f e = let (ss, q) = led-back k t vs m f in let z : ◌≡◌ {A = ℕ} 0 1 = cc in absurd (omega arith)
 
@@ -187,23 +183,19 @@ pub list-empty : (s : List ℕ) → length s ≡ 0 → true ≡ is_bad (exactly 
 unfolding exactly onward
 list-empty s h = rw (no-list s (omega arith))
 
-module _ (s : List ℕ) (n : ℕ) (x : Place) (some : length s ≡ 0 → ⊥) (count : n ≡ read_at s 0 1)
-    (e : x ≡ end_of 1 (times n (row_name SetUp) (drop 1 s))) where
-  at-end : x ≡ end_of 0 (set_up_list (drop 0 s))
-  at-end = e ∙ rw count (list-end s (one (length s) some))
-    where
-      one : (k : ℕ) → (k ≡ 0 → ⊥) → 1 ≤ k
-      one zero h = absurd (h refl)
-      one (suc k) h = omega arith
+-- a reader ends where the bytes do, and nothing is left over
+ends-is : {A : Type 0} (p : Reader A) (s : List ℕ) (x : Option ℕ) → x ≡ end_of 0 (p (drop 0 s))
+    → not (option_eq eqb x (Some (length s))) ≡ is_bad (exactly p s)
+ends-is p s None e = ends-broken p s None e refl
+ends-is p s (Some q) e = go (eqb q (length s)) refl
+  where
+    go : (b : Bool) → eqb q (length s) ≡ b → not (eqb q (length s)) ≡ is_bad (exactly p s)
+    go true h = rw h (ends-exact p s (Some q) q e refl (eqb-true q (length s) h))
+    go false h = rw h (ends-other p s (Some q) q e refl (eqb-false q (length s) h))
 
-  pub list-broken : x ≡ place.Broken → true ≡ is_bad (exactly set_up_list s)
-  list-broken h = ends-broken set_up_list s x at-end h
-
-  pub list-exact : (q : ℕ) → x ≡ place.End q → q ≡ length s → false ≡ is_bad (exactly set_up_list s)
-  list-exact q h l = ends-exact set_up_list s x q at-end h l
-
-  pub list-other : (q : ℕ) → x ≡ place.End q → (q ≡ length s → ⊥) → true ≡ is_bad (exactly set_up_list s)
-  list-other q h l = ends-other set_up_list s x q at-end h l
+pub list-is : (s : List ℕ) (n : ℕ) (x : Option ℕ) → 1 ≤ length s → n ≡ read_at s 0 1 → x ≡ end_of 1 (times n (row_name SetUp) (drop 1 s))
+    → not (option_eq eqb x (Some (length s))) ≡ is_bad (exactly set_up_list s)
+list-is s n x h c e = ends-is set_up_list s x (e ∙ rw c (list-end s h))
 
 -- ── 3 ──
 
@@ -229,48 +221,24 @@ module _ (s : List ℕ) (n : ℕ) (whole : is_bad (exactly set_up_list s) ≡ fa
   pub sections-rows : rows n (drop 1 s) ≡ sections_of s
   sections-rows = rw count (rows-times (read_at s 0 1) (drop 1 s) (sections_of s) (listed s whole).taken (listed s whole).read)
 
-  abbrev counts : Bool
-  counts = within 1 8 (length (sections_of s))
+  differ-is : distinct_names s 1 n SetUp ≡ distinct (section_names (sections_of s))
+  differ-is = rw count (distinct-set-up s 1 (read_at s 0 1) (listed s whole).taken (sections_of s) (listed s whole).read)
 
-  abbrev legal : Bool
-  legal = every legal_section_name (section_names (sections_of s))
-
-  abbrev differ : Bool
-  differ = distinct (section_names (sections_of s))
-
-  three-tests : (not counts || not legal || not differ) ≡ bad_set_up (sections_of s)
+  -- its tests, as the rows are walked
+  set-up-is : bad_set_up (sections_of s)
+      ≡ (not (within 1 8 n) || not (every legal_section_name (section_names (rows n (drop 1 s)))) || not (distinct_names s 1 n SetUp))
   unfolding bad_set_up
-  three-tests = refl
+  set-up-is = rw (sections-count, sections-rows, differ-is)
 
-  by_count : counts ≡ false → true ≡ bad_set_up (sections_of s)
-  by_count h = sym (or_left (not counts || not legal) (not differ) (or_left (not counts) (not legal) (rw h))) ∙ three-tests
+  pub set-up-count : within 1 8 n ≡ false → true ≡ bad_set_up (sections_of s)
+  set-up-count h = sym (set-up-is ∙ rw h)
 
-  pub set-up-none : n < 1 → true ≡ bad_set_up (sections_of s)
-  set-up-none h = by_count (rw (sections-count, lt-leb 1 n h))
+  module _ (h : within 1 8 n ≡ true) (q : Bool) (e : q ≡ every legal_section_name (section_names (rows n (drop 1 s)))) where
+    pub set-up-illegal : q ≡ false → true ≡ bad_set_up (sections_of s)
+    set-up-illegal k = sym (set-up-is ∙ rw (h, ← e, k))
 
-  pub set-up-many : 8 < n → true ≡ bad_set_up (sections_of s)
-  set-up-many h = by_count (rw (sections-count, le-leb 1 n (omega arith), lt-leb n 8 h))
-
-  pub set-up-illegal : (q : Bool) → q ≡ every legal_section_name (section_names (rows n (drop 1 s))) → q ≡ false → true ≡ bad_set_up (sections_of s)
-  set-up-illegal q e h =
-      let f : legal ≡ false = sym (ap (λ (l : List Section). every legal_section_name (section_names l)) sections-rows) ∙ sym e ∙ h in
-      sym (or_left (not counts || not legal) (not differ) (or_right (not counts) (not legal) (rw f))) ∙ three-tests
-
-  differ-is : (d : Bool) → d ≡ distinct_names s 1 n SetUp → d ≡ differ
-  differ-is d e = e ∙ rw count (distinct-set-up s 1 (read_at s 0 1) (listed s whole).taken (sections_of s) (listed s whole).read)
-
-  pub set-up-twice : (d : Bool) → d ≡ distinct_names s 1 n SetUp → d ≡ false → true ≡ bad_set_up (sections_of s)
-  set-up-twice d e h =
-      let f : differ ≡ false = sym (differ-is d e) ∙ h in
-      sym (or_right (not counts || not legal) (not differ) (rw f)) ∙ three-tests
-
-  pub set-up-legal : (q d : Bool) → 1 ≤ n → n ≤ 8 → q ≡ every legal_section_name (section_names (rows n (drop 1 s))) → q ≡ true
-      → d ≡ distinct_names s 1 n SetUp → d ≡ true → false ≡ bad_set_up (sections_of s)
-  set-up-legal q d l k e h g i =
-      let f : legal ≡ true = sym (ap (λ (l : List Section). every legal_section_name (section_names l)) sections-rows) ∙ sym e ∙ h in
-      let u : differ ≡ true = sym (differ-is d g) ∙ i in
-      let w : counts ≡ true = rw (sections-count, le-leb 1 n l, le-leb n 8 k) in
-      sym (rw (w, f, u)) ∙ three-tests
+    pub set-up-differ : (d : Bool) → d ≡ distinct_names s 1 n SetUp → q ≡ true → not d ≡ bad_set_up (sections_of s)
+    set-up-differ d f k = sym (set-up-is ∙ rw (h, ← e, k, ← f))
 
 -- a list that is legal is complete, and has one to eight sections
 pub record Legal (s : List ℕ) : Type 0 where
@@ -282,9 +250,9 @@ pub legal-list : (s : List ℕ) → bad_set_up (sections_of s) ≡ false → Leg
 unfolding sections_of bad_set_up value_or
 legal-list s h =
     let w = whole (exactly set_up_list s) h in
-    let t = or-false (not (counts s n w refl) || not (legal s n w refl)) (not (differ s n w refl)) (three-tests s n w refl ∙ h) in
-    let u = or-false (not (counts s n w refl)) (not (legal s n w refl)) t.0 in
-    let v = both_true (leb 1 (length (sections_of s))) (leb (length (sections_of s)) 8) (not-false (counts s n w refl) u.0) in
+    let t = or-false (not counts || not (every legal_section_name (section_names (sections_of s)))) (not (distinct (section_names (sections_of s)))) h in
+    let u = or-false (not counts) (not (every legal_section_name (section_names (sections_of s)))) t.0 in
+    let v = both_true (leb 1 (length (sections_of s))) (leb (length (sections_of s)) 8) (not-false counts u.0) in
     let e = sections-count s n w refl in
     record {
       whole = w;
@@ -295,6 +263,9 @@ legal-list s h =
     n : ℕ
     n = read_at s 0 1
 
+    counts : Bool
+    counts = within 1 8 (length (sections_of s))
+
     whole : (x : Parsed (List Section)) → bad_set_up (value_or [] x) ≡ false → is_bad x ≡ false
     whole (good ss m) e = refl
     whole (bad i) e = let z : ◌≡◌ {A = ℕ} 0 1 = cc in absurd (omega arith)
@@ -302,78 +273,48 @@ legal-list s h =
 -- ── The names, one after the other ──
 
 -- what a test of a short string says of it
-name-broken : (ok : List ℕ → Bool) (t v : List ℕ) (n : ℕ) → string t ≡ good v n → text_of (only ok string t) ≡ text.Broken → ok v ≡ false
+tested-name : (ok : List ℕ → Bool) (t v : List ℕ) (n : ℕ) → string t ≡ good v n → is_some (text_of (only ok string t)) ≡ ok v
 unfolding only onward text_of
-name-broken ok t v n e h = go (ok v) (rw e at h)
+tested-name ok t v n e = rw e (go (ok v))
   where
-    go : (b : Bool) → text_of (cond b (good v n) (bad 0)) ≡ text.Broken → b ≡ false
-    go false h = refl
-    go true h = let z : ◌≡◌ {A = ℕ} 0 1 = cc in absurd (omega arith)
+    go : (b : Bool) → is_some (text_of (cond b (good v n) (bad 0))) ≡ b
+    go false = refl
+    go true = refl
 
-name-whole : (ok : List ℕ → Bool) (t v : List ℕ) (n k : ℕ) → string t ≡ good v n → text_of (only ok string t) ≡ text.Whole k → ok v ≡ true
-unfolding only onward text_of
-name-whole ok t v n k e h = go (ok v) (rw e at h)
-  where
-    go : (b : Bool) → text_of (cond b (good v n) (bad 0)) ≡ text.Whole k → b ≡ true
-    go true h = refl
-    go false h = let z : ◌≡◌ {A = ℕ} 0 1 = cc in absurd (omega arith)
-
-module _ (s : List ℕ) (at : ℕ) where
-  pub names-done : (left : ℕ) (all : Bool) → left ≤ 0 → every legal_section_name (section_names (rows left (drop at s))) ≡ all → true ≡ all
+module _ (s : List ℕ) (at left : ℕ) (all : Bool) (e : every legal_section_name (section_names (rows left (drop at s))) ≡ all) where
+  pub names-done : left ≤ 0 → true ≡ all
   unfolding every section_names
-  names-done left all h e = rw (rows-done left (drop at s) h) at e
+  names-done h = rw (rows-done left (drop at s) h) at e
 
-  pub names-stop : (left : ℕ) (all : Bool) (r : RowPlace) → 0 < left → r ≡ row_of at (row_name SetUp (drop at s)) → r ≡ Broken
-      → every legal_section_name (section_names (rows left (drop at s))) ≡ all → true ≡ all
+  pub names-stop : (r : Option RowPlace) → r ≡ row_of at (row_name SetUp (drop at s)) → r ≡ None → true ≡ all
   unfolding every section_names
-  names-stop left all r h f g e = rw (rows-stop left (drop at s) (row-none s at r f g).1) at e
+  names-stop r f g = rw (rows-stop left (drop at s) (row-none s at r f g).1) at e
 
-  module _ (left n end : ℕ) (all : Bool) (r : RowPlace) (t : Text) (h : 0 < left) (f : r ≡ row_of at (row_name SetUp (drop at s)))
-      (g : r ≡ Whole n end) (u : t ≡ text_of (section_name (drop at s)))
-      (e : every legal_section_name (section_names (rows left (drop at s))) ≡ all) where
-    names-next : (legal_section_name (take n (drop (at + 1) s)) && every legal_section_name (section_names (rows (left - 1) (drop end s)))) ≡ all
+  module _ (later : ℕ) (p : RowPlace) (r : Option RowPlace) (f : r ≡ row_of at (row_name SetUp (drop at s))) (g : r ≡ Some p) (h : left ≡ later + 1) where
+    name-there : is_some (text_of (section_name (drop at s))) ≡ legal_section_name (take p.name (drop (at + 1) s))
+    unfolding section_name
+    name-there =
+        ap is_some (text-placed (string_fault 1 is_name_byte) (only legal_section_name string) (drop at s))
+        ∙ tested-name legal_section_name (drop at s) (take p.name (drop (at + 1) s)) (1 + p.name) (row_read s at p r f g).named
+
+    names-next : (legal_section_name (take p.name (drop (at + 1) s)) && every legal_section_name (section_names (rows later (drop p.end s)))) ≡ all
     unfolding every section_names
     names-next =
-        let o = row_read s at n end r f g in
-        let i : at + (3 + n + o.size) ≡ end = omega (arith, o.ends) in
-        let x : Section = record { name = take n (drop (at + 1) s); configuration = take o.size (drop (at + 3 + n) s) } in
-        let q : rows left (drop at s) ≡ x ∷ rows (left - 1) (drop end s) = rows_step left s at (3 + n + o.size) x h o.read ∙ rw i in
+        let o = row_read s at p r f g in
+        let i : at + (3 + p.name + o.size) ≡ p.end = omega (arith, o.ends) in
+        let x : Section = record { name = take p.name (drop (at + 1) s); configuration = take o.size (drop (at + 3 + p.name) s) } in
+        let q : rows left (drop at s) ≡ x ∷ rows later (drop p.end s) = rows_step left later s at (3 + p.name + o.size) x h o.read ∙ rw i in
         rw q at e
 
-    by-rule : text_of (section_name (drop at s)) ≡ text_of (only legal_section_name string (drop at s))
-    unfolding section_name
-    by-rule = text-placed (string_fault 1 is_name_byte) (only legal_section_name string) (drop at s)
-
-    pub names-wrong : t ≡ text.Broken → false ≡ all
-    names-wrong v =
-        let o = row_read s at n end r f g in
-        let i : legal_section_name (take n (drop (at + 1) s)) ≡ false =
-        name-broken legal_section_name (drop at s) (take n (drop (at + 1) s)) (1 + n) o.named (sym (u ∙ by-rule) ∙ v) in
+    pub names-wrong : (t : Option ℕ) (b : Bool) → t ≡ text_of (section_name (drop at s)) → is_some t ≡ not b → b ≡ true → false ≡ all
+    names-wrong t b u w v =
+        let i : legal_section_name (take p.name (drop (at + 1) s)) ≡ false = sym name-there ∙ ap is_some (sym u) ∙ w ∙ ap not v in
         rw i at names-next
 
-    pub names-step : (k : ℕ) → t ≡ text.Whole k → every legal_section_name (section_names (rows (left - 1) (drop end s))) ≡ all
-    names-step k v =
-        let o = row_read s at n end r f g in
-        let i : legal_section_name (take n (drop (at + 1) s)) ≡ true =
-        name-whole legal_section_name (drop at s) (take n (drop (at + 1) s)) (1 + n) k o.named (sym (u ∙ by-rule) ∙ v) in
+    pub names-step : (t : Option ℕ) (b : Bool) → t ≡ text_of (section_name (drop at s)) → is_some t ≡ not b → b ≡ false
+        → every legal_section_name (section_names (rows later (drop p.end s))) ≡ all
+    names-step t b u w v =
+        let i : legal_section_name (take p.name (drop (at + 1) s)) ≡ true = sym name-there ∙ ap is_some (sym u) ∙ w ∙ ap not v in
         rw i at names-next
 
-pub ruleset setups = (
-  rules,
-  not-true,
-  not-false,
-  tested,
-  list-empty,
-  list-broken,
-  list-exact,
-  list-other,
-  set-up-none,
-  set-up-many,
-  set-up-illegal,
-  set-up-twice,
-  set-up-legal,
-  names-done,
-  names-stop,
-  names-wrong,
-  names-step,
-)
+pub ruleset laws = (rules, not-true, not-false, list-empty, list-is, set-up-count, set-up-illegal, set-up-differ, names-done, names-stop, names-wrong, names-step)

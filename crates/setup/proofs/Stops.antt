@@ -1,5 +1,6 @@
 -- Where a set-up list runs out of bytes, section by section.
 -- Assumes nothing.
+use Rattle.std.specs.Prelude.{Option, Some, None, Result, Ok, Err}
 use Prim.Native.Nat.{ℕ, zero, suc, ◌+◌, ◌-◌, ◌^◌, ◌<◌, ◌≤◌}
 use native.Mathlib.Omega.{arith}
 use mathlib.Core.Path.{◌≡◌, refl, ap, sym, ◌∙◌}
@@ -17,13 +18,14 @@ use Rattle.layout.proofs.Readers.{then-takes, block-is}
 use Rattle.parts.proofs.Readers.{then-bad, then-onward, number_cut}
 use Rattle.parts.proofs.Taken.{number_read, then-give, then-next-bad, block-short, times-first-bad}
 use Rattle.strings.specs.Strings.{text_of}
-use Rattle.strings.specs.declared.Text.{Text}
-use Rattle.strings.specs.declared.Text.TheVariants as text
 use Rattle.strings.proofs.Laws.{string-past, string-parts, text_of-broken}
 use Rattle.setup.specs.SetUp.{section_at, stop_of}
-use Rattle.setup.specs.declared.SectionAt.{SectionAt}
-use Rattle.setup.specs.declared.SectionAt.TheVariants as section_as
+use Rattle.parts.specs.Parts.{broken_at}
+use Rattle.parts.specs.declared.Fault.{Fault}
 use Rattle.setup.proofs.SetUp.{no-list}
+
+abbrev fault : ℕ → Result ℕ Fault
+fault p = Err (broken_at p)
 
 -- ── A section ──
 
@@ -41,21 +43,21 @@ abbrev after : List ℕ → Reader Section
 after v = configured then λ c. give (record { name = v; configuration = c })
 
 module _ (s : List ℕ) (at : ℕ) where
-  name_out : text_of (string (drop at s)) ≡ text.Broken → section_at at (set_up_section (drop at s)) ≡ section_as.Fault (at + (length s - at))
+  name_out : text_of (string (drop at s)) ≡ None → section_at at (set_up_section (drop at s)) ≡ Err (broken_at (at + (length s - at)))
   unfolding set_up_section section_at
   name_out e =
       let (m, f) = text_of-broken (string (drop at s)) e in
       let g : m ≡ length s - at = string-out (drop at s) m f ∙ length-drop at s in
       rw (then-bad string after (drop at s) f, g)
 
-  pub section-past : length s ≤ at → section_as.Fault at ≡ section_at at (set_up_section (drop at s))
-  section-past h = ap section_as.Fault (omega arith) ∙ sym (name_out (sym (string-past s at h)))
+  pub section-past : length s ≤ at → Err (broken_at at) ≡ section_at at (set_up_section (drop at s))
+  section-past h = ap fault (omega arith) ∙ sym (name_out (sym (string-past s at h)))
 
-  pub section-cut : (r : Text) → at < length s → r ≡ text_of (string (drop at s)) → r ≡ text.Broken
-      → section_as.Fault (length s) ≡ section_at at (set_up_section (drop at s))
-  section-cut r h p q = ap section_as.Fault (omega arith) ∙ sym (name_out (sym p ∙ q))
+  pub section-cut : (r : Option ℕ) → at < length s → r ≡ text_of (string (drop at s)) → r ≡ None
+      → Err (broken_at (length s)) ≡ section_at at (set_up_section (drop at s))
+  section-cut r h p q = ap fault (omega arith) ∙ sym (name_out (sym p ∙ q))
 
-  module _ (n : ℕ) (r : Text) (p : r ≡ text_of (string (drop at s))) (q : r ≡ text.Whole n) where
+  module _ (n : ℕ) (r : Option ℕ) (p : r ≡ text_of (string (drop at s))) (q : r ≡ Some n) where
     pub named-inside : at + 1 + n ≤ length s
     named-inside = (string-parts s at n (sym p ∙ q)).0
 
@@ -75,22 +77,22 @@ module _ (s : List ℕ) (at : ℕ) where
         rw (then-onward string after (drop at s) v (1 + n) ((string-parts s at n (sym p ∙ q)).2 ∙ rw e), d, f) (go x)
       where
         go : (x : Parsed Section) → section_at at (behind (1 + n) x) ≡ section_at (at + 1 + n) x
-        go (bad m) = ap section_as.Fault (omega arith)
-        go (good y m) = ap section_as.End (omega arith)
+        go (bad m) = ap fault (omega arith)
+        go (good y m) = ap Ok (omega arith)
 
-    pub section-size : length s - (at + 1 + n) < 2 → section_as.Fault (at + 1 + n) ≡ section_at at (set_up_section (drop at s))
+    pub section-size : length s - (at + 1 + n) < 2 → Err (broken_at (at + 1 + n)) ≡ section_at at (set_up_section (drop at s))
     unfolding section_at configured
     section-size h =
         let v : List ℕ = take n (drop (at + 1) s) in
         let g : after v (drop (at + 1 + n) s) ≡ bad 0 = then-bad configured (λ c. give (record { name = v; configuration = c })) (drop (at + 1 + n) s)
         (then-bad (number 2) block (drop (at + 1 + n) s) (number_cut 2 s (at + 1 + n) h)) in
-        ap section_as.Fault (omega arith) ∙ sym (by-rest v (bad 0) refl g)
+        ap fault (omega arith) ∙ sym (by-rest v (bad 0) refl g)
 
     module _ (size : ℕ) (h : 2 ≤ length s - (at + 1 + n)) (e : size ≡ read_at s (at + 1 + n) 2) where
       sized : number 2 (drop (at + 1 + n) s) ≡ good size 2
       sized = rw e (number_read s (at + 1 + n) 2 (omega arith) (omega arith))
 
-      pub section-short : length s - (at + 1 + n + 2) < size → section_as.Fault (at + 1 + n + 2) ≡ section_at at (set_up_section (drop at s))
+      pub section-short : length s - (at + 1 + n + 2) < size → Err (broken_at (at + 1 + n + 2)) ≡ section_at at (set_up_section (drop at s))
       unfolding section_at configured
       section-short f =
           let v : List ℕ = take n (drop (at + 1) s) in
@@ -100,7 +102,7 @@ module _ (s : List ℕ) (at : ℕ) where
           (then-next-bad (number 2) block (drop (at + 1 + n) s) size 2 sized b) in
           sym (by-rest v (bad (2 + 0)) refl g)
 
-      pub section-whole : size ≤ length s - (at + 1 + n + 2) → section_as.End (at + 1 + n + 2 + size) ≡ section_at at (set_up_section (drop at s))
+      pub section-whole : size ≤ length s - (at + 1 + n + 2) → Ok (at + 1 + n + 2 + size) ≡ section_at at (set_up_section (drop at s))
       unfolding section_at configured
       section-whole f =
           let v : List ℕ = take n (drop (at + 1) s) in
@@ -110,7 +112,7 @@ module _ (s : List ℕ) (at : ℕ) where
           then-takes (number 2) block (drop (at + 1 + n) s) size (take size t) 2 size sized (block-is size t k) in
           let g : after v (drop (at + 1 + n) s) ≡ good (record { name = v; configuration = take size t }) (2 + size) =
           then-give configured (λ c. record { name = v; configuration = c }) (drop (at + 1 + n) s) (take size t) (2 + size) c in
-          ap section_as.End (omega arith) ∙ sym (by-rest v (good (record { name = v; configuration = take size t }) (2 + size)) refl g)
+          ap Ok (omega arith) ∙ sym (by-rest v (good (record { name = v; configuration = take size t }) (2 + size)) refl g)
 
 -- ── Section by section ──
 
@@ -148,36 +150,36 @@ module _ (s : List ℕ) (at left all : ℕ) (e : at + stop_of (times left set_up
       go zero l f = omega arith
       go (suc n) l f = absurd (omega arith)
 
-  module _ (r : SectionAt) (h : 0 < left) (f : r ≡ section_at at (set_up_section (drop at s))) where
-    pub stop-fault : (p : ℕ) → r ≡ section_as.Fault p → p ≡ all
+  module _ (r : Result ℕ Fault) (f : r ≡ section_at at (set_up_section (drop at s))) where
+    pub stop-fault : (x : Fault) → 0 < left → r ≡ Err x → x.place ≡ all
     unfolding section_at stop_of
-    stop-fault p g = go (set_up_section (drop at s)) refl (sym f ∙ g)
+    stop-fault x h g = go (set_up_section (drop at s)) refl (sym f ∙ g)
       where
-        go : (x : Parsed Section) → set_up_section (drop at s) ≡ x → section_at at x ≡ section_as.Fault p → p ≡ all
+        go : (y : Parsed Section) → set_up_section (drop at s) ≡ y → section_at at y ≡ Err x → x.place ≡ all
         go (good y n) i j = let z : ◌≡◌ {A = ℕ} 0 1 = cc in absurd (omega arith)
         go (bad m) i j =
-            let a : p ≡ at + m = cc in
-            a ∙ rw (times-first-bad set_up_section left (drop at s) h i) at e
+            let a : ◌≡◌ {A = Fault} (broken_at (at + m)) x = cc in
+            sym (ap (λ (v : Fault). v.place) a) ∙ rw (times-first-bad set_up_section left (drop at s) h i) at e
 
-    pub stop-next : (end : ℕ) → r ≡ section_as.End end → end + stop_of (times (left - 1) set_up_section (drop end s)) ≡ all
+    pub stop-next : (end later : ℕ) → r ≡ Ok end → left ≡ later + 1 → end + stop_of (times later set_up_section (drop end s)) ≡ all
     unfolding section_at times onward
-    stop-next end g = go left h (set_up_section (drop at s)) refl (sym f ∙ g) e
+    stop-next end later g l = go (set_up_section (drop at s)) refl (sym f ∙ g)
       where
-        go : (k : ℕ) → 0 < k → (x : Parsed Section) → set_up_section (drop at s) ≡ x → section_at at x ≡ section_as.End end
-            → at + stop_of (times k set_up_section (drop at s)) ≡ all → end + stop_of (times (k - 1) set_up_section (drop end s)) ≡ all
-        go zero l x i j w = absurd (omega arith)
-        go (suc k) l (bad m) i j w = let z : ◌≡◌ {A = ℕ} 0 1 = cc in absurd (omega arith)
-        go (suc k) l (good y n) i j w =
+        go : (x : Parsed Section) → set_up_section (drop at s) ≡ x → section_at at x ≡ Ok end
+            → end + stop_of (times later set_up_section (drop end s)) ≡ all
+        go (bad m) i j = let z : ◌≡◌ {A = ℕ} 0 1 = cc in absurd (omega arith)
+        go (good y n) i j =
             let a : end ≡ at + n = cc in
-            let b : suc k - 1 ≡ k = omega arith in
-            let u : times (suc k) set_up_section (drop at s) ≡ behind n (onward (times k set_up_section (drop (at + n) s)) (λ xs m. good (y ∷ xs) m)) =
-            rw (i, drop-drop n at s) in
-            let v : stop_of (times (suc k) set_up_section (drop at s)) ≡ n + stop_of (times k set_up_section (drop (at + n) s)) =
-            ap stop_of u ∙ stop-behind (onward (times k set_up_section (drop (at + n) s)) (λ xs m. good (y ∷ xs) m)) n
-            ∙ ap (λ (j : ℕ). n + j) (stop-made (times k set_up_section (drop (at + n) s)) (λ xs. y ∷ xs)) in
-            rw (a, b) (omega arith)
+            let b : left ≡ suc later = omega arith in
+            let u : times (suc later) set_up_section (drop at s)
+            ≡ behind n (onward (times later set_up_section (drop (at + n) s)) (λ xs m. good (y ∷ xs) m)) = rw (i, drop-drop n at s) in
+            let v : stop_of (times (suc later) set_up_section (drop at s)) ≡ n + stop_of (times later set_up_section (drop (at + n) s)) =
+            ap stop_of u ∙ stop-behind (onward (times later set_up_section (drop (at + n) s)) (λ xs m. good (y ∷ xs) m)) n
+            ∙ ap (λ (j : ℕ). n + j) (stop-made (times later set_up_section (drop (at + n) s)) (λ xs. y ∷ xs)) in
+            let w : at + stop_of (times (suc later) set_up_section (drop at s)) ≡ all = rw b at e in
+            rw a (omega arith)
 
-pub ruleset stops = (
+pub ruleset laws = (
   rules,
   named-inside,
   named_start,

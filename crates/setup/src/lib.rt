@@ -1,5 +1,5 @@
 // Set-up lists and system tables as a recording is begun with them: what is wrong with one.
-#![tactic(auto)]
+#![tactic(auto, using(crate::proofs::SetUp::laws, crate::proofs::Stops::laws, crate::proofs::Refused::laws), unfolding(layout::specs::Opening::first_of, layout::specs::Recorder::begin_place, refusal::specs::Refusal::unless, crate::specs::SetUp::stop_of, crate::specs::SetUp::list_refusal, crate::specs::SetUp::list_refused, crate::specs::SetUp::system_refusal, crate::specs::SetUp::system_refused,))]
 
 ghost use Rattle.std.specs.Prelude.{◌≡◌, false, drop};
 ghost use Rattle.number.specs.Number.{read_at};
@@ -9,11 +9,9 @@ ghost use Rattle.layout.specs.Recorder.{set_up_section, set_up_list, sections_of
 ghost use Rattle.setup.specs.SetUp.{rows, stop_of, section_at, list_refused, system_refused};
 
 use header::Header;
-use parts::Place;
+use parts::Fault;
 use refusal::Refusal;
-use rows::{Row, RowPlace};
-use strings::Text;
-use tables::Tags;
+use rows::Row;
 
 // The number of sections that a set-up list says it has.
 pub fn count_of(setup: &[u8]) -> usize
@@ -26,67 +24,44 @@ pub fn count_of(setup: &[u8]) -> usize
 fn incomplete(setup: &[u8]) -> bool
     ensures { result ≡ is_bad (exactly set_up_list setup.now) }
 {
-    if setup.len() == 0 {
-        return true;
-    }
-    let place = rows::row_start(setup, 1, count_of(setup), Row::SetUp);
-    let Place::End(end) = place else {
-        return true;
-    };
-    if end == setup.len() {
-        return false;
-    }
-    true
+    setup.is_empty() || rows::row_start(setup, 1, count_of(setup), Row::SetUp) != Some(setup.len())
 }
 
-// A section of a set-up list at a place: where it ends, or where its bytes run out.
-#[derive(Clone, Copy)]
-enum SectionAt {
-    End(usize),
-    Fault(usize),
-}
-
-// A section, whatever its name. A name runs out where the list does; "outside a string it is the start of the field concerned".
-fn section_at(setup: &[u8], at: usize) -> SectionAt
+// Where a section ends, whatever its name; or where its bytes run out. A name runs out where the list does; "outside a string it is the start of the
+// field concerned".
+fn section_at(setup: &[u8], at: usize) -> Result<usize, Fault>
     ensures { result ≡ section_at at (set_up_section (drop at setup.now)) }
 {
     if setup.len() <= at {
-        return SectionAt::Fault(at);
+        return Err(Fault { place: at });
     }
-    let name = strings::string(setup, at);
-    let Text::Whole(n) = name else {
-        return SectionAt::Fault(setup.len());
+    let Some(n) = strings::string(setup, at) else {
+        return Err(Fault { place: setup.len() });
     };
     let place = at + 1 + n;
     if setup.len() - place < 2 {
-        return SectionAt::Fault(place);
+        return Err(Fault { place });
     }
     let size = number::read(setup, place, 2) as usize;
     let start = place + 2;
     if setup.len() - start < size {
-        return SectionAt::Fault(start);
+        return Err(Fault { place: start });
     }
-    SectionAt::End(start + size)
+    Ok(start + size)
 }
 
 // 10's place: where a list runs out of bytes, or else "for bytes left over the first of them". Asked where the list is refused: a second walk.
 fn list_stop(setup: &[u8]) -> usize
     ensures { result ≡ stop_of (set_up_list setup.now) }
 {
-    if setup.len() == 0 {
+    if setup.is_empty() {
         return 0;
     }
     let mut place = 1;
-    let mut left = count_of(setup);
-    while 0 < left {
+    for _ in 0..count_of(setup) {
         match section_at(setup, place) {
-            SectionAt::End(end) => {
-                place = end;
-                left -= 1;
-            }
-            SectionAt::Fault(fault) => {
-                return fault;
-            }
+            Ok(end) => place = end,
+            Err(fault) => return fault.place,
         }
     }
     place
@@ -97,18 +72,14 @@ fn legal_names(setup: &[u8], n: usize) -> bool
     ensures { result ≡ every legal_section_name (section_names (rows n (drop 1 setup.now))) }
 {
     let mut place = 1;
-    let mut left = n;
-    while 0 < left {
-        let row = rows::row_at(setup, place, Row::SetUp);
-        let RowPlace::Whole(_, end) = row else {
+    for _ in 0..n {
+        let Some(row) = rows::row_at(setup, place, Row::SetUp) else {
             return true;
         };
-        let name = strings::section_name(setup, place);
-        let Text::Whole(_) = name else {
+        if strings::section_name(setup, place).is_none() {
             return false;
-        };
-        place = end;
-        left -= 1;
+        }
+        place = row.end;
     }
     true
 }
@@ -119,40 +90,30 @@ fn bad_set_up(setup: &[u8]) -> bool
     ensures { result ≡ bad_set_up (sections_of setup.now) }
 {
     let count = count_of(setup);
-    if count < 1 {
-        return true;
-    }
-    if Header::MOST_SECTIONS < count {
-        return true;
-    }
-    if !legal_names(setup, count) {
-        return true;
-    }
-    if names::distinct_names(setup, 1, count, Row::SetUp) {
-        return false;
-    }
-    true
+    !(1..=Header::MOST_SECTIONS).contains(&count)
+        || !legal_names(setup, count)
+        || !names::distinct_names(setup, 1, count, Row::SetUp)
 }
 
 // 4: the system table is exactly a table: "Nothing may follow either; after the table that is 4".
-pub fn system_refusal(system: &[u8]) -> Refusal
+pub fn system_refusal(system: &[u8]) -> Result<(), Refusal>
     ensures { result ≡ system_refused system.now }
 {
-    match tables::tags_of(system) {
-        Tags::Whole(_) => Refusal::NONE,
-        Tags::Broken(place) => Refusal::SYSTEM_TABLE.at(place),
+    if let Err(fault) = tables::tags_of(system) {
+        return Err(Refusal::SystemTable(fault.place));
     }
+    Ok(())
 }
 
 // 10, 3: what a set-up list is refused with.
-pub fn list_refusal(setup: &[u8]) -> Refusal
+pub fn list_refusal(setup: &[u8]) -> Result<(), Refusal>
     ensures { result ≡ list_refused setup.now }
 {
     if incomplete(setup) {
-        return Refusal::SHEET.at(list_stop(setup));
+        return Err(Refusal::Sheet(list_stop(setup)));
     }
     if bad_set_up(setup) {
-        return Refusal::SECTIONS.at(faults::first_fault(setup, 0, Row::SetUp, 0));
+        return Err(Refusal::Sections(faults::first_fault(setup, 0, Row::SetUp, 0)));
     }
-    Refusal::NONE
+    Ok(())
 }

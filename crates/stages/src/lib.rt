@@ -1,5 +1,5 @@
 // The recorder's stages, its limits and its closing pieces, over numbers.
-#![tactic(auto)]
+#![tactic(auto, unfolding(layout::specs::Recorder::piece_number, layout::specs::Recorder::takes_close, layout::specs::Recorder::is_running, layout::specs::Recorder::is_fresh, layout::specs::Recorder::stage_after, layout::specs::Recorder::too_long, layout::specs::Recorder::broken_state, crate::specs::Stages::stage_of, crate::specs::Stages::to_stage, crate::specs::Stages::full_with, crate::specs::Stages::closing_number, crate::specs::Stages::closing_length,))]
 
 ghost use Rattle.std.specs.Prelude.{◌≡◌};
 ghost use Rattle.layout.specs.Recorder.{too_long, broken_state, piece_number, takes_close, is_running, is_fresh, stage_after};
@@ -8,7 +8,7 @@ ghost use Rattle.stages.specs.Stages.{stage_of, to_stage, state_with, full_with,
 use header::Header;
 
 // "fresh, running, closing at piece 0 to 4, closed": the piece named is the next one.
-#[derive(Clone, Copy)]
+#[derive(Clone, Copy, Debug, PartialEq, Eq)]
 pub enum Stage {
     Fresh,
     Running,
@@ -21,16 +21,7 @@ fn too_long(end: u64, frames: u64) -> bool
     ensures { result ≡ too_long end frames }
 {
     let most = Header::LARGEST_USER_OFFSET as u64;
-    if most < end {
-        return true;
-    }
-    if most < frames {
-        return true;
-    }
-    if most < end + 4 + Header::INDEX_ENTRY as u64 * frames {
-        return true;
-    }
-    false
+    most < end || most < frames || most < end + 4 + Header::INDEX_ENTRY as u64 * frames
 }
 
 // The piece that a close call hands out next: it takes running as piece 0.
@@ -38,10 +29,8 @@ pub fn piece_of(stage: Stage) -> u8
     ensures { result ≡ piece_number (stage_of stage) }
 {
     match stage {
-        Stage::Fresh => 0,
-        Stage::Running => 0,
         Stage::Closing(piece) => piece,
-        Stage::Closed => 0,
+        _ => 0,
     }
 }
 
@@ -50,33 +39,22 @@ pub fn takes_close(stage: Stage) -> bool
     ensures { result ≡ takes_close (stage_of stage) }
 {
     match stage {
-        Stage::Fresh => false,
         Stage::Running => true,
         Stage::Closing(piece) => piece <= 4,
-        Stage::Closed => false,
+        _ => false,
     }
 }
 
 pub fn is_running(stage: Stage) -> bool
     ensures { result ≡ is_running (stage_of stage) }
 {
-    match stage {
-        Stage::Fresh => false,
-        Stage::Running => true,
-        Stage::Closing(_) => false,
-        Stage::Closed => false,
-    }
+    stage == Stage::Running
 }
 
 pub fn is_fresh(stage: Stage) -> bool
     ensures { result ≡ is_fresh (stage_of stage) }
 {
-    match stage {
-        Stage::Fresh => true,
-        Stage::Running => false,
-        Stage::Closing(_) => false,
-        Stage::Closed => false,
-    }
+    stage == Stage::Fresh
 }
 
 pub fn stage_after(piece: u8) -> Stage
@@ -89,46 +67,31 @@ pub fn stage_after(piece: u8) -> Stage
 }
 
 // 12: "past fresh, the state's numbers break a limit". The times are patterns of Int64; the last is held against the first whatever the frame count.
+// The numbers come one by one: `limits` has the struct of them, with what the calls refuse, and no crate below it needs one.
 pub fn broken(stage: Stage, sections: u64, frames: u64, first: u64, last: u64, end: u64) -> bool
     ensures { result ≡ broken_state (state_with stage sections frames first last end) }
 {
-    if sections < 1 {
-        return true;
-    }
-    if (Header::MOST_SECTIONS as u64) < sections {
-        return true;
-    }
-    if (Header::MOST_FRAMES as u64) < frames {
-        return true;
-    }
-    if 4 < piece_of(stage) {
-        return true;
-    }
-    if !times::follows_last(first, first, last) {
-        return true;
-    }
-    too_long(end, frames)
+    sections < 1
+        || (Header::MOST_SECTIONS as u64) < sections
+        || (Header::MOST_FRAMES as u64) < frames
+        || 4 < piece_of(stage)
+        || !times::follows_last(first, first, last)
+        || too_long(end, frames)
 }
 
 // 15, a frame of so many bytes being added: each number is compared before it is added.
 pub fn full(end: u64, frames: u64, length: u64) -> bool
     ensures { result ≡ full_with end frames length }
 {
-    if Header::MOST_FRAMES as u64 <= frames {
-        return true;
-    }
     let most = Header::LARGEST_USER_OFFSET as u64;
-    if most < end {
-        return true;
-    }
-    if most < length {
-        return true;
-    }
-    too_long(end + length, frames + 1)
+    Header::MOST_FRAMES as u64 <= frames
+        || most < end
+        || most < length
+        || too_long(end + length, frames + 1)
 }
 
 // A closing piece that is one number.
-#[derive(Clone, Copy)]
+#[derive(Clone, Copy, Debug, PartialEq, Eq)]
 pub struct Number {
     pub place: u64,
     pub width: usize,
@@ -139,31 +102,27 @@ pub struct Number {
 pub fn closing_number(piece: u8, frames: u64, index: u64, user: u64) -> Number
     ensures { result ≡ closing_number piece frames index user }
 {
-    if piece == 1 {
-        return Number {
+    match piece {
+        1 => Number {
             place: user,
             width: 4,
             value: 0,
-        };
-    }
-    if piece == 2 {
-        return Number {
+        },
+        2 => Number {
             place: Header::COUNT_PLACE as u64,
             width: 4,
             value: frames,
-        };
-    }
-    if piece == 3 {
-        return Number {
+        },
+        3 => Number {
             place: Header::USER_PLACE as u64,
             width: 8,
             value: user,
-        };
-    }
-    Number {
-        place: Header::INDEX_PLACE as u64,
-        width: 8,
-        value: index,
+        },
+        _ => Number {
+            place: Header::INDEX_PLACE as u64,
+            width: 8,
+            value: index,
+        },
     }
 }
 
@@ -171,11 +130,9 @@ pub fn closing_number(piece: u8, frames: u64, index: u64, user: u64) -> Number
 pub fn closing_length(piece: u8, index: usize) -> usize
     ensures { result ≡ closing_length piece index }
 {
-    if piece == 0 {
-        return index;
+    match piece {
+        0 => index,
+        1 | 2 => 4,
+        _ => 8,
     }
-    if piece < 3 {
-        return 4;
-    }
-    8
 }

@@ -6,9 +6,10 @@ use mathlib.Core.Path.{◌≡◌, refl, ap, sym, ◌∙◌}
 use mathlib.Core.Bool.{Bool, true, false, ◌&&◌}
 use mathlib.Core.List.{List, [], ◌∷◌, ◌++◌}
 use lib.ListN.{length, take, drop, get_or}
-use lib.Seq.{drop-drop, take-add}
+use lib.Seq.{drop-drop, take-add, get_or-take, get_or-drop}
 use borrow.Author.Rules.{rules}
 use borrow.Author.Tests.{not-true, not-false}
+use Rattle.number.proofs.Bools.{and-false}
 use Rattle.layout.specs.Recording.{every, is_tag_byte}
 use Rattle.strings.specs.Strings.{in_class}
 use Rattle.strings.specs.declared.Class.{Class}
@@ -68,53 +69,29 @@ every_one : (ok : ℕ → Bool) (s : List ℕ) (at : ℕ) → at < length s → 
 unfolding every
 every_one ok s at h = every-cons ok s at 1 (omega arith) h ∙ and-end (ok (get_or s at 0))
 
-pub every-four : (ok : ℕ → Bool) (s : List ℕ) (at : ℕ) (a b c d : Bool) → at + 4 ≤ length s → a ≡ ok (get_or s at 0) → b ≡ ok (get_or s (at + 1) 0)
-    → c ≡ ok (get_or s (at + 2) 0) → d ≡ ok (get_or s (at + 3) 0) → (((a && b) && c) && d) ≡ every ok (take 4 (drop at s))
-every-four ok s at a b c d h e f g i =
-    rw (
-      e,
-      f,
-      g,
-      i,
-      ← every_one ok s at (omega arith),
-      ← every_one ok s (at + 1) (omega arith),
-      ← every_one ok s (at + 2) (omega arith),
-      ← every_one ok s (at + 3) (omega arith),
-      ← every-add ok s at 1 1,
-      ← every-add ok s at 2 1,
-      ← every-add ok s at 3 1,
-    )
-
-pub every-eight : (ok : ℕ → Bool) (s : List ℕ) (at : ℕ) (a b : Bool) → a ≡ every ok (take 4 (drop at s)) → b ≡ every ok (take 4 (drop (at + 4) s))
-    → (a && b) ≡ every ok (take 8 (drop at s))
-every-eight ok s at a b e f = rw (e, f) (sym (every-add ok s at 4 4))
-
-pub every-sixteen : (ok : ℕ → Bool) (s : List ℕ) (at : ℕ) (a b : Bool) → a ≡ every ok (take 8 (drop at s))
-    → b ≡ every ok (take 8 (drop (at + 8) s)) → (a && b) ≡ every ok (take 16 (drop at s))
-every-sixteen ok s at a b e f = rw (e, f) (sym (every-add ok s at 8 8))
-
-blocks-cons : (ok : ℕ → Bool) (s : List ℕ) (at left : ℕ) → 0 < left
-    → every ok (take (16 * left) (drop at s)) ≡ (every ok (take 16 (drop at s)) && every ok (take (16 * (left - 1)) (drop (at + 16) s)))
-blocks-cons ok s at left h =
-    let e : 16 * left ≡ 16 + 16 * (left - 1) = omega arith in
-    ap (λ (k : ℕ). every ok (take k (drop at s))) e ∙ every-add ok s at 16 (16 * (left - 1))
-
-pub blocks-done : (ok : ℕ → Bool) (s : List ℕ) (at left : ℕ) (all : Bool) → left ≤ 0 → every ok (take (16 * left) (drop at s)) ≡ all → true ≡ all
+pub every-none : (ok : ℕ → Bool) → true ≡ every ok []
 unfolding every
-blocks-done ok s at zero all z e = e
-blocks-done ok s at (suc left) all z e = absurd (omega arith)
+every-none ok = refl
 
-pub blocks-stop : (ok : ℕ → Bool) (s : List ℕ) (at left : ℕ) (all r : Bool) → 0 < left → r ≡ every ok (take 16 (drop at s)) → r ≡ false
-    → every ok (take (16 * left) (drop at s)) ≡ all → false ≡ all
-blocks-stop ok s at left all r h e f g =
-    let q : every ok (take 16 (drop at s)) ≡ false = sym e ∙ f in
-    sym (rw q at (blocks-cons ok s at left h)) ∙ g
+-- one byte more of those of a part
+pub one-more : (ok : ℕ → Bool) (s : List ℕ) (at n m : ℕ) (all r : Bool) → all ≡ every ok (take n (drop at s)) → n < m → at + n < length s
+    → r ≡ ok (get_or (take m (drop at s)) n 0) → (all && r) ≡ every ok (take (n + 1) (drop at s))
+one-more ok s at n m all r e l h f =
+    let b : get_or (take m (drop at s)) n 0 ≡ get_or s (at + n) 0 = get_or-take m (drop at s) n 0 l ∙ get_or-drop at s n 0 in
+    rw (e, f, b) (sym (every-add ok s at n 1 ∙ rw (every_one ok s (at + n) h)))
 
-pub blocks_step : (ok : ℕ → Bool) (s : List ℕ) (at left : ℕ) (all r : Bool) → 0 < left → r ≡ every ok (take 16 (drop at s)) → r ≡ true
-    → every ok (take (16 * left) (drop at s)) ≡ all → every ok (take (16 * (left - 1)) (drop (at + 16) s)) ≡ all
-blocks_step ok s at left all r h e f g =
-    let q : every ok (take 16 (drop at s)) ≡ true = sym e ∙ f in
-    sym (rw q at (blocks-cons ok s at left h)) ∙ g
+-- blocks ahead of a place, and one more
+pub block-more : (ok : ℕ → Bool) (s : List ℕ) (at k : ℕ) (r : Bool) → true ≡ every ok (take (16 * k) (drop at s))
+    → r ≡ every ok (take 16 (drop (at + 16 * k) s)) → r ≡ true → true ≡ every ok (take (16 * (k + 1)) (drop at s))
+block-more ok s at k r e f g =
+    let m : 16 * (k + 1) ≡ 16 * k + 16 = omega arith in
+    rw (m, every-add ok s at (16 * k) 16, ← e, ← f, g)
+
+pub block-stop : (ok : ℕ → Bool) (s : List ℕ) (at k n : ℕ) (r : Bool) → r ≡ every ok (take 16 (drop (at + 16 * k) s)) → r ≡ false → k < n
+    → false ≡ every ok (take (16 * n) (drop at s))
+block-stop ok s at k n r f g h =
+    let m : 16 * n ≡ 16 * k + (16 + (16 * (n - (k + 1)))) = omega arith in
+    rw (m, every-add ok s at (16 * k) (16 + (16 * (n - (k + 1)))), every-add ok s (at + 16 * k) 16 (16 * (n - (k + 1))), ← f, g) (sym (and-false (every ok (take (16 * k) (drop at s)))))
 
 -- ── All bytes ──
 
@@ -170,12 +147,10 @@ pub ruleset laws = (
   class-tags,
   not-true,
   not-false,
-  every-four,
-  every-eight,
-  every-sixteen,
-  blocks-done,
-  blocks-stop,
-  blocks_step,
+  every-none,
+  one-more,
+  block-more,
+  block-stop,
   few-none,
   few_bytes,
   over-four,

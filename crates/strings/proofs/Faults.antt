@@ -12,14 +12,14 @@ use borrow.Author.Rules.{rules}
 use borrow.Author.Tests.{lt-ltb, le-ltb, not-true, not-false}
 use Rattle.layout.specs.Recording.{legal_section_name, legal_tag_name, legal_tag_value}
 use Rattle.layout.specs.Reading.{Parsed, bad, good, only, fault_at, placed, string, outside, string_fault, section_name, tag_name, tag_value}
-use Rattle.strings.specs.Strings.{text_of, length_of, in_class, legal_text, text_by, short_of, read_by}
+use Rattle.strings.specs.Strings.{text_of, in_class, legal_text, text_by, short_of, read_by}
 use Rattle.strings.specs.declared.Class.{Class}
 use Rattle.strings.specs.declared.Class.TheVariants as class
-use Rattle.strings.specs.declared.Short.{Short}
-use Rattle.strings.specs.declared.Short.TheVariants as short
+use Rattle.std.specs.Prelude.{Result, Ok, Err, Some, None}
+use Rattle.parts.specs.Parts.{broken_at}
+use Rattle.parts.specs.declared.Fault.{Fault}
 use Rattle.strings.specs.declared.Rule.{Rule}
 use Rattle.strings.specs.declared.Rule.TheVariants as rule
-use Rattle.strings.proofs.Laws.{by-short}
 
 -- ── The first byte that is of no such class ──
 
@@ -90,13 +90,13 @@ module _ (least : ℕ) (c : Class) (s : List ℕ) (at : ℕ) where
 
   -- ── The string, or the place ──
 
-  pub short-whole : (n : ℕ) → n ≡ length_of (text_of (text_by least c (drop at s))) → n < 256 → short.Whole n ≡ short_of at (text_by least c (drop at s))
-  unfolding length_of text_of short_of
-  short-whole n e h = go (text_by least c (drop at s)) e
+  pub short-whole : (n : ℕ) → Some n ≡ text_of (text_by least c (drop at s)) → Ok n ≡ short_of at (text_by least c (drop at s))
+  unfolding text_of short_of
+  short-whole n e = go (text_by least c (drop at s)) e
     where
-      go : (p : Parsed (List ℕ)) → n ≡ length_of (text_of p) → short.Whole n ≡ short_of at p
-      go (bad m) f = absurd (omega arith)
-      go (good v m) f = ap short.Whole f
+      go : (p : Parsed (List ℕ)) → Some n ≡ text_of p → Ok n ≡ short_of at p
+      go (bad m) f = cc
+      go (good v m) f = cc
 
   broken-at : (m : ℕ) → text_by least c (drop at s) ≡ bad m → m ≡ string_fault least (in_class c) (drop at s)
   unfolding text_by placed fault_at
@@ -106,21 +106,18 @@ module _ (least : ℕ) (c : Class) (s : List ℕ) (at : ℕ) where
       go (bad i) g = cc
       go (good v i) g = let z : ◌≡◌ {A = ℕ} 0 1 = cc in absurd (omega arith)
 
-  pub short-broken : (n k : ℕ) → n ≡ length_of (text_of (text_by least c (drop at s))) → 256 ≤ n → k ≡ at + string_fault least (in_class c) (drop at s)
-      → short.Broken k ≡ short_of at (text_by least c (drop at s))
-  unfolding length_of text_of short_of
-  short-broken n k e h f = go (text_by least c (drop at s)) refl
+  pub short-broken : (k : ℕ) → None ≡ text_of (text_by least c (drop at s)) → k ≡ at + string_fault least (in_class c) (drop at s)
+      → Err (broken_at k) ≡ short_of at (text_by least c (drop at s))
+  unfolding text_of short_of
+  short-broken k e f = go (text_by least c (drop at s)) refl e
     where
-      go : (p : Parsed (List ℕ)) → text_by least c (drop at s) ≡ p → short.Broken k ≡ short_of at p
-      go (bad m) g = ap short.Broken (f ∙ ap (λ (i : ℕ). at + i) (sym (broken-at m g)))
-      go (good v m) g =
-          let x : length v < 256 = by-short least c (drop at s) v m g in
-          let y : n ≡ length v = e ∙ rw g in
-          absurd (omega arith)
+      go : (p : Parsed (List ℕ)) → text_by least c (drop at s) ≡ p → None ≡ text_of p → Err (broken_at k) ≡ short_of at p
+      go (bad m) g h = ap (λ (i : ℕ). Err (broken_at i)) (f ∙ ap (λ (i : ℕ). at + i) (sym (broken-at m g)))
+      go (good v m) g h = cc
 
 -- ── By its rule ──
 
-module _ (r : Short) (q : Rule) (s : List ℕ) (at : ℕ) where
+module _ (r : Result ℕ Fault) (q : Rule) (s : List ℕ) (at : ℕ) where
   pub by-section : q ≡ rule.SectionName → r ≡ short_of at (text_by 1 class.Name (drop at s)) → r ≡ short_of at (read_by q (drop at s))
   unfolding read_by text_by legal_text section_name legal_section_name in_class
   by-section e f = rw e f

@@ -1,8 +1,9 @@
 -- Classes of bytes and short strings: what the functions of this crate leave to be shown.
 -- Assumes nothing.
+use Rattle.std.specs.Prelude.{Option, Some, None}
 use Prim.Native.Nat.{ℕ, zero, suc, ◌+◌, ◌*◌, ◌-◌, ◌^◌, ◌<◌, ◌≤◌}
 use native.Mathlib.Omega.{arith}
-use mathlib.Core.Path.{◌≡◌, refl, ap, sym, ◌∙◌}
+use mathlib.Core.Path.{◌≡◌, refl, sym, ◌∙◌}
 use mathlib.Core.Bool.{Bool, true, false, ◌&&◌, cond}
 use mathlib.Core.List.{List, [], ◌∷◌}
 use lib.ListN.{length, take, drop, get_or, length-drop, drop_of_length-le}
@@ -15,15 +16,10 @@ use borrow.Author.Tests.{le-leb, lt-leb, leb-true, leb-false, lt-ltb, le-ltb, no
 use Rattle.number.specs.Number.{number_of}
 use Rattle.layout.specs.Recording.{within, every, is_name_byte, is_tag_byte, legal_section_name, legal_tag_name, legal_tag_value}
 use Rattle.layout.specs.Reading.{Parsed, bad, good, Reader, onward, behind, ◌then◌, only, fault_at, placed, number, block, string, string_fault, section_name, tag_name, tag_value}
-use Rattle.strings.specs.Strings.{text_of, length_of, text_with, in_class, legal_text, text_by}
-use Rattle.strings.specs.declared.Text.{Text}
-use Rattle.strings.specs.declared.Text.TheVariants as text
+use Rattle.strings.specs.Strings.{text_of, in_class, legal_text, text_by}
 use Rattle.strings.specs.declared.Class.{Class}
 use Rattle.strings.specs.declared.Class.TheVariants as class
 use Rattle.number.proofs.Bools.{and-false}
-use Rattle.number.proofs.Bytes.{both_true}
-use Rattle.layout.proofs.Readers.{placed-good}
-use Rattle.parts.proofs.Taken.{only_parts}
 use Rattle.parts.proofs.Readers.{only-bad, only-pass, only-fail}
 
 -- ── Tests ──
@@ -118,21 +114,21 @@ string-cut : (s : List ℕ) (at n : ℕ) → at < length s → n ≡ get_or s at
 string-cut s at n h e l =
     rw (drop-cons s at 0 h, ← e, string-cons n (drop (suc at) s), lt-leb n (length (drop (suc at) s)) (simp length-drop (omega arith)))
 
-pub string-past : (s : List ℕ) (at : ℕ) → length s ≤ at → text.Broken ≡ text_of (string (drop at s))
+pub string-past : (s : List ℕ) (at : ℕ) → length s ≤ at → None ≡ text_of (string (drop at s))
 unfolding text_of
 string-past s at h = rw (string-out s at h)
 
-pub string-broken : (s : List ℕ) (at n : ℕ) → at < length s → n ≡ get_or s at 0 → length s - at ≤ n → text.Broken ≡ text_of (string (drop at s))
+pub string-broken : (s : List ℕ) (at n : ℕ) → at < length s → n ≡ get_or s at 0 → length s - at ≤ n → None ≡ text_of (string (drop at s))
 unfolding text_of
 string-broken s at n h e l = rw (string-cut s at n h e l)
 
-pub string-whole : (s : List ℕ) (at n : ℕ) → at < length s → n ≡ get_or s at 0 → n < length s - at → text.Whole n ≡ text_of (string (drop at s))
+pub string-whole : (s : List ℕ) (at n : ℕ) → at < length s → n ≡ get_or s at 0 → n < length s - at → Some n ≡ text_of (string (drop at s))
 unfolding text_of
 string-whole s at n h e l =
     rw (string-in s at n h e l, length-take-le n (drop (at + 1) s) (simp length-drop (omega arith)))
 
 -- a short string that is there: its bytes stand behind its length byte
-pub string-parts : (s : List ℕ) (at n : ℕ) → text_of (string (drop at s)) ≡ text.Whole n
+pub string-parts : (s : List ℕ) (at n : ℕ) → text_of (string (drop at s)) ≡ Some n
     → (at + 1 + n ≤ length s) × (n ≡ get_or s at 0) × (string (drop at s) ≡ good (take n (drop (at + 1) s)) (1 + n))
 string-parts s at n e = go (leb (length s) at) (leb (length s - at) (get_or s at 0)) refl refl
   where
@@ -149,21 +145,21 @@ string-parts s at n e = go (leb (length s) at) (leb (length s - at) (get_or s at
         let o : n ≡ get_or s at 0 = cc (string-whole s at (get_or s at 0) l refl m) in
         (omega arith, o, string-in s at n l o (omega arith))
 
-pub text_of-broken : (p : Parsed (List ℕ)) → text_of p ≡ text.Broken → (m : ℕ) × (p ≡ bad m)
+pub text_of-broken : (p : Parsed (List ℕ)) → text_of p ≡ None → (m : ℕ) × (p ≡ bad m)
 unfolding text_of
 text_of-broken (bad m) e = (m, refl)
 text_of-broken (good v n) e = let z : ◌≡◌ {A = ℕ} 0 1 = cc in absurd (omega arith)
 
 -- ── Short strings by a rule ──
 
-pub text-fits : (s : List ℕ) (at n : ℕ) (r : Text) → r ≡ text_of (string (drop at s)) → r ≡ text.Whole n → at + 1 + n ≤ length s
+pub text-fits : (s : List ℕ) (at n : ℕ) (r : Option ℕ) → r ≡ text_of (string (drop at s)) → r ≡ Some n → at + 1 + n ≤ length s
 text-fits s at n r e f = (string-parts s at n (sym e ∙ f)).0
 
-pub text-place : (s : List ℕ) (at n : ℕ) (r : Text) → length s < 2 ^ 64 → r ≡ text_of (string (drop at s)) → r ≡ text.Whole n → Fits w64 (at + 1)
+pub text-place : (s : List ℕ) (at n : ℕ) (r : Option ℕ) → length s < 2 ^ 64 → r ≡ text_of (string (drop at s)) → r ≡ Some n → Fits w64 (at + 1)
 text-place s at n r h e f = let l = text-fits s at n r e f in record { fits = omega arith }
 
-pub text-broken : (ok : List ℕ → Bool) (s : List ℕ) (at : ℕ) (r : Text) → r ≡ text_of (string (drop at s)) → r ≡ text.Broken
-    → text.Broken ≡ text_of (only ok string (drop at s))
+pub text-broken : (ok : List ℕ → Bool) (s : List ℕ) (at : ℕ) (r : Option ℕ) → r ≡ text_of (string (drop at s)) → r ≡ None
+    → None ≡ text_of (only ok string (drop at s))
 unfolding text_of
 text-broken ok s at r e f = rw (only-bad ok string (drop at s) (text_of-broken (string (drop at s)) (sym e ∙ f)).1)
 
@@ -182,24 +178,24 @@ legal-right : (least : ℕ) (c : Class) (v : List ℕ) → least ≤ length v �
 unfolding legal_text
 legal-right least c v p q h = rw (inside least 255 (length v) p q, h)
 
-text-short : (least : ℕ) (c : Class) (s : List ℕ) (at n : ℕ) (r : Text) → r ≡ text_of (string (drop at s)) → r ≡ text.Whole n → n < least
-    → text.Broken ≡ text_of (only (legal_text least c) string (drop at s))
+text-short : (least : ℕ) (c : Class) (s : List ℕ) (at n : ℕ) (r : Option ℕ) → r ≡ text_of (string (drop at s)) → r ≡ Some n → n < least
+    → None ≡ text_of (only (legal_text least c) string (drop at s))
 unfolding text_of
 text-short least c s at n r e f h =
     let (l, o, p) = string-parts s at n (sym e ∙ f) in
     let k : length (take n (drop (at + 1) s)) ≡ n = part_length s at n l in
     rw (only-fail (legal_text least c) string (drop at s) _ _ p (legal-short least c _ (omega arith)))
 
-text-wrong : (least : ℕ) (c : Class) (s : List ℕ) (at n : ℕ) (r : Text) (q : Bool) → r ≡ text_of (string (drop at s)) → r ≡ text.Whole n
-    → q ≡ every (in_class c) (take n (drop (at + 1) s)) → q ≡ false → text.Broken ≡ text_of (only (legal_text least c) string (drop at s))
+text-wrong : (least : ℕ) (c : Class) (s : List ℕ) (at n : ℕ) (r : Option ℕ) (q : Bool) → r ≡ text_of (string (drop at s)) → r ≡ Some n
+    → q ≡ every (in_class c) (take n (drop (at + 1) s)) → q ≡ false → None ≡ text_of (only (legal_text least c) string (drop at s))
 unfolding text_of
 text-wrong least c s at n r q e f g h =
     let (l, o, p) = string-parts s at n (sym e ∙ f) in
     rw (only-fail (legal_text least c) string (drop at s) _ _ p (legal-wrong least c _ (sym g ∙ h)))
 
-text-right : (least : ℕ) (c : Class) (s : List ℕ) (at n : ℕ) (r : Text) (q : Bool) → ((i : ℕ) → Fits w8 (get_or s i 0))
-    → r ≡ text_of (string (drop at s)) → r ≡ text.Whole n → least ≤ n → q ≡ every (in_class c) (take n (drop (at + 1) s)) → q ≡ true
-    → text.Whole n ≡ text_of (only (legal_text least c) string (drop at s))
+text-right : (least : ℕ) (c : Class) (s : List ℕ) (at n : ℕ) (r : Option ℕ) (q : Bool) → ((i : ℕ) → Fits w8 (get_or s i 0))
+    → r ≡ text_of (string (drop at s)) → r ≡ Some n → least ≤ n → q ≡ every (in_class c) (take n (drop (at + 1) s)) → q ≡ true
+    → Some n ≡ text_of (only (legal_text least c) string (drop at s))
 unfolding text_of
 text-right least c s at n r q w e f m g h =
     let (l, o, p) = string-parts s at n (sym e ∙ f) in
@@ -220,64 +216,33 @@ text-by : (least : ℕ) (c : Class) (l : List ℕ) → text_of (text_by least c 
 unfolding text_by
 text-by least c l = text-placed (string_fault least (in_class c)) (only (legal_text least c) string) l
 
--- the same by the string's number of bytes
-module _ (least : ℕ) (c : Class) (s : List ℕ) (at : ℕ) (r : Text) (e : r ≡ text_of (string (drop at s))) where
-  pub length-broken : r ≡ text.Broken → 256 ≡ length_of (text_of (text_by least c (drop at s)))
-  unfolding length_of
-  length-broken f = ap length_of (text-broken (legal_text least c) s at r e f ∙ sym (text-by least c (drop at s)))
+module _ (least : ℕ) (c : Class) (s : List ℕ) (at : ℕ) (r : Option ℕ) (e : r ≡ text_of (string (drop at s))) where
+  pub by-broken : r ≡ None → None ≡ text_of (text_by least c (drop at s))
+  by-broken f = text-broken (legal_text least c) s at r e f ∙ sym (text-by least c (drop at s))
 
-  pub length-short : (n : ℕ) → r ≡ text.Whole n → n < least → 256 ≡ length_of (text_of (text_by least c (drop at s)))
-  unfolding length_of
-  length-short n f h = ap length_of (text-short least c s at n r e f h ∙ sym (text-by least c (drop at s)))
+  pub by-few : (n : ℕ) → r ≡ Some n → n < least → None ≡ text_of (text_by least c (drop at s))
+  by-few n f h = text-short least c s at n r e f h ∙ sym (text-by least c (drop at s))
 
-  pub length-wrong : (n : ℕ) (q : Bool) → r ≡ text.Whole n → q ≡ every (in_class c) (take n (drop (at + 1) s)) → q ≡ false
-      → 256 ≡ length_of (text_of (text_by least c (drop at s)))
-  unfolding length_of
-  length-wrong n q f g h = ap length_of (text-wrong least c s at n r q e f g h ∙ sym (text-by least c (drop at s)))
+  pub by-wrong : (n : ℕ) (q : Bool) → r ≡ Some n → q ≡ every (in_class c) (take n (drop (at + 1) s)) → q ≡ false
+      → None ≡ text_of (text_by least c (drop at s))
+  by-wrong n q f g h = text-wrong least c s at n r q e f g h ∙ sym (text-by least c (drop at s))
 
-  pub length-right : (n : ℕ) (q : Bool) → ((i : ℕ) → Fits w8 (get_or s i 0)) → r ≡ text.Whole n → least ≤ n
-      → q ≡ every (in_class c) (take n (drop (at + 1) s)) → q ≡ true → n ≡ length_of (text_of (text_by least c (drop at s)))
-  unfolding length_of
-  length-right n q w f m g h = ap length_of (text-right least c s at n r q w e f m g h ∙ sym (text-by least c (drop at s)))
+  pub by-right : (n : ℕ) (q : Bool) → ((i : ℕ) → Fits w8 (get_or s i 0)) → r ≡ Some n → least ≤ n
+      → q ≡ every (in_class c) (take n (drop (at + 1) s)) → q ≡ true → Some n ≡ text_of (text_by least c (drop at s))
+  by-right n q w f m g h = text-right least c s at n r q w e f m g h ∙ sym (text-by least c (drop at s))
 
-pub with-length : (n : ℕ) → n < 256 → text.Whole n ≡ text_with n
-unfolding text_with
-with-length n h = rw (lt-ltb n 256 h)
-
-pub with_none : (n : ℕ) → 256 ≤ n → text.Broken ≡ text_with n
-unfolding text_with
-with_none n h = rw (le-ltb n 256 h)
-
--- a string that keeps the rule has at most 255 bytes
-pub by-short : (least : ℕ) (c : Class) (l v : List ℕ) (n : ℕ) → text_by least c l ≡ good v n → length v < 256
-unfolding text_by legal_text
-by-short least c l v n e =
-    let (f, g) = only_parts (legal_text least c) string l v n (placed-good (string_fault least (in_class c)) (only (legal_text least c) string) l v n e) in
-    let (h, i) = both_true (within least 255 (length v)) (every (in_class c) v) g in
-    let (j, k) = both_true (leb least (length v)) (leb (length v) 255) h in
-    omega (arith, leb-true (length v) 255 k)
-
--- and is known by their number
-text-again : (least : ℕ) (c : Class) (l : List ℕ) → text_with (length_of (text_of (text_by least c l))) ≡ text_of (text_by least c l)
-unfolding text_of length_of text_with
-text-again least c l = go (text_by least c l) refl
-  where
-    go : (p : Parsed (List ℕ)) → text_by least c l ≡ p → text_with (length_of (text_of p)) ≡ text_of p
-    go (bad m) e = refl
-    go (good v n) e = rw (lt-ltb (length v) 256 (by-short least c l v n e))
-
-module _ (s : List ℕ) (at n : ℕ) (r : Text) (e : r ≡ text_with n) where
-  pub section-rule : n ≡ length_of (text_of (text_by 1 class.Name (drop at s))) → r ≡ text_of (section_name (drop at s))
+module _ (s : List ℕ) (at : ℕ) (r : Option ℕ) where
+  pub section-rule : r ≡ text_of (text_by 1 class.Name (drop at s)) → r ≡ text_of (section_name (drop at s))
   unfolding text_by legal_text section_name legal_section_name in_class
-  section-rule f = e ∙ ap text_with f ∙ text-again 1 class.Name (drop at s)
+  section-rule e = e
 
-  pub name-rule : n ≡ length_of (text_of (text_by 1 class.Tag (drop at s))) → r ≡ text_of (tag_name (drop at s))
+  pub name-rule : r ≡ text_of (text_by 1 class.Tag (drop at s)) → r ≡ text_of (tag_name (drop at s))
   unfolding text_by legal_text tag_name legal_tag_name in_class
-  name-rule f = e ∙ ap text_with f ∙ text-again 1 class.Tag (drop at s)
+  name-rule e = e
 
-  pub value-rule : n ≡ length_of (text_of (text_by 0 class.Tag (drop at s))) → r ≡ text_of (tag_value (drop at s))
+  pub value-rule : r ≡ text_of (text_by 0 class.Tag (drop at s)) → r ≡ text_of (tag_value (drop at s))
   unfolding text_by legal_text tag_value legal_tag_value in_class
-  value-rule f = e ∙ ap text_with f ∙ text-again 0 class.Tag (drop at s)
+  value-rule e = e
 
 -- ── All of a class ──
 
@@ -289,23 +254,6 @@ every-cons ok s at (suc n) z h =
     let p : at + 1 ≡ suc at = omega arith in
     let q : suc n - 1 ≡ n = omega arith in
     rw (drop-cons s at 0 h, p, q)
-
-pub every-done : (ok : ℕ → Bool) (s : List ℕ) (at n : ℕ) (all : Bool) → n ≤ 0 → every ok (take n (drop at s)) ≡ all → true ≡ all
-unfolding every
-every-done ok s at zero all z e = e
-every-done ok s at (suc n) all z e = absurd (omega arith)
-
-pub every-stop : (ok : ℕ → Bool) (s : List ℕ) (at n : ℕ) (all r : Bool) → 0 < n → at + n ≤ length s → r ≡ ok (get_or s at 0) → r ≡ false
-    → every ok (take n (drop at s)) ≡ all → false ≡ all
-every-stop ok s at n all r z h e f g =
-    let q : ok (get_or s at 0) ≡ false = cc in
-    sym (rw q at (every-cons ok s at n z (omega arith))) ∙ g
-
-pub every-step : (ok : ℕ → Bool) (s : List ℕ) (at n : ℕ) (all r : Bool) → 0 < n → at + n ≤ length s → r ≡ ok (get_or s at 0) → r ≡ true
-    → every ok (take n (drop at s)) ≡ all → every ok (take (n - 1) (drop (at + 1) s)) ≡ all
-every-step ok s at n all r z h e f g =
-    let q : ok (get_or s at 0) ≡ true = cc in
-    sym (rw q at (every-cons ok s at n z (omega arith))) ∙ g
 
 pub ruleset laws = (
   rules,
@@ -328,16 +276,11 @@ pub ruleset laws = (
   string-whole,
   text-fits,
   text-place,
-  length-broken,
-  length-short,
-  length-wrong,
-  length-right,
-  with-length,
-  with_none,
+  by-broken,
+  by-few,
+  by-wrong,
+  by-right,
   section-rule,
   name-rule,
   value-rule,
-  every-done,
-  every-stop,
-  every-step,
 )

@@ -1,5 +1,6 @@
 -- Names and values that were read: their bytes stand behind the length byte.
 -- Assumes nothing.
+use Rattle.std.specs.Prelude.{Option, Some}
 use Prim.Native.Nat.{ℕ, ◌+◌, ◌^◌, ◌<◌, ◌≤◌}
 use native.Mathlib.Omega.{arith}
 use mathlib.Core.Path.{◌≡◌, refl, ap, sym, ◌∙◌}
@@ -12,8 +13,6 @@ use Rattle.layout.specs.Recording.{legal_section_name, legal_tag_name, legal_tag
 use Rattle.layout.specs.Reading.{Parsed, bad, good, Reader, only, placed, string, section_name, tag_name, tag_value}
 use Rattle.layout.proofs.Readers.{placed-good}
 use Rattle.strings.specs.Strings.{text_of}
-use Rattle.strings.specs.declared.Text.{Text}
-use Rattle.strings.specs.declared.Text.TheVariants as text
 use Rattle.parts.proofs.Taken.{only_parts}
 use Rattle.strings.proofs.Laws.{string-parts}
 
@@ -42,12 +41,12 @@ unfolding tag_value
 value_keeps = keeps _ legal_tag_value
 
 -- one that is there: its bytes stand behind its length byte
-pub kept-parts : {ok : List ℕ → Bool} (p : Reader (List ℕ)) → Keeps ok p → (s : List ℕ) (at n : ℕ) → text_of (p (drop at s)) ≡ text.Whole n
+pub kept-parts : {ok : List ℕ → Bool} (p : Reader (List ℕ)) → Keeps ok p → (s : List ℕ) (at n : ℕ) → text_of (p (drop at s)) ≡ Some n
     → (at + 1 + n ≤ length s) × (p (drop at s) ≡ good (take n (drop (at + 1) s)) (1 + n))
 unfolding text_of
 kept-parts p k s at n e = go (p (drop at s)) refl e
   where
-    go : (x : Parsed (List ℕ)) → p (drop at s) ≡ x → text_of x ≡ text.Whole n
+    go : (x : Parsed (List ℕ)) → p (drop at s) ≡ x → text_of x ≡ Some n
         → (at + 1 + n ≤ length s) × (p (drop at s) ≡ good (take n (drop (at + 1) s)) (1 + n))
     go (bad m) f g = let z : ◌≡◌ {A = ℕ} 0 1 = cc in absurd (omega arith)
     go (good v m) f g =
@@ -56,19 +55,19 @@ kept-parts p k s at n e = go (p (drop at s)) refl e
         (l, f ∙ sym q ∙ r)
 
 module _ (s : List ℕ) (at n : ℕ) where
-  pub section-parts : text_of (section_name (drop at s)) ≡ text.Whole n
+  pub section-parts : text_of (section_name (drop at s)) ≡ Some n
       → (at + 1 + n ≤ length s) × (section_name (drop at s) ≡ good (take n (drop (at + 1) s)) (1 + n))
   section-parts e = kept-parts section_name section-keeps s at n e
 
-  pub name-parts : text_of (tag_name (drop at s)) ≡ text.Whole n
+  pub name-parts : text_of (tag_name (drop at s)) ≡ Some n
       → (at + 1 + n ≤ length s) × (tag_name (drop at s) ≡ good (take n (drop (at + 1) s)) (1 + n))
   name-parts e = kept-parts tag_name name-keeps s at n e
 
-  pub value-parts : text_of (tag_value (drop at s)) ≡ text.Whole n
+  pub value-parts : text_of (tag_value (drop at s)) ≡ Some n
       → (at + 1 + n ≤ length s) × (tag_value (drop at s) ≡ good (take n (drop (at + 1) s)) (1 + n))
   value-parts e = kept-parts tag_value value_keeps s at n e
 
-  module _ (r : Text) (h : length s < 2 ^ 64) (f : r ≡ text.Whole n) where
+  module _ (r : Option ℕ) (h : length s < 2 ^ 64) (f : r ≡ Some n) where
     pub section-place : r ≡ text_of (section_name (drop at s)) → Fits w64 (at + 1)
     section-place e = let l = (section-parts (sym e ∙ f)).0 in record { fits = omega arith }
 

@@ -1,20 +1,15 @@
 // Short strings over lent bytes, and the classes of bytes that names and values have.
-#![tactic(auto)]
+#![tactic(auto, using(crate::proofs::Laws::laws, crate::proofs::Blocks::laws, crate::proofs::Faults::laws))]
 
 ghost use Rattle.std.specs.Prelude.{◌≡◌, ◌+◌, ◌*◌, ◌<◌, ◌≤◌, length, take, drop};
 ghost use Rattle.layout.specs.Recording.{is_name_byte, is_tag_byte, every};
 ghost use Rattle.layout.specs.Reading.{string, outside, string_fault, section_name, tag_name, tag_value};
-ghost use Rattle.strings.specs.Strings.{in_class, text_by, text_of, length_of, text_with, short_of, read_by};
+ghost use Rattle.strings.specs.Strings.{in_class, text_by, text_of, short_of, read_by};
 
-// A short string at a place: its number of bytes, which start behind the length byte.
-#[derive(Clone, Copy)]
-pub enum Text {
-    Whole(usize),
-    Broken,
-}
+use parts::Fault;
 
 // Which bytes a short string may have.
-#[derive(Clone, Copy)]
+#[derive(Clone, Copy, Debug, PartialEq, Eq)]
 enum Class {
     Name,
     Tag,
@@ -51,25 +46,15 @@ fn in_class(b: u8, class: Class) -> bool
     }
 }
 
-// A byte as a number: so that only one place asks that it fits.
-fn wide(byte: u8) -> usize
-    ensures { (result ≡ byte) × (result < 256) }
-{
-    byte as usize
-}
-
-// "A short string is one length byte and that many bytes."
-pub fn string(s: &[u8], at: usize) -> Text
+// "A short string is one length byte and that many bytes." The bytes start behind the length byte.
+pub fn string(s: &[u8], at: usize) -> Option<usize>
     ensures { result ≡ text_of (string (drop at s.now)) }
 {
-    if s.len() <= at {
-        return Text::Broken;
-    }
-    let n = wide(s[at]);
+    let n = *s.get(at)? as usize;
     if s.len() - at <= n {
-        return Text::Broken;
+        return None;
     }
-    Text::Whole(n)
+    Some(n)
 }
 
 // Whether n bytes, which are there, are all of a class: one after another.
@@ -77,38 +62,19 @@ fn bytes_in_class(s: &[u8], at: usize, n: usize, class: Class) -> bool
     requires { at + n ≤ length s.now }
     ensures { result ≡ every (in_class class) (take n (drop at s.now)) }
 {
-    let mut i = at;
-    let mut left = n;
-    while 0 < left {
-        if !in_class(s[i], class) {
-            return false;
-        }
-        i += 1;
-        left -= 1;
-    }
-    true
+    s[at..at + n].iter().all(|b| in_class(*b, class))
 }
 
 // Blocks of bytes that a tag may have are tested with no early exit: so a machine tests the bytes of one at once.
-fn four_tag_bytes(s: &[u8], at: usize) -> bool
-    requires { at + 4 ≤ length s.now }
-    ensures { result ≡ every is_tag_byte (take 4 (drop at s.now)) }
+fn tag_block<const N: usize>(s: &[u8], at: usize) -> bool
+    requires { at + N ≤ length s.now }
+    ensures { result ≡ every is_tag_byte (take N (drop at s.now)) }
 {
-    is_tag_byte(s[at]) & is_tag_byte(s[at + 1]) & is_tag_byte(s[at + 2]) & is_tag_byte(s[at + 3])
-}
-
-fn eight_tag_bytes(s: &[u8], at: usize) -> bool
-    requires { at + 8 ≤ length s.now }
-    ensures { result ≡ every is_tag_byte (take 8 (drop at s.now)) }
-{
-    four_tag_bytes(s, at) & four_tag_bytes(s, at + 4)
-}
-
-fn sixteen_tag_bytes(s: &[u8], at: usize) -> bool
-    requires { at + 16 ≤ length s.now }
-    ensures { result ≡ every is_tag_byte (take 16 (drop at s.now)) }
-{
-    eight_tag_bytes(s, at) & eight_tag_bytes(s, at + 8)
+    let mut all = true;
+    for b in &s[at..at + N] {
+        all &= is_tag_byte(*b);
+    }
+    all
 }
 
 // Up to three bytes, which are there: the first, the middle one and the last are all.
@@ -127,14 +93,10 @@ fn blocks_of_tag_bytes(s: &[u8], at: usize, blocks: usize) -> bool
     requires { at + 16 * blocks ≤ length s.now }
     ensures { result ≡ every is_tag_byte (take (16 * blocks) (drop at s.now)) }
 {
-    let mut i = at;
-    let mut left = blocks;
-    while 0 < left {
-        if !sixteen_tag_bytes(s, i) {
+    for block in 0..blocks {
+        if !tag_block::<16>(s, at + 16 * block) {
             return false;
         }
-        i += 16;
-        left -= 1;
     }
     true
 }
@@ -149,12 +111,12 @@ fn tag_bytes(s: &[u8], at: usize, n: usize) -> bool
         return few_tag_bytes(s, at, n);
     }
     if n < 8 {
-        return four_tag_bytes(s, at) & four_tag_bytes(s, at + (n - 4));
+        return tag_block::<4>(s, at) & tag_block::<4>(s, at + (n - 4));
     }
     if n < 16 {
-        return eight_tag_bytes(s, at) & eight_tag_bytes(s, at + (n - 8));
+        return tag_block::<8>(s, at) & tag_block::<8>(s, at + (n - 8));
     }
-    blocks_of_tag_bytes(s, at, n / 16) & sixteen_tag_bytes(s, at + (n - 16))
+    blocks_of_tag_bytes(s, at, n / 16) & tag_block::<16>(s, at + (n - 16))
 }
 
 // Whether n bytes, which are there, are all of a class. Section names are at most eight, and tested byte by byte.
@@ -168,55 +130,37 @@ fn all_in_class(s: &[u8], at: usize, n: usize, class: Class) -> bool
     }
 }
 
-// What no length byte says.
-const NO_LENGTH: usize = 256;
-
-// How many bytes the short string of a class at a place has; no length where there is none with at least so many bytes, or one of them is of no such class.
-// A number, and no enum: it comes back in a register, and the walk over a table goes by it.
-fn text_length(s: &[u8], at: usize, least: usize, class: Class) -> usize
-    ensures { result ≡ length_of (text_of (text_by least class (drop at s.now))) }
+// How many bytes the short string of a class at a place has, where there is one with at least so many bytes, all of that class.
+fn text_length(s: &[u8], at: usize, least: usize, class: Class) -> Option<usize>
+    ensures { result ≡ text_of (text_by least class (drop at s.now)) }
 {
-    let text = string(s, at);
-    let Text::Whole(n) = text else {
-        return NO_LENGTH;
-    };
+    let n = string(s, at)?;
     if n < least {
-        return NO_LENGTH;
+        return None;
     }
     if all_in_class(s, at + 1, n, class) {
-        n
+        Some(n)
     } else {
-        NO_LENGTH
+        None
     }
 }
 
-// A short string of that length.
-fn text_of(length: usize) -> Text
-    ensures { result ≡ text_with length }
-{
-    if length < NO_LENGTH {
-        Text::Whole(length)
-    } else {
-        Text::Broken
-    }
-}
-
-pub fn section_name(s: &[u8], at: usize) -> Text
+pub fn section_name(s: &[u8], at: usize) -> Option<usize>
     ensures { result ≡ text_of (section_name (drop at s.now)) }
 {
-    text_of(text_length(s, at, 1, Class::Name))
+    text_length(s, at, 1, Class::Name)
 }
 
-pub fn tag_name(s: &[u8], at: usize) -> Text
+pub fn tag_name(s: &[u8], at: usize) -> Option<usize>
     ensures { result ≡ text_of (tag_name (drop at s.now)) }
 {
-    text_of(text_length(s, at, 1, Class::Tag))
+    text_length(s, at, 1, Class::Tag)
 }
 
-pub fn tag_value(s: &[u8], at: usize) -> Text
+pub fn tag_value(s: &[u8], at: usize) -> Option<usize>
     ensures { result ≡ text_of (tag_value (drop at s.now)) }
 {
-    text_of(text_length(s, at, 0, Class::Tag))
+    text_length(s, at, 0, Class::Tag)
 }
 
 // ── Where a short string broke ──
@@ -226,26 +170,18 @@ fn first_outside(s: &[u8], at: usize, n: usize, class: Class) -> usize
     requires { at + n ≤ length s.now }
     ensures { result ≡ at + outside (in_class class) (take n (drop at s.now)) }
 {
-    let mut i = at;
-    let mut left = n;
-    while 0 < left {
-        if !in_class(s[i], class) {
-            return i;
-        }
-        i += 1;
-        left -= 1;
-    }
-    i
+    let first = s[at..at + n].iter().position(|b| !in_class(*b, class));
+    at + first.unwrap_or(n)
 }
 
 // "the position in the lent bytes [..] of the first byte that breaks its rule, or their length if bytes ran out". Asked of a string that is refused.
 fn text_fault(s: &[u8], at: usize, least: usize, class: Class) -> usize
     ensures { result ≡ at + string_fault least (in_class class) (drop at s.now) }
 {
-    if s.len() <= at {
+    let Some(first) = s.get(at) else {
         return at;
-    }
-    let n = wide(s[at]);
+    };
+    let n = *first as usize;
     if n < least {
         return at;
     }
@@ -256,33 +192,24 @@ fn text_fault(s: &[u8], at: usize, least: usize, class: Class) -> usize
     first_outside(s, at + 1, n, class)
 }
 
-// A short string at a place: its number of bytes; or the place where it broke.
-#[derive(Clone, Copy)]
-pub enum Short {
-    Whole(usize),
-    Broken(usize),
-}
-
-fn text_or_fault(s: &[u8], at: usize, least: usize, class: Class) -> Short
+fn text_or_fault(s: &[u8], at: usize, least: usize, class: Class) -> Result<usize, Fault>
     ensures { result ≡ short_of at (text_by least class (drop at s.now)) }
 {
-    let length = text_length(s, at, least, class);
-    if length < NO_LENGTH {
-        return Short::Whole(length);
-    }
-    Short::Broken(text_fault(s, at, least, class))
+    text_length(s, at, least, class).ok_or_else(|| Fault {
+        place: text_fault(s, at, least, class),
+    })
 }
 
 // Which short string is read.
-#[derive(Clone, Copy)]
+#[derive(Clone, Copy, Debug, PartialEq, Eq)]
 pub enum Rule {
     SectionName,
     TagName,
     TagValue,
 }
 
-// A short string by its rule, with the place where it broke.
-pub fn read(s: &[u8], at: usize, rule: Rule) -> Short
+// A short string by its rule: its number of bytes; or the place where it broke.
+pub fn read(s: &[u8], at: usize, rule: Rule) -> Result<usize, Fault>
     ensures { result ≡ short_of at (read_by rule (drop at s.now)) }
 {
     match rule {

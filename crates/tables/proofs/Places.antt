@@ -15,9 +15,9 @@ use Rattle.layout.specs.Reading.{bad, good, ◌then◌, only, times, give, numbe
 use Rattle.layout.specs.Items.{no_tag, name_start, value_start}
 use Rattle.parts.specs.Parts.{end_of}
 use Rattle.rows.specs.Rows.{row_name}
-use Rattle.tables.specs.Tables.{parts_of, tag_from, tag_found}
+use Rattle.std.specs.Prelude.{None}
+use Rattle.tables.specs.Tables.{tag_at, parts_of, tag_from, tag_found}
 use Rattle.rows.specs.declared.Row.TheVariants as row
-use Rattle.tables.specs.declared.TagFound.TheVariants.{At, Nothing}
 use Rattle.layout.proofs.Readers.{placed-good}
 use Rattle.strings.proofs.Laws.{no-string, string-cons}
 use Rattle.strings.proofs.Named.{name-keeps, value_keeps}
@@ -79,7 +79,7 @@ table-read s at n ts e w =
     w k l (sym r ∙ sym o) (rw (o, ← q, ← drop-drop a at s) g) (rw (← q) h))
 
 pub tag-found-at : (s : List ℕ) (at n i : ℕ) (ts : List Tag) → table (drop at s) ≡ good ts n → i < length ts
-    → tag_found s at i ≡ At (name_start at ts i) (length (get_or ts i no_tag).name) (value_start at ts i) (length (get_or ts i no_tag).value)
+    → tag_found s at i ≡ tag_at (name_start at ts i) (length (get_or ts i no_tag).name) (value_start at ts i) (length (get_or ts i no_tag).value)
 unfolding tag_found tag_from parts_of name_start value_start end_of
 tag-found-at s at n i ts e h =
     table-read s at n ts e (λ k l r g o.
@@ -88,6 +88,6 @@ tag-found-at s at n i ts e h =
     let t : tag (drop (at + 4 + j) s) ≡ good (get_or ts i no_tag) b = rw (← drop-drop j (at + 4) s) q in
     rw (r, lt-ltb i (length ts) h, times-led tag (row_name row.Tag) (λ t. t.name) tag-row i (drop (at + 4) s) (take i ts) j p, t, ← a)))
 
-pub tag-found-past : (s : List ℕ) (at n i : ℕ) (ts : List Tag) → table (drop at s) ≡ good ts n → length ts ≤ i → tag_found s at i ≡ Nothing
+pub tag-found-past : (s : List ℕ) (at n i : ℕ) (ts : List Tag) → table (drop at s) ≡ good ts n → length ts ≤ i → tag_found s at i ≡ None
 unfolding tag_found
 tag-found-past s at n i ts e h = table-read s at n ts e (λ k l r g o. rw (r, le-ltb i (length ts) h))

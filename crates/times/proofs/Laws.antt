@@ -3,7 +3,7 @@
 use Prim.Native.Nat.{ℕ, ◌-◌, ◌^◌, ◌<◌, ◌≤◌}
 use native.Mathlib.Omega.{arith}
 use mathlib.Core.Path.{◌≡◌, sym, ◌∙◌}
-use mathlib.Core.Bool.{Bool, true, false}
+use mathlib.Core.Bool.{Bool, true}
 use lib.Dec.{leb}
 use borrow.Author.Rules.{rules}
 use borrow.Author.Tests.{le-leb, lt-leb, leb-true}
@@ -14,29 +14,18 @@ use Rattle.times.specs.Times.{since_first}
 
 -- ── Times ──
 
-pub since-before : (first time a b : ℕ) → a ≡ rank first → b ≡ rank time → b < a → 0 ≡ since_first first time
+pub since-rank : (first time a b : ℕ) → a ≡ rank first → b ≡ rank time → b - a ≡ since_first first time
 unfolding since_first
-since-before first time a b p q h = omega arith
+since-rank first time a b p q = rw (p, q)
 
-pub since-after : (first time a b : ℕ) → a ≡ rank first → b ≡ rank time → a ≤ b → b - a ≡ since_first first time
-unfolding since_first
-since-after first time a b p q h = omega arith
-
-pub follows-early : (first last time a b : ℕ) → a ≡ rank time → b ≡ rank last → a < b → false ≡ follows first last time
+pub follows-early : (first last time a b : ℕ) → a ≡ rank last → b ≡ rank time → b < a → leb a b ≡ follows first last time
 unfolding follows
-follows-early first last time a b p q h = rw (lt-leb (rank last) (rank time) (omega arith))
+follows-early first last time a b p q h = rw (lt-leb (rank last) (rank time) (omega arith), p, q, lt-leb (rank last) (rank time) (omega arith))
 
-pub follows-late : (first last time a b d : ℕ) → a ≡ rank time → b ≡ rank last → b ≤ a → d ≡ since_first first time → 4294967295 < d
-    → false ≡ follows first last time
+pub follows-later : (first last time a b d : ℕ) → a ≡ rank last → b ≡ rank time → a ≤ b → d ≡ since_first first time
+    → leb d 4294967295 ≡ follows first last time
 unfolding follows since_first
-follows-late first last time a b d p q h e l =
-    rw (le-leb (rank last) (rank time) (omega arith), lt-leb (rank time - rank first) longest_span (omega arith))
-
-pub follows-right : (first last time a b d : ℕ) → a ≡ rank time → b ≡ rank last → b ≤ a → d ≡ since_first first time → d ≤ 4294967295
-    → true ≡ follows first last time
-unfolding follows since_first
-follows-right first last time a b d p q h e l =
-    rw (le-leb (rank last) (rank time) (omega arith), le-leb (rank time - rank first) longest_span (omega arith))
+follows-later first last time a b d p q h e = rw (e, le-leb (rank last) (rank time) (omega arith))
 
 -- ── The frames that are left ──
 
@@ -55,6 +44,4 @@ pub follows_itself : (t : ℕ) → follows t t t ≡ true
 unfolding follows
 follows_itself t = rw (le-leb (rank t) (rank t) (omega arith), le-leb (rank t - rank t) longest_span (omega arith))
 
-pub ruleset entry-laws = (rules, since-before, since-after, follows-early, follows-late, follows-right)
-
-pub ruleset frames-laws = (rules, since-fits)
+pub ruleset laws = (rules, since-rank, follows-early, follows-later)

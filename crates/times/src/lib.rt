@@ -1,5 +1,5 @@
 // The rule of frames' times. Times are patterns of Int64.
-#![tactic(auto)]
+#![tactic(auto, using(crate::proofs::Laws::laws))]
 
 ghost use Rattle.std.specs.Prelude.{◌≡◌};
 ghost use Rattle.layout.specs.Recording.{follows};
@@ -13,21 +13,12 @@ pub fn since(first: u64, time: u64) -> u64
 {
     let start = number::rank_of(first);
     let here = number::rank_of(time);
-    if here < start {
-        return 0;
-    }
-    here - start
+    here.saturating_sub(start)
 }
 
 // "A frame's time is never before the frame ahead of it, and at most 4,294,967,295 ms after the first."
 pub fn follows_last(first: u64, last: u64, time: u64) -> bool
     ensures { result ≡ follows first last time }
 {
-    if number::rank_of(time) < number::rank_of(last) {
-        return false;
-    }
-    if Header::LONGEST_SPAN < since(first, time) {
-        return false;
-    }
-    true
+    number::rank_of(last) <= number::rank_of(time) && since(first, time) <= Header::LONGEST_SPAN
 }

@@ -1,7 +1,6 @@
 -- The check, byte by byte, and a sweep's tally.
 -- Assumes nothing.
 use Rattle.std.proofs.Common.{◌≡◌, ℕ, suc, ◌+◌, ◌-◌, ◌*◌, ◌/◌, ◌%◌, ◌^◌, ◌<◌, ◌≤◌, true, ◌||◌, eqb, ltb, leb, ◌⊎◌, List, length, get_or, take, drop, set, replicate, sym, refl, ap, ◌∙◌, inl, inr, add-one, arith, length-set, drop_of_length-le, drop-cons, rules, le-ltb, lt-ltb, eq-eqb, ne_eqb, le-leb}
-use native.Mathlib.Nat.{add-mul-mod_self_left}
 use lib.ListN.{length-replicate}
 use lib.Seq.{length-sets}
 use borrow.Author.Tests.{lt-leb}
@@ -10,28 +9,7 @@ use Rattle.layout.proofs.Lists.{le-or-lt}
 use Rattle.parts.specs.Parts.{copied}
 use Rattle.parts.proofs.Laws.{copied-there, copied-no-room}
 use Rattle.vector.specs.Check.{with_answer, with_byte, with_bytes}
-use Rattle.vector.specs.Sweep.{counted, tallied, turns_of, turn_length, swept, turn_bytes}
-use Rattle.vector.specs.declared.sweep.Tally.{Tally}
-
--- a product by 2^40 + 435 is, but for whole times 2^64, the sum of three products that cannot wrap
-thrice : ℕ → ℕ
-thrice h = h % 4294967296 * 435 + h / 4294967296 * 435 % 4294967296 * 4294967296 + h % 16777216 * 1099511627776
-
-over : ℕ → ℕ
-over h = h / 4294967296 * 435 / 4294967296 + h / 16777216
-
-whole-times : (h : ℕ) → thrice h + 18446744073709551616 * over h ≡ h * 1099511628211
-unfolding thrice over
-whole-times h = omega arith
-
-pub prime-times : (h q r : ℕ) →
-    q ≡ (h % 4294967296 * 435 + h / 4294967296 * 435 % 4294967296 * 4294967296) % 18446744073709551616 →
-    r ≡ (q + h % 16777216 * 1099511627776) % 18446744073709551616 →
-    r ≡ h * 1099511628211 % 18446744073709551616
-unfolding thrice
-prime-times h q r d e =
-    let f : r ≡ thrice h % 18446744073709551616 = omega arith in
-    f ∙ sym (add-mul-mod_self_left (thrice h) 18446744073709551616 (over h)) ∙ ap (λ (n : ℕ). n % 18446744073709551616) (whole-times h)
+use Rattle.vector.specs.Sweep.{turns_of, turn_length, swept, turn_bytes}
 
 -- one byte more
 pub bytes-more : (s : List ℕ) (h i r : ℕ) (all : ℕ) → i < length s → r ≡ with_byte h (get_or s i 0) → with_bytes h (drop i s) ≡ all
@@ -54,17 +32,6 @@ eight n = refl
 pub answered : (h number place sum r : ℕ) (s : List ℕ) → sum ≡ with_byte h number → s ≡ write_at (replicate 8 0) 0 8 place
     → r ≡ with_bytes sum s → r ≡ with_answer h number place
 answered h number place sum r s d e f = rw (d, e, eight place) at f
-
--- a refusal is counted, an accepted input is not
-pub counted-not : (n number : ℕ) → number ≡ 0 → n ≡ counted n number
-counted-not n number e = rw e refl
-
-pub counted-one : (n number r : ℕ) → (number ≡ 0 → ⊥) → r ≡ (n + 1) % 2 ^ 64 → r ≡ counted n number
-counted-one n number r h e = rw (ne_eqb number 0 h) e
-
-pub tallied-all : (t : Tally) (number place i f s : ℕ) → i ≡ (t.inputs + 1) % 2 ^ 64 → f ≡ counted t.refused number
-    → s ≡ with_answer t.sum number place → ◌≡◌ {A = Tally} (record { inputs = i; refused = f; sum = s }) (tallied t number place)
-tallied-all t number place i f s d e g = rw (d, e, g) refl
 
 -- ── The turns of a sweep ──
 
@@ -140,4 +107,4 @@ module _ (base values s : List ℕ) (turn : ℕ) (e : s ≡ copied base 0 (repli
     swept-long base ∙ ap length (sym is-swept) ∙ sym (length-set s (turn / 32) (get_or values (turn % 32 - 1) 0)),
   )
 
-pub ruleset laws = (rules, prime-times, bytes-more, bytes-done, answered, counted-not, counted-one, tallied-all, turns-none, turns-all)
+pub ruleset laws = (rules, bytes-more, bytes-done, answered, turns-none, turns-all)

@@ -1,6 +1,6 @@
 // What the programs that run vectors share: the vector that an argument names, the check over bytes, the bytes lent to a call, the turns and the tally of a
 // sweep, and the words of a line.
-#![tactic(auto)]
+#![tactic(auto, using(crate::proofs::Laws::laws))]
 
 pub mod check;
 pub mod lend;
@@ -8,6 +8,7 @@ pub mod print;
 pub mod sweep;
 
 ghost use Rattle.std.specs.Prelude.{◌≡◌, ◌≤◌, IfOk, length, take};
+ghost use Rattle.vector.specs.Fields.{shown, counted_of};
 
 use print::say;
 use std::env::FillError;
@@ -53,6 +54,14 @@ fn no_file(rt: &impl Print) -> io::Result<usize>
     Ok(0)
 }
 
+// The bytes behind a length of so many bytes, in two: as many as it says, and the rest.
+pub fn counted(fields: &[u8], width: usize) -> Option<(&[u8], &[u8])>
+    ensures { shown result ≡ counted_of fields.now width }
+{
+    let (_length, given) = fields.split_at_checked(width)?;
+    given.split_at_checked(number::read(fields, 0, width) as usize)
+}
+
 // Begins the line of the vector that an argument names, and reads its file: so many bytes of the space hold it.
 pub fn read<R: Env + Files + Print>(rt: &R, argument: usize, space: &mut [u8]) -> io::Result<usize>
     ensures { IfOk result (λ n. (n ≤ length space.new) × (n ≡ length (take n space.new))) }
@@ -72,4 +81,20 @@ pub fn read<R: Env + Files + Print>(rt: &R, argument: usize, space: &mut [u8]) -
         return no_file(rt);
     };
     Ok(read_full(&mut file, space))
+}
+
+// Answers each vector that the arguments name: a line for each.
+pub fn each<R: Env + Files + Print, F: FnMut(&[u8]) -> io::Result<()>>(
+    rt: &R,
+    mut answer: F,
+) -> io::Result<()>
+    requires { F.IsAlwaysCallable answer }
+{
+    for argument in 1..arguments(rt) {
+        let mut space = lend::lent(0);
+        let n = read(rt, argument, &mut space)?;
+        answer(&space[..n])?;
+        say(rt, b"\n")?;
+    }
+    Ok(())
 }

@@ -1,7 +1,8 @@
 // A sweep: one call over the same bytes again and again, cut short or with another byte at one of their places. At each place it has 32 turns: the bytes
 // cut there, and then with each of up to 31 values there; a turn without a value leaves them as they are.
 ghost use Rattle.std.specs.Prelude.{◌≡◌, ◌≤◌, length};
-ghost use Rattle.vector.specs.Sweep.{counted, tallied, turns_of, turn_length, turn_bytes};
+ghost use Rattle.vector.specs.Check.{number_told, place_told};
+ghost use Rattle.vector.specs.Sweep.{tallied, turns_of, turn_length, turn_bytes};
 
 use crate::check;
 use crate::print::{with, with_sum};
@@ -62,7 +63,7 @@ pub fn turn_bytes(base: &[u8], values: &[u8], turn: usize) -> [u8; 1024]
 }
 
 // How many inputs were tried, how many of them were refused, and the check over what each was answered.
-#[derive(Clone, Copy)]
+#[derive(Clone, Copy, Debug, PartialEq, Eq)]
 pub struct Tally {
     pub inputs: u64,
     pub refused: u64,
@@ -77,24 +78,29 @@ impl Tally {
     };
 }
 
-// One more where there is a refusal.
-fn count(refused: u64, number: u8) -> u64
-    ensures { result ≡ counted refused number }
-{
-    if number == 0 {
-        return refused;
-    }
-    std::num::wrapping_add_u64(refused, 1)
-}
-
-// A tally with one input more, by its refusal, whose number is 0 where there is none.
-pub fn tried(before: Tally, refusal: Refusal) -> Tally
-    ensures { result ≡ tallied before refusal.number refusal.place }
+// A tally with one input more that was refused, or not.
+pub fn tried(before: Tally, refused: Option<Refusal>) -> Tally
+    ensures { result ≡ tallied before (number_told refused) (place_told refused) }
 {
     Tally {
-        inputs: std::num::wrapping_add_u64(before.inputs, 1),
-        refused: count(before.refused, refusal.number),
-        sum: check::answer(before.sum, refusal),
+        inputs: before.inputs.wrapping_add(1),
+        refused: if refused.is_some() {
+            before.refused.wrapping_add(1)
+        } else {
+            before.refused
+        },
+        sum: check::answer(before.sum, refused),
+    }
+}
+
+// A tally with one input more that was answered a number: it goes into the check where a refusal's place would.
+pub fn answered(before: Tally, number: u64) -> Tally
+    ensures { result ≡ tallied before 0 number }
+{
+    Tally {
+        inputs: before.inputs.wrapping_add(1),
+        refused: before.refused,
+        sum: check::told(before.sum, 0, number),
     }
 }
 
@@ -103,4 +109,21 @@ pub fn line(rt: &impl Print, tally: Tally) -> io::Result<()> {
     with(rt, b"sweep inputs ", tally.inputs)?;
     with(rt, b" refused ", tally.refused)?;
     with_sum(rt, b" check ", tally.sum)
+}
+
+// Each turn of a sweep, whose step is told the turn's bytes and the tally so far; and its line.
+pub fn sweep<F: FnMut(&[u8], Tally) -> Tally>(
+    rt: &impl Print,
+    base: &[u8],
+    values: &[u8],
+    mut step: F,
+) -> io::Result<()>
+    requires { F.IsAlwaysCallable step }
+{
+    let mut tally = Tally::NONE;
+    for turn in 0..turns(base.len()) {
+        let bytes = turn_bytes(base, values, turn);
+        tally = step(&bytes[..turn_length(base.len(), turn)], tally);
+    }
+    line(rt, tally)
 }

@@ -4,15 +4,13 @@
 #![tactic(auto)]
 
 use header::Header;
-use parts::Place;
-use recorder::{Piece, Recorder, Taken};
+use recorder::{Recorder, Taken};
 use refusal::Refusal;
 use repair::Repaired;
 use std::io;
-use std::rt::{Env, Files};
-use vector::check;
 use vector::lend::lent;
-use vector::print::{no_vector, say, with, with_check, with_sum};
+use vector::print::{no_vector, with, with_check, with_sum};
+use vector::{check, counted};
 
 const WHOLE: u8 = b'w';
 
@@ -22,14 +20,22 @@ const MANY: usize = 1_000_000;
 // The bytes of a frame of the vector ahead of its sections: time and exposure.
 const FRAME_HEAD: usize = 12;
 
-// How far the storing is: where the file ends, the bytes stored, the cuts so far and the check over them, and the number of the first refusal, 0 for none.
+// What is lent to the calls, and the file that their pieces are stored into.
+#[derive(Drop)]
+struct Lent {
+    notes: [u8; 65536],
+    out: [u8; 65536],
+    file: [u8; 65536],
+}
+
+// How far the storing is: where the file ends, the bytes stored, the cuts so far and the check over them, and the first refusal.
 #[derive(Clone, Copy)]
 struct Stored {
     end: usize,
     bytes: u64,
     cuts: u64,
     sum: u64,
-    refused: u8,
+    refused: Option<Refusal>,
 }
 
 // The recorder's state, and what is stored of its pieces.
@@ -39,15 +45,21 @@ struct Recording {
     stored: Stored,
 }
 
-// A part of some bytes; no bytes where it is not all there.
-fn part(bytes: &[u8], at: usize, n: usize) -> &[u8] {
-    if bytes.len() < n {
-        return &bytes[..0];
+// A frame of the vector, and what stands behind it.
+#[derive(Clone, Copy)]
+struct Frame<'a> {
+    time: i64,
+    exposure: u32,
+    sections: &'a [u8],
+    rest: &'a [u8],
+}
+
+// So many bytes from the start of some; no bytes where they are not all there.
+fn front(bytes: &[u8], n: usize) -> &[u8] {
+    match bytes.get(..n) {
+        Some(part) => part,
+        None => &bytes[..0],
     }
-    if bytes.len() - n < at {
-        return &bytes[..0];
-    }
-    &bytes[at..at + n]
 }
 
 // A check with the four bytes of a number behind it.
@@ -59,70 +71,66 @@ fn check_number(sum: u64, n: u64) -> u64 {
 
 // A check with a repaired file behind it. It has to open: where it does not, the check is spoilt.
 fn check_opened(sum: u64, file: &[u8]) -> u64 {
-    let answer = opening::open(file);
-    let refusal = opening::open_refusal(answer);
-    if refusal.number == 0 {
-        return check::bytes(sum, file);
+    match opening::open(file) {
+        Ok(_) => check::bytes(sum, file),
+        Err(_) => 0,
     }
-    0
 }
 
 // A check with repair's number behind it and, where that is 0, the repaired file: the kept bytes with the three header fields set, then the tail.
-fn check_repaired(sum: u64, file: &[u8], answer: Repaired, tail_bytes: &[u8]) -> u64 {
+fn check_repaired(
+    sum: u64,
+    file: &[u8],
+    answer: Result<Repaired, Refusal>,
+    tail_bytes: &[u8],
+) -> u64 {
+    let made = match answer {
+        Ok(made) => made,
+        Err(refusal) => return check::byte(sum, refusal.number()),
+    };
     let mut space = lent(0);
     let repaired: &mut [u8] = &mut space;
-    match answer {
-        Repaired::Kept {
-            kept,
-            count,
-            index,
-            user,
-            tail,
-        } => {
-            parts::copy(file, 0, repaired, 0, kept);
-            number::write(repaired, Header::COUNT_PLACE, 4, count as u64);
-            number::write(repaired, Header::INDEX_PLACE, 8, index as u64);
-            number::write(repaired, Header::USER_PLACE, 8, user as u64);
-            parts::copy(tail_bytes, 0, repaired, kept, tail);
-            let length = std::num::wrapping_add_u64(kept as u64, tail as u64);
-            check_opened(check::byte(sum, 0), part(repaired, 0, length as usize))
-        }
-        Repaired::Refused(refusal) => check::byte(sum, refusal.number),
-    }
+    parts::copy(file, 0, repaired, 0, made.kept);
+    number::write(repaired, Header::COUNT_PLACE, 4, made.count as u64);
+    number::write(repaired, Header::INDEX_PLACE, 8, made.index as u64);
+    number::write(repaired, Header::USER_PLACE, 8, made.user as u64);
+    parts::copy(tail_bytes, 0, repaired, made.kept, made.tail);
+    let length = made.kept.wrapping_add(made.tail);
+    check_opened(check::byte(sum, 0), front(repaired, length))
 }
 
 // A check with a cut behind it: the bytes stored, the answer of repair, and the number that opening the cut file gives.
 fn check_cut(sum: u64, file: &[u8], bytes: u64) -> u64 {
-    let mut space = lent(0x5A);
-    let out: &mut [u8] = &mut space;
-    let answer = repair::repair(file, out);
-    let repaired = check_repaired(check_number(sum, bytes), file, answer, out);
-    let opened = opening::open(file);
-    let refusal = opening::open_refusal(opened);
-    check::byte(repaired, refusal.number)
+    let mut out = lent(0x5A);
+    let answer = repair::repair(file, &mut out);
+    let repaired = check_repaired(check_number(sum, bytes), file, answer, &out);
+    match opening::open(file) {
+        Ok(_) => check::byte(repaired, 0),
+        Err(refusal) => check::byte(repaired, refusal.number()),
+    }
 }
 
 // A cut after so many more bytes, the last of them ending at a place of the file.
 fn cut(file: &[u8], last: usize, more: u64, before: Stored) -> Stored {
-    let end = if before.end < last { last } else { before.end };
-    let bytes = std::num::wrapping_add_u64(before.bytes, more);
+    let end = before.end.max(last);
+    let bytes = before.bytes.wrapping_add(more);
     Stored {
         end,
         bytes,
-        cuts: std::num::wrapping_add_u64(before.cuts, 1),
-        sum: check_cut(before.sum, part(file, 0, end), bytes),
+        cuts: before.cuts.wrapping_add(1),
+        sum: check_cut(before.sum, front(file, end), bytes),
         refused: before.refused,
     }
 }
 
 // The opening piece is stored whole: the first cut is behind it.
-fn store_opening(out: &[u8], length: usize, file: &mut [u8], before: Stored) -> Stored {
-    parts::copy(out, 0, file, 0, length);
-    cut(file, length, length as u64, before)
+fn store_opening(lent: &mut Lent, length: usize, before: Stored) -> Stored {
+    parts::copy(&lent.out, 0, &mut lent.file, 0, length);
+    cut(&lent.file, length, length as u64, before)
 }
 
 // A later piece is stored byte by byte, with a cut behind each.
-fn store(out: &[u8], place: usize, length: usize, file: &mut [u8], before: Stored) -> Stored {
+fn store(lent: &mut Lent, place: usize, length: usize, before: Stored) -> Stored {
     let mut stored = before;
     if MANY < place {
         return stored;
@@ -130,255 +138,151 @@ fn store(out: &[u8], place: usize, length: usize, file: &mut [u8], before: Store
     if MANY < length {
         return stored;
     }
-    let mut i = 0;
-    while i < length {
-        parts::copy(out, i, file, place + i, 1);
-        stored = cut(file, place + i + 1, 1, stored);
-        i += 1;
+    for i in 0..length {
+        parts::copy(&lent.out, i, &mut lent.file, place + i, 1);
+        stored = cut(&lent.file, place + i + 1, 1, stored);
     }
     stored
 }
 
-fn store_piece(out: &[u8], place: u64, length: usize, file: &mut [u8], before: Stored) -> Stored {
-    if before.cuts == 0 {
-        return store_opening(out, length, file, before);
-    }
-    store(out, place as usize, length, file, before)
-}
-
-// The first refusal stays.
-fn refuse(before: Stored, refusal: Refusal) -> Stored {
-    if before.refused == 0 {
-        return Stored {
-            refused: refusal.number,
-            ..before
-        };
-    }
-    before
-}
-
-// What a call handed out is stored.
-fn keep(taken: Taken, out: &[u8], file: &mut [u8], before: Stored) -> Recording {
+// What a call handed out is stored; the first refusal stays.
+fn keep(taken: Taken, lent: &mut Lent, before: Stored) -> Recording {
     let state = taken.state;
-    let piece = taken.piece;
-    match piece {
-        Piece::Given { place, length } => {
-            let stored = store_piece(out, place, length, file, before);
-            Recording { state, stored }
-        }
-        Piece::Refused(refusal) => {
-            let stored = refuse(before, refusal);
-            Recording { state, stored }
-        }
-    }
+    let stored = match taken.piece {
+        Ok(piece) if before.cuts == 0 => store_opening(lent, piece.length, before),
+        Ok(piece) => store(lent, piece.place as usize, piece.length, before),
+        Err(refusal) => Stored {
+            refused: before.refused.or(Some(refusal)),
+            ..before
+        },
+    };
+    Recording { state, stored }
 }
 
-// The bytes of a block: two bytes of length stand ahead of them.
-fn block(fields: &[u8], at: usize) -> &[u8] {
-    if MANY < at {
-        return &fields[..0];
-    }
-    part(fields, at + 2, number::read(fields, at, 2) as usize)
-}
-
-fn block_end(fields: &[u8], at: usize) -> Place {
-    if fields.len() < 2 {
-        return Place::Broken;
-    }
-    if fields.len() - 2 < at {
-        return Place::Broken;
-    }
-    let length = number::read(fields, at, 2) as usize;
-    if fields.len() - 2 - at < length {
-        return Place::Broken;
-    }
-    Place::End(at + 2 + length)
-}
-
-fn frame_end(fields: &[u8], at: usize) -> Place {
-    if MANY < at {
-        return Place::Broken;
-    }
-    block_end(fields, at + FRAME_HEAD)
+// The frame at the start of some bytes; two bytes of length stand ahead of its sections.
+fn front_frame(fields: &[u8]) -> Option<Frame<'_>> {
+    let (head, behind) = fields.split_at_checked(FRAME_HEAD)?;
+    let (sections, rest) = counted(behind, 2)?;
+    Some(Frame {
+        time: number::time_of(number::read(head, 0, 8)),
+        exposure: (number::read(head, 8, 4) % 0x1_0000_0000) as u32,
+        sections,
+        rest,
+    })
 }
 
 // Whether so many frames are all there.
-fn frames_there(fields: &[u8], at: usize, frames: u64) -> bool {
-    let mut place = at;
-    let mut left = frames;
-    while 0 < left {
-        let frame = frame_end(fields, place);
-        let Place::End(end) = frame else {
+fn frames_there(fields: &[u8], frames: u8) -> bool {
+    let mut rest = fields;
+    for _ in 0..frames {
+        let Some(frame) = front_frame(rest) else {
             return false;
         };
-        place = end;
-        left -= 1;
+        rest = frame.rest;
     }
     true
 }
 
-fn nothing_stored() -> Stored {
-    Stored {
+fn begin(setup: &[u8], system: &[u8], lent: &mut Lent) -> Recording {
+    let taken = Recorder::new().begin(setup, system, &mut lent.notes, &mut lent.out);
+    let nothing = Stored {
         end: 0,
         bytes: 0,
         cuts: 0,
         sum: check::START,
-        refused: 0,
-    }
+        refused: None,
+    };
+    keep(taken, lent, nothing)
 }
 
-fn begin(
-    setup: &[u8],
-    system: &[u8],
-    notes: &mut [u8],
-    out: &mut [u8],
-    file: &mut [u8],
-) -> Recording {
-    let taken = Recorder::new().begin(setup, system, notes, out);
-    keep(taken, out, file, nothing_stored())
-}
-
-fn add(
-    fields: &[u8],
-    at: usize,
-    notes: &mut [u8],
-    out: &mut [u8],
-    file: &mut [u8],
-    before: Recording,
-) -> Recording {
-    if MANY < at {
-        return before;
-    }
-    let time = number::time_of(number::read(fields, at, 8));
-    let exposure = (number::read(fields, at + 8, 4) % 0x1_0000_0000) as u32;
+fn add(frame: Frame<'_>, lent: &mut Lent, before: Recording) -> Recording {
     let state = before.state;
-    let stored = before.stored;
-    let taken = state.add(time, exposure, block(fields, at + FRAME_HEAD), notes, out);
-    keep(taken, out, file, stored)
+    let taken = state.add(
+        frame.time,
+        frame.exposure,
+        frame.sections,
+        &mut lent.notes,
+        &mut lent.out,
+    );
+    keep(taken, lent, before.stored)
 }
 
-fn add_all(
-    fields: &[u8],
-    at: usize,
-    frames: u64,
-    notes: &mut [u8],
-    out: &mut [u8],
-    file: &mut [u8],
-    begun: Recording,
-) -> Recording {
+fn add_all(fields: &[u8], frames: u8, lent: &mut Lent, begun: Recording) -> Recording {
     let mut recording = begun;
-    let mut place = at;
-    let mut left = frames;
-    while 0 < left {
-        recording = add(fields, place, notes, out, file, recording);
-        let frame = frame_end(fields, place);
-        let Place::End(end) = frame else {
+    let mut rest = fields;
+    for _ in 0..frames {
+        let Some(frame) = front_frame(rest) else {
             return recording;
         };
-        place = end;
-        left -= 1;
+        recording = add(frame, lent, recording);
+        rest = frame.rest;
     }
     recording
 }
 
-fn close(notes: &[u8], out: &mut [u8], file: &mut [u8], before: Recording) -> Recording {
-    let state = before.state;
-    let stored = before.stored;
-    let taken = state.close(notes, out);
-    keep(taken, out, file, stored)
-}
-
-fn close_all(notes: &[u8], out: &mut [u8], file: &mut [u8], added: Recording) -> Recording {
+fn close_all(lent: &mut Lent, added: Recording) -> Recording {
     let mut recording = added;
-    let mut left: u64 = 5;
-    while 0 < left {
-        recording = close(notes, out, file, recording);
-        left -= 1;
+    for _ in 0..5 {
+        let state = recording.state;
+        let taken = state.close(&lent.notes, &mut lent.out);
+        recording = keep(taken, lent, recording.stored);
     }
     recording
 }
 
 fn line(rt: &impl Print, stored: Stored, file: &[u8]) -> io::Result<()> {
-    let end = stored.end;
-    with(rt, b"whole ", end as u64)?;
-    with_check(rt, b" ", part(file, 0, end))?;
+    if let Some(refusal) = stored.refused {
+        return with(rt, b"refused ", refusal.number() as u64);
+    }
+    with(rt, b"whole ", stored.end as u64)?;
+    with_check(rt, b" ", front(file, stored.end))?;
     with(rt, b" cuts ", stored.cuts)?;
     with_sum(rt, b" ", stored.sum)
 }
 
-fn line_or_refused(rt: &impl Print, stored: Stored, file: &[u8]) -> io::Result<()> {
-    if stored.refused == 0 {
-        return line(rt, stored, file);
-    }
-    with(rt, b"refused ", stored.refused as u64)
-}
-
-// The calls on lent bytes, the system table being at a place and the frames at another.
+// The calls on lent bytes.
 fn record(
     rt: &impl Print,
-    fields: &[u8],
-    system: usize,
-    frames: usize,
-    count: u64,
+    setup: &[u8],
+    system: &[u8],
+    frames: &[u8],
+    count: u8,
 ) -> io::Result<()> {
-    let mut notes_space = lent(0);
-    let mut out_space = lent(0);
-    let mut file_space = lent(0);
-    let notes: &mut [u8] = &mut notes_space;
-    let out: &mut [u8] = &mut out_space;
-    let file: &mut [u8] = &mut file_space;
-    let begun = begin(block(fields, 0), block(fields, system), notes, out, file);
-    let added = add_all(fields, frames, count, notes, out, file, begun);
-    let closed = close_all(notes, out, file, added);
-    let stored = closed.stored;
-    line_or_refused(rt, stored, file)
+    let mut lent = Lent {
+        notes: lent(0),
+        out: lent(0),
+        file: lent(0),
+    };
+    let begun = begin(setup, system, &mut lent);
+    let added = add_all(frames, count, &mut lent, begun);
+    let closed = close_all(&mut lent, added);
+    line(rt, closed.stored, &lent.file)
 }
 
-fn counted(rt: &impl Print, fields: &[u8], system: usize, end: usize) -> io::Result<()> {
-    if fields.len() <= end {
+fn whole(rt: &impl Print, fields: &[u8]) -> io::Result<()> {
+    let Some((setup, behind)) = counted(fields, 2) else {
         return no_vector(rt);
-    }
-    let count = number::read(fields, end, 1);
-    if frames_there(fields, end + 1, count) {
-        return record(rt, fields, system, end + 1, count);
+    };
+    let Some((system, last)) = counted(behind, 2) else {
+        return no_vector(rt);
+    };
+    let Some((count, frames)) = last.split_first() else {
+        return no_vector(rt);
+    };
+    if frames_there(frames, *count) {
+        return record(rt, setup, system, frames, *count);
     }
     no_vector(rt)
 }
 
-fn whole(rt: &impl Print, fields: &[u8]) -> io::Result<()> {
-    let setup = block_end(fields, 0);
-    let Place::End(system) = setup else {
-        return no_vector(rt);
-    };
-    let table = block_end(fields, system);
-    let Place::End(end) = table else {
-        return no_vector(rt);
-    };
-    counted(rt, fields, system, end)
-}
-
 // The call that a vector holds, by its first byte.
 fn answer(rt: &impl Print, vector: &[u8]) -> io::Result<()> {
-    if vector.len() == 0 {
-        return no_vector(rt);
-    }
-    let fields = &vector[1..];
-    match vector[0] {
-        WHOLE => whole(rt, fields),
+    match vector.split_first() {
+        Some((&WHOLE, fields)) => whole(rt, fields),
         _ => no_vector(rt),
     }
 }
 
-fn one(rt: &(impl Env + Files + Print), argument: usize) -> io::Result<()> {
-    let mut space = lent(0);
-    let n = vector::read(rt, argument, &mut space)?;
-    answer(rt, &space[..n])?;
-    say(rt, b"\n")
-}
-
 fn main(rt: HostRuntime) -> io::Result<()> {
-    for argument in 1..vector::arguments(&rt) {
-        one(&rt, argument)?;
-    }
-    Ok(())
+    vector::each(&rt, |vector| answer(&rt, vector))
 }

@@ -1,21 +1,17 @@
 -- A frame and its index entry, written: what the two functions leave to be shown, and what is written where there is room.
 -- Assumes nothing.
-use Prim.Native.Nat.{ℕ, ◌+◌, ◌*◌, ◌-◌, ◌<◌, ◌≤◌}
+use Prim.Native.Nat.{ℕ, ◌+◌, ◌*◌, ◌-◌, ◌≤◌}
 use native.Mathlib.Omega.{arith}
-use mathlib.Core.Path.{◌≡◌, ap, sym, ◌∙◌}
-use mathlib.Core.Bool.{true, ◌||◌}
+use mathlib.Core.Path.{◌≡◌, ap, ◌∙◌}
 use mathlib.Core.List.{List, ◌++◌}
 use lib.ListN.{length, length-append}
 use lib.Seq.{sets, length-sets, take-length}
-use lib.Dec.{ltb}
 use borrow.Author.Rules.{rules}
-use borrow.Author.Tests.{lt-ltb, le-ltb}
+use borrow.Author.Tests.{le-ltb}
 use Rattle.number.specs.Number.{bytes_of, write_at}
 use Rattle.number.proofs.Bytes.{length-bytes_of}
-use Rattle.number.proofs.Bools.{or_left}
 use Rattle.layout.specs.Recording.{most_frames, index_length, frame_head_bytes}
 use Rattle.layout.specs.Recorder.{frame_piece}
-use Rattle.layout.proofs.Lists.{or_right}
 use Rattle.layout.proofs.Outputs.{write-is}
 use Rattle.layout.proofs.Places.{length-head}
 use Rattle.parts.specs.Parts.{copied}
@@ -27,7 +23,7 @@ pub frame-length : (t e : ℕ) (s : List ℕ) → length (frame_piece t e s) ≡
 unfolding frame_piece
 frame-length t e s = length-append (frame_head_bytes t e) s ∙ ap (λ (n : ℕ). n + length s) (length-head t e)
 
-frame-sets : (out s a b c d : List ℕ) (t e : ℕ) → 16 + length s ≤ length out → a ≡ write_at out 0 4 3993051903 → b ≡ write_at a 4 8 t
+pub frame-sets : (out s a b c d : List ℕ) (t e : ℕ) → 16 + length s ≤ length out → a ≡ write_at out 0 4 3993051903 → b ≡ write_at a 4 8 t
     → c ≡ write_at b 12 4 e → d ≡ copied s 0 c 16 (length s) → d ≡ sets out 0 (frame_piece t e s)
 unfolding frame_piece frame_head_bytes
 frame-sets out s a b c d t e h p q u v =
@@ -55,45 +51,12 @@ entry-sets notes a b c d n since place size l m h p q u v =
 
 -- ── A frame ──
 
-pub framed-short : (out s : List ℕ) (t e : ℕ) → length out < 16 → out ≡ framed out t e s
-unfolding framed
-framed-short out s t e h = rw (lt-ltb (length out) (16 + length s) (omega arith))
-
-pub framed-far : (out s : List ℕ) (t e : ℕ) → 16 ≤ length out → length out - 16 < length s → out ≡ framed out t e s
-unfolding framed
-framed-far out s t e l h = rw (lt-ltb (length out) (16 + length s) (omega arith))
-
 -- there is room for it
 pub framed_is : (out s : List ℕ) (t e : ℕ) → 16 + length s ≤ length out → framed out t e s ≡ sets out 0 (frame_piece t e s)
 unfolding framed
 framed_is out s t e h = rw (le-ltb (length out) (16 + length s) h)
 
-pub frame-written : (out s a b c d : List ℕ) (t e : ℕ) → 16 ≤ length out → length s ≤ length out - 16 → a ≡ write_at out 0 4 3993051903
-    → b ≡ write_at a 4 8 t → c ≡ write_at b 12 4 e → d ≡ copied s 0 c 16 (length s) → d ≡ framed out t e s
-frame-written out s a b c d t e l h p q u v =
-    frame-sets out s a b c d t e (omega arith) p q u v ∙ sym (framed_is out s t e (omega arith))
-
 -- ── Its entry ──
-
-noted-not : (notes : List ℕ) (n since place size : ℕ) → (ltb n 1 || ltb most_frames n || ltb (length notes) (index_length n)) ≡ true
-    → notes ≡ noted_in notes n since place size
-unfolding noted_in
-noted-not notes n since place size e = rw e
-
-pub noted-none : (notes : List ℕ) (n since place size : ℕ) → n < 1 → notes ≡ noted_in notes n since place size
-noted-none notes n since place size h =
-    noted-not notes n since place size (or_left (ltb n 1 || ltb most_frames n) (ltb (length notes) (index_length n))
-    (or_left (ltb n 1) (ltb most_frames n) (lt-ltb n 1 h)))
-
-pub noted-many : (notes : List ℕ) (n since place size : ℕ) → 1000000 < n → notes ≡ noted_in notes n since place size
-noted-many notes n since place size h =
-    noted-not notes n since place size (or_left (ltb n 1 || ltb most_frames n) (ltb (length notes) (index_length n))
-    (or_right (ltb n 1) (ltb most_frames n) (lt-ltb most_frames n h)))
-
-pub noted-short : (notes : List ℕ) (n since place size : ℕ) → length notes < 4 + 16 * n → notes ≡ noted_in notes n since place size
-noted-short notes n since place size h =
-    noted-not notes n since place size (or_right (ltb n 1 || ltb most_frames n) (ltb (length notes) (index_length n))
-    (lt-ltb (length notes) (index_length n) h))
 
 -- there is room for it
 pub noted-is : (notes : List ℕ) (n since place size : ℕ) → 1 ≤ n → n ≤ 1000000 → 4 + 16 * n ≤ length notes
@@ -101,17 +64,7 @@ pub noted-is : (notes : List ℕ) (n since place size : ℕ) → 1 ≤ n → n �
 unfolding noted_in
 noted-is notes n since place size l m h = rw (le-ltb n 1 l, le-ltb most_frames n m, le-ltb (length notes) (index_length n) h)
 
-pub note-written : (notes d : List ℕ) (n since place size : ℕ) → 1 ≤ n → n ≤ 1000000 → 4 + 16 * n ≤ length notes
-    → d ≡ noted_at notes n since place size → d ≡ noted_in notes n since place size
-note-written notes d n since place size l m h e = e ∙ sym (noted-is notes n since place size l m h)
-
 -- ── Both ──
-
-pub frame-added : (s notes out u v : List ℕ) (n first t e place d : ℕ)
-    → v ≡ framed out t e s → d ≡ since_first first t → u ≡ noted_in notes n d place (16 + length s)
-    → lent u v ≡ frame_added n first t e place s notes out
-unfolding frame_added
-frame-added s notes out u v n first t e place d p q w = rw (p, w, q)
 
 -- there is room for both
 pub added_is : (s notes out u v : List ℕ) (n first t e place : ℕ)
@@ -124,4 +77,4 @@ added_is s notes out u v n first t e place h l m k o = (
       ∙ framed_is out s t e o,
 )
 
-pub ruleset laws = (rules, frame-added, framed-short, framed-far, frame-written, noted-none, noted-many, noted-short, entry-sets, note-written)
+pub ruleset laws = (rules, frame-sets, entry-sets)

@@ -1,8 +1,8 @@
 // What a frame call writes into what is lent: the frame, and its index entry.
-#![tactic(auto)]
+#![tactic(auto, using(crate::proofs::Laws::laws), unfolding(crate::specs::Writing::framed, crate::specs::Writing::noted_in, crate::specs::Writing::frame_added))]
 
-ghost use Rattle.std.specs.Prelude.{◌≡◌, ◌+◌, ◌*◌, ◌≤◌, length};
-ghost use Rattle.writing.specs.Writing.{framed, noted_at, noted_in, lent, frame_added};
+ghost use Rattle.std.specs.Prelude.{◌≡◌};
+ghost use Rattle.writing.specs.Writing.{framed, noted_in, lent, frame_added};
 
 use header::Header;
 
@@ -22,19 +22,7 @@ fn write_frame(time: u64, exposure: u32, sections: &[u8], out: &mut [u8])
     parts::copy(sections, 0, out, Header::FRAME_HEAD, sections.len());
 }
 
-// "n into the first four bytes of lent notes and the new entry at 16·n − 12", for which there is room.
-fn write_note(notes: &mut [u8], n: u64, since: u64, place: u64, size: u64)
-    requires { (1 ≤ n) × (n ≤ 1000000) × (4 + 16 * n ≤ length notes.old) }
-    ensures { notes.new ≡ noted_at notes.old n since place size }
-{
-    let entry = Header::INDEX_ENTRY * (n as usize) - 12;
-    number::write(notes, 0, 4, n);
-    number::write(notes, entry, 4, since);
-    number::write(notes, entry + 4, 8, place);
-    number::write(notes, entry + 12, 4, size);
-}
-
-// The same; nothing where there is no frame n, or no room for its entry.
+// "n into the first four bytes of lent notes and the new entry at 16·n − 12"; nothing where there is no frame n, or no room for its entry.
 fn note_frame(notes: &mut [u8], n: u64, since: u64, place: u64, size: u64)
     ensures { notes.new ≡ noted_in notes.old n since place size }
 {
@@ -47,7 +35,11 @@ fn note_frame(notes: &mut [u8], n: u64, since: u64, place: u64, size: u64)
     if notes.len() < 4 + Header::INDEX_ENTRY * (n as usize) {
         return;
     }
-    write_note(notes, n, since, place, size);
+    let entry = Header::INDEX_ENTRY * (n as usize) - 12;
+    number::write(notes, 0, 4, n);
+    number::write(notes, entry, 4, since);
+    number::write(notes, entry + 4, 8, place);
+    number::write(notes, entry + 12, 4, size);
 }
 
 // A frame into the output and its entry into the notes, n being the count with it: what has no room stays as it is.

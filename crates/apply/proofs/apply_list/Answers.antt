@@ -1,14 +1,5 @@
-use Rattle.apply.proofs.Applies.{laws}
+use Rattle.apply.proofs.Applies.{apply-room}
 use Rattle.apply.proofs.apply_list.Goals as goal
 
-pub returns-then-tags-gt-MOST_TAGS : goal.returns-then-tags-gt-MOST_TAGS
-returns-then-tags-gt-MOST_TAGS c = search laws
-
-pub returns-then-out-bytes : goal.returns-then-out-bytes
-returns-then-out-bytes c = search laws
-
 pub write_table-requires : goal.write_table-requires
-write_table-requires c = search laws
-
-pub returns : goal.returns
-returns c = search laws
+write_table-requires c = (c.requires.1, apply-room _ _ c.args.walk _ _ _ _ _ c.kept_size-kept.ensures.0 c.new_size-new.ensures.0 c.if-out-bytes.false)

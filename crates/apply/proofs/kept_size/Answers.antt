@@ -1,19 +1,21 @@
-use borrow.Author.Rules.{rules}
-use Rattle.apply.proofs.Runs.{kept-onward}
-use Rattle.apply.proofs.Sizes.{laws, kept-fewer, kept-shorter, kept_step}
+use native.Mathlib.Omega.{arith}
+use Rattle.apply.proofs.Runs.{last-forward}
+use Rattle.apply.proofs.Sizes.{sizing_start, sizing_step, sizing_end, last-bytes-fit}
 use Rattle.apply.proofs.kept_size.Goals as goal
 
-pub loop-i-init : goal.loop-i-init
-loop-i-init c = search laws
+pub loop-k-init : goal.loop-k-init
+loop-k-init c = sizing_start _ _ _ _ _ c.requires
 
-pub loop-i-preserved : goal.loop-i-preserved
-loop-i-preserved c = (search (rules, kept-onward), search (rules, kept-fewer), search (rules, kept-shorter), search (rules, kept_step))
+pub loop-k-preserved : goal.loop-k-preserved
+loop-k-preserved c = sizing_step _ _ _ _ _ _ _ _ _ _ _ _ c.loop-k.invariant c.part_at-part.ensures (omega arith)
 
 pub overflow_sub-result-2 : goal.overflow_sub-result-2
-overflow_sub-result-2 c = search laws
+overflow_sub-result-2 c = last-forward _ _ _ _ _ _ _ c.loop-k.invariant.leads c.type_inv.table c.type_inv.sheet (omega arith)
 
 pub overflow_add-result-2 : goal.overflow_add-result-2
-overflow_add-result-2 c = search laws
+overflow_add-result-2 c =
+    last-bytes-fit _ _ _ _ _ _ _ _ _ c.loop-k.invariant.few c.loop-k.invariant.short c.loop-k.invariant.leads c.type_inv.table c.type_inv.sheet
+    (omega arith)
 
 pub returns : goal.returns
-returns c = search laws
+returns c = sizing_end _ _ _ _ _ _ _ _ _ _ c.loop-k.invariant c.type_inv.table c.type_inv.sheet (omega arith)

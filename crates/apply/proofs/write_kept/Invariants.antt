@@ -1,15 +1,12 @@
-use Prim.Native.Nat.{◌-◌}
+use Prim.Native.Nat.{◌*◌, ◌-◌}
 use mathlib.Core.List.{flat_map}
-use lib.ListN.{length}
 use Rattle.layout.specs.Recording.{tag_bytes}
 use Rattle.apply.specs.Applied.{kept_from}
 use Rattle.apply.specs.Runs.{Leads}
 use Rattle.apply.proofs.Stores.{Storing}
 use Rattle.apply.proofs.write_kept.Given as goal
 
-abbrev pub invariant-loop-i : goal.invariant-loop-i
-invariant-loop-i l = Leads l.table l.place l.passed l.walk l.sheet l.list l.i × Storing l.to (flat_map tag_bytes (kept_from l.table l.place (l.walk.tags - l.passed) l.sheet l.walk.changes)) l.out
+abbrev pub invariant-loop-k : goal.invariant-loop-k
+invariant-loop-k l = Leads l.table l.place l.passed l.walk l.sheet l.list (3 * l.k)
+    × Storing l.to (flat_map tag_bytes (kept_from l.table l.place (l.walk.tags - l.passed) l.sheet l.walk.changes)) l.out
     l.initial.out l.start (flat_map tag_bytes (kept_from l.table l.at l.walk.tags l.sheet l.walk.changes))
-
-abbrev pub decreases-loop-i : goal.decreases-loop-i
-decreases-loop-i l = length l.list - l.i

@@ -1,15 +1,12 @@
-use borrow.Author.Rules.{rules}
-use Rattle.apply.proofs.Stores.{laws, write-first, write-second, write-room}
+use mathlib.Core.Path.{refl}
+use Rattle.apply.proofs.Stores.{write-room, write_step}
 use Rattle.apply.proofs.write_new.Goals as goal
 
-pub returns-in_default : goal.returns-in_default
-returns-in_default c = search laws
-
 pub put_piece-to-requires : goal.put_piece-to-requires
-put_piece-to-requires c = (search (rules, write-first) fits 4000, search (rules, write-second) fits 4000, search (rules, write-room) fits 4000)
+put_piece-to-requires c =
+    write-room _ _ _ _ _ _ _ _ _ c.loop-tag.invariant _ c.in-Some.ensures _ refl c.type_inv.sheet c.loop-tag-test.true
 
-pub loop-left-preserved : goal.loop-left-preserved
-loop-left-preserved c = search laws
-
-pub returns : goal.returns
-returns c = search laws
+pub loop-tag-preserved : goal.loop-tag-preserved
+loop-tag-preserved c =
+    write_step _ _ _ _ _ _ _ _ _ c.loop-tag.invariant _ c.in-Some.ensures _ refl c.type_inv.sheet c.loop-tag-test.true _ _ c.put_piece-to.ensures.0
+    c.put_piece-to.ensures.1

@@ -1,16 +1,11 @@
-use Prim.Native.Nat.{◌+◌}
-use mathlib.Core.Path.{◌≡◌}
 use mathlib.Core.List.{flat_map}
-use lib.ListN.{length, drop}
+use lib.ListN.{drop}
 use Rattle.layout.specs.Recording.{tag_bytes}
 use Rattle.pieces.specs.Added.{added_by}
 use Rattle.pieces.specs.declared.Side.TheVariants as side
 use Rattle.apply.proofs.Stores.{Storing}
 use Rattle.apply.proofs.write_new.Given as goal
 
-abbrev pub invariant-loop-left : goal.invariant-loop-left
-invariant-loop-left l = (l.passed + l.left ≡ length l.places) × Storing l.to (flat_map tag_bytes (added_by side.New l.sheet l.sheet l.place (drop l.passed l.places))) l.out l.initial.out l.start
+abbrev pub invariant-loop-tag : goal.invariant-loop-tag
+invariant-loop-tag l = Storing l.to (flat_map tag_bytes (added_by side.New l.sheet l.sheet l.place (drop l.tag-index l.places))) l.out l.initial.out l.start
     (flat_map tag_bytes (added_by side.New l.sheet l.sheet 1 l.places))
-
-abbrev pub decreases-loop-left : goal.decreases-loop-left
-decreases-loop-left l = l.left

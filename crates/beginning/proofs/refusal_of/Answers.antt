@@ -1,23 +1,23 @@
-use Rattle.beginning.proofs.Laws.{laws}
+use borrow.Author.Rules.{rules}
+use Rattle.beginning.proofs.Pieces.{laws, piece-table}
 use Rattle.beginning.proofs.refusal_of.Goals as goal
 
-pub returns-then-refused-ne0 : goal.returns-then-refused-ne0
-returns-then-refused-ne0 c = search laws
+pub returns-in_err-list_refusal : goal.returns-in_err-list_refusal
+returns-in_err-list_refusal c = search (laws, c.in_err-list_refusal.was)
 
-pub returns-then-table-ne0 : goal.returns-then-table-ne0
-returns-then-table-ne0 c = search laws
+pub returns-in_err-system_refusal : goal.returns-in_err-system_refusal
+returns-in_err-system_refusal c =
+    piece-table c.args.setup.now c.args.system.now c.args.notes c.args.room _ _ c.list_refusal.ensures c.in_ok-list_refusal.was _
+    c.system_refusal.ensures _ _ c.in_err-system_refusal.was (search rules)
 
 pub returns-then-room-system : goal.returns-then-room-system
-returns-then-room-system c = search laws
-
-pub system_place-requires : goal.system_place-requires
-system_place-requires c = search laws
-
-pub returns-then-room-system-2 : goal.returns-then-room-system-2
-returns-then-room-system-2 c = search laws
-
-pub returns-then-notes-lt4 : goal.returns-then-notes-lt4
-returns-then-notes-lt4 c = search laws
+returns-then-room-system c = search (laws, c.in_ok-list_refusal.was, c.in_ok-system_refusal.was)
 
 pub returns : goal.returns
-returns c = search laws
+returns c = search (laws, c.in_ok-list_refusal.was, c.in_ok-system_refusal.was)
+
+pub returns-then-room-system-2 : goal.returns-then-room-system-2
+returns-then-room-system-2 c = search (laws, c.in_ok-list_refusal.was, c.in_ok-system_refusal.was)
+
+pub returns-then-notes-lt4 : goal.returns-then-notes-lt4
+returns-then-notes-lt4 c = search (laws, c.in_ok-list_refusal.was, c.in_ok-system_refusal.was)

@@ -1,11 +1,8 @@
 use Rattle.browser.proofs.Laws.{laws}
 use Rattle.browser.proofs.next_number.Goals as goal
 
-pub returns-in_default : goal.returns-in_default
-returns-in_default c = search laws
+pub returns-then-number-tags : goal.returns-then-number-tags
+returns-then-number-tags c = search (laws, c.in-Ok.ensures)
 
-pub returns-then-number-n : goal.returns-then-number-n
-returns-then-number-n c = search laws
-
-pub returns-else-number-n : goal.returns-else-number-n
-returns-else-number-n c = search laws
+pub returns-else-number-tags : goal.returns-else-number-tags
+returns-else-number-tags c = search (laws, c.in-Ok.ensures)

@@ -1,16 +1,11 @@
-use borrow.Author.Rules.{rules}
-use Rattle.converting.proofs.Sizes.{row-kinds, row_ends}
-use Rattle.converting.proofs.Stores.{laws, rows-room}
+use mathlib.Core.Path.{refl}
+use Rattle.converting.proofs.Stores.{rows-room, rows_step}
 use Rattle.converting.proofs.write_changes.Goals as goal
 
-pub returns-in_default : goal.returns-in_default
-returns-in_default c = search laws
-
 pub put_row-to-requires : goal.put_row-to-requires
-put_row-to-requires c = (search (rules, row-kinds) fits 4000, search (rules, row_ends) fits 4000, search (rules, rows-room) fits 4000)
+put_row-to-requires c =
+    rows-room _ _ _ _ _ _ _ _ _ _ c.loop-tag.invariant _ c.in-Some.ensures _ refl c.loop-tag-test.true
 
-pub loop-left-preserved : goal.loop-left-preserved
-loop-left-preserved c = search laws
-
-pub returns : goal.returns
-returns c = search laws
+pub loop-tag-preserved : goal.loop-tag-preserved
+loop-tag-preserved c =
+    rows_step _ _ _ _ _ _ _ _ _ _ c.loop-tag.invariant _ c.in-Some.ensures _ refl c.loop-tag-test.true _ _ c.put_row-to.ensures

@@ -2,4 +2,4 @@ use Rattle.face_recording.proofs.Laws.{laws}
 use Rattle.face_recording.proofs.add.Goals as goal
 
 pub returns : goal.returns
-returns c = search laws depth 9 fits 4000
+returns c = search (laws, c.from.ensures)

@@ -1,8 +1,5 @@
 use Rattle.faults.proofs.Laws.{laws}
 use Rattle.faults.proofs.entries_at.Goals as goal
 
-pub returns-in-Whole : goal.returns-in-Whole
-returns-in-Whole c = search laws
-
-pub returns-in-Broken : goal.returns-in-Broken
-returns-in-Broken c = search laws
+pub returns : goal.returns
+returns c = search (laws, c.in_ok-seen.was)

@@ -1,15 +1,13 @@
-use borrow.Author.Rules.{rules}
-use Rattle.faults.proofs.Kept.{kept_next, kept-long, laws}
+use native.Mathlib.Omega.{arith}
+use mathlib.Core.Path.{refl}
+use Rattle.faults.proofs.Kept.{kept-none, kept-fault, kept-done}
 use Rattle.faults.proofs.rows_fault.Goals as goal
 
-pub loop-left-init : goal.loop-left-init
-loop-left-init c = search laws
+pub loop-passed-init : goal.loop-passed-init
+loop-passed-init c = (c.requires, refl, kept-none _ _ _ _ _ _ _ c.requires refl (omega arith))
 
-pub loop-left-preserved : goal.loop-left-preserved
-loop-left-preserved c = (search rules, search rules, search (rules, kept-long), search (rules, kept_next))
-
-pub returns-in-Fault : goal.returns-in-Fault
-returns-in-Fault c = search laws
+pub returns-in-Err : goal.returns-in-Err
+returns-in-Err c = kept-fault _ _ _ _ _ _ _ _ _ _ c.loop-passed.invariant.2 c.row_passed.ensures c.in-Err.is c.type_inv.s (omega arith)
 
 pub returns : goal.returns
-returns c = search laws
+returns c = kept-done _ _ _ _ _ _ _ _ c.loop-passed.invariant.2 (omega arith)

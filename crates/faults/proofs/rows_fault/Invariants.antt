@@ -1,4 +1,4 @@
-use Prim.Native.Nat.{◌+◌, ◌≤◌}
+use Prim.Native.Nat.{◌+◌, ◌-◌, ◌≤◌}
 use mathlib.Core.Path.{◌≡◌}
 use mathlib.Core.List.{[]}
 use lib.ListN.{length, drop}
@@ -7,9 +7,6 @@ use Rattle.faults.specs.Faults.{name_by, rest_by}
 use Rattle.faults.proofs.Kept.{Kept}
 use Rattle.faults.proofs.rows_fault.Given as goal
 
-abbrev pub invariant-loop-left : goal.invariant-loop-left
-invariant-loop-left l = (l.passed + l.left ≡ l.n) × (l.n ≤ 1000) × (length l.places ≡ 1000)
-    × Kept l.places l.s l.row l.passed l.place l.left l.ahead (l.at + rows_fault l.n (name_by l.row) (rest_by l.row) l.before [] (drop l.at l.s))
-
-abbrev pub decreases-loop-left : goal.decreases-loop-left
-decreases-loop-left l = l.left
+abbrev pub invariant-loop-passed : goal.invariant-loop-passed
+invariant-loop-passed l = (l.n ≤ 1000) × (length l.places ≡ 1000)
+    × Kept l.places l.s l.row l.passed l.place (l.n - l.passed) l.ahead (l.at + rows_fault l.n (name_by l.row) (rest_by l.row) l.before [] (drop l.at l.s))

@@ -1,11 +1,9 @@
-use Rattle.frames.proofs.Laws.{laws}
+use Prim.Native.Nat.{◌+◌, ◌-◌}
+use native.Mathlib.Omega.{arith}
+use Rattle.frames.proofs.Laws.{sections-step}
 use Rattle.frames.proofs.sized_sections.Goals as goal
 
-pub returns-in_default : goal.returns-in_default
-returns-in_default c = search laws
-
-pub loop-left-preserved : goal.loop-left-preserved
-loop-left-preserved c = search laws
-
-pub returns : goal.returns
-returns c = search laws
+pub loop-preserved : goal.loop-preserved
+loop-preserved c =
+    sections-step c.args.file.now c.loop.place c.in_ok-place.place (c.args.sections - c.loop.counter) (c.args.sections - (c.loop.counter + 1)) _ _
+    c.loop.invariant c.sized.ensures c.in_ok-place.was (omega arith)

@@ -1,29 +1,12 @@
+use mathlib.Core.Path.{◌∙◌}
 use Rattle.items.proofs.Laws.{laws}
 use Rattle.items.proofs.section.Goals as goal
 
-pub returns-then-sections-j : goal.returns-then-sections-j
-returns-then-sections-j c = search laws
-
-pub returns-in_default : goal.returns-in_default
-returns-in_default c = search laws
-
 pub returns-then-file-place : goal.returns-then-file-place
-returns-then-file-place c = search laws
+returns-then-file-place c = search (laws, c.in_ok-place.was)
 
-pub returns-in_default-ahead : goal.returns-in_default-ahead
-returns-in_default-ahead c = search laws
-
-pub returns-in_default-found : goal.returns-in_default-found
-returns-in_default-found c = search laws
-
-pub overflow_add-result : goal.overflow_add-result
-overflow_add-result c = search laws
-
-pub overflow_sub-result : goal.overflow_sub-result
-overflow_sub-result c = search laws
-
-pub overflow_sub-result-2 : goal.overflow_sub-result-2
-overflow_sub-result-2 c = search laws
+pub returns-in_err-end : goal.returns-in_err-end
+returns-in_err-end c = c.from_residual-in_err-end.ensures ∙ search (laws, c.in_ok-place.was, c.in_ok-start.was, c.in_err-end.was)
 
 pub returns : goal.returns
-returns c = search laws
+returns c = search (laws, c.in_ok-place.was, c.in_ok-start.was, c.in_ok-end.was)

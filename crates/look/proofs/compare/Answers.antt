@@ -1,17 +1,8 @@
-use Rattle.look.proofs.Looks.{laws}
+use mathlib.Core.Path.{refl}
+use Rattle.look.proofs.Looks.{looking-step}
 use Rattle.look.proofs.compare.Goals as goal
 
-pub loop-left-init : goal.loop-left-init
-loop-left-init c = search laws
-
-pub returns-in_default : goal.returns-in_default
-returns-in_default c = search laws
-
-pub disagrees-conflicts-requires : goal.disagrees-conflicts-requires
-disagrees-conflicts-requires c = search laws
-
-pub loop-left-preserved : goal.loop-left-preserved
-loop-left-preserved c = search laws
-
-pub returns : goal.returns
-returns c = search laws
+pub loop-tag-preserved : goal.loop-tag-preserved
+loop-tag-preserved c =
+    looking-step _ _ _ _ _ _ _ c.loop-tag.invariant _ _ _ _ _ c.in-Some.ensures refl c.loop-tag-test.true c.disagrees-conflicts.ensures
+    c.with_bit-set.ensures refl

@@ -1,4 +1,4 @@
-use Prim.Native.Nat.{◌+◌}
+use Prim.Native.Nat.{◌≤◌}
 use mathlib.Core.Path.{◌≡◌}
 use mathlib.Core.Bool.{true}
 use lib.ListN.{length, drop}
@@ -7,8 +7,6 @@ use Rattle.names.specs.Names.{names, covers}
 use Rattle.names.proofs.Passed.{Passed}
 use Rattle.names.proofs.differ_by_marks.Given as goal
 
-abbrev pub invariant-loop-left : goal.invariant-loop-left
-invariant-loop-left l = (l.passed + l.left ≡ l.n) × (length l.marked ≡ 512) × Passed l.s l.row l.at l.passed l.place × (covers l.marked (names l.passed (row_name l.row) (drop l.at l.s)) ≡ true)
-
-abbrev pub decreases-loop-left : goal.decreases-loop-left
-decreases-loop-left l = l.left
+abbrev pub invariant-loop-passed : goal.invariant-loop-passed
+invariant-loop-passed l = (l.searches ≤ 2) × (length l.marked ≡ 512) × Passed l.s l.row l.at l.passed l.place
+    × (covers l.marked (names l.passed (row_name l.row) (drop l.at l.s)) ≡ true)

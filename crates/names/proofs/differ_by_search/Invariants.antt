@@ -7,6 +7,3 @@ use Rattle.names.proofs.differ_by_search.Given as goal
 
 abbrev pub invariant-loop-left : goal.invariant-loop-left
 invariant-loop-left l = distinct (names l.left (row_name l.row) (drop l.place l.s)) ≡ distinct_names l.s l.at l.n l.row
-
-abbrev pub decreases-loop-left : goal.decreases-loop-left
-decreases-loop-left l = l.left

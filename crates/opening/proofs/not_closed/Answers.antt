@@ -1,20 +1,12 @@
-use Rattle.opening.proofs.Laws.{laws}
+use Rattle.std.proofs.Common.{arith}
+use Rattle.std.proofs.lemmas.Grind.{common_steps}
+use Rattle.opening.specs.Opened.{not_closed_by}
 use Rattle.opening.proofs.not_closed.Goals as goal
 
-pub returns-then-header-eq0 : goal.returns-then-header-eq0
-returns-then-header-eq0 c = search laws
-
-pub returns-then-header-eq0-2 : goal.returns-then-header-eq0-2
-returns-then-header-eq0-2 c = search laws
-
-pub returns-then-file-header : goal.returns-then-file-header
-returns-then-file-header c = search laws
-
 pub returns-then-file-header-2 : goal.returns-then-file-header-2
-returns-then-file-header-2 c = search laws
+unfolding not_closed_by
+returns-then-file-header-2 c = grind (arith, common_steps)
 
-pub returns-then-header-gt-LARGEST_USER_OFFSET : goal.returns-then-header-gt-LARGEST_USER_OFFSET
-returns-then-header-gt-LARGEST_USER_OFFSET c = search laws
-
-pub returns : goal.returns
-returns c = search laws
+pub returns-else-file-header-2 : goal.returns-else-file-header-2
+unfolding not_closed_by
+returns-else-file-header-2 c = grind (arith, common_steps)

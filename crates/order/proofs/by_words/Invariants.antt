@@ -1,12 +1,9 @@
-use Prim.Native.Nat.{◌≤◌}
+use Prim.Native.Nat.{◌*◌, ◌-◌}
 use mathlib.Core.Path.{◌≡◌}
 use lib.ListN.{take, drop}
 use Rattle.order.specs.Order.{key, turn_of}
 use Rattle.order.proofs.by_words.Given as goal
 
-abbrev pub invariant-loop-left : goal.invariant-loop-left
-invariant-loop-left l = (l.left ≤ l.n) × (turn_of (key (take l.left (drop l.here l.s))) (key (take l.left (drop l.there l.s)))
-    ≡ turn_of (key (take l.n (drop l.here l.s))) (key (take l.n (drop l.there l.s))))
-
-abbrev pub decreases-loop-left : goal.decreases-loop-left
-decreases-loop-left l = l.left
+abbrev pub invariant-loop-passed : goal.invariant-loop-passed
+invariant-loop-passed l = turn_of (key (take (l.n - 8 * l.passed) (drop l.here l.s))) (key (take (l.n - 8 * l.passed) (drop l.there l.s)))
+    ≡ turn_of (key (take l.n (drop l.here l.s))) (key (take l.n (drop l.there l.s)))

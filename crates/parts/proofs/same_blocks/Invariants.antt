@@ -1,12 +1,11 @@
-use Prim.Native.Nat.{◌+◌, ◌*◌, ◌≤◌}
+use Prim.Native.Nat.{◌+◌, ◌-◌, ◌*◌, ◌≤◌}
 use mathlib.Core.Path.{◌≡◌}
 use lib.ListN.{length, take, drop}
 use Rattle.layout.specs.Recording.{same}
 use Rattle.parts.proofs.same_blocks.Given as goal
 
-abbrev pub invariant-loop-left : goal.invariant-loop-left
-invariant-loop-left l = (l.i + 16 * l.left ≤ length l.a) × (l.j + 16 * l.left ≤ length l.b)
-    × (same (take (16 * l.left) (drop l.i l.a)) (take (16 * l.left) (drop l.j l.b)) ≡ same (take (16 * l.blocks) (drop l.here l.a)) (take (16 * l.blocks) (drop l.there l.b)))
-
-abbrev pub decreases-loop-left : goal.decreases-loop-left
-decreases-loop-left l = l.left
+abbrev pub invariant-loop-block : goal.invariant-loop-block
+invariant-loop-block l =
+    (l.i + 16 * (l.blocks - l.block) ≤ length l.a) × (l.j + 16 * (l.blocks - l.block) ≤ length l.b)
+    × (same (take (16 * (l.blocks - l.block)) (drop l.i l.a)) (take (16 * (l.blocks - l.block)) (drop l.j l.b))
+    ≡ same (take (16 * l.blocks) (drop l.here l.a)) (take (16 * l.blocks) (drop l.there l.b)))

@@ -1,11 +1,5 @@
-use Rattle.pieces.proofs.Pieces.{laws}
+use Rattle.pieces.proofs.Pieces.{short-kept}
 use Rattle.pieces.proofs.changed_piece.Goals as goal
 
-pub returns-in_default : goal.returns-in_default
-returns-in_default c = search laws
-
 pub with_value-requires : goal.with_value-requires
-with_value-requires c = search laws
-
-pub returns : goal.returns
-returns c = search laws
+with_value-requires c = short-kept _ _ _ _ _ _ _ c.row_at.ensures c.in_ok-row.was c.changed_value-value.ensures c.type_inv.table c.type_inv.sheet

@@ -1,11 +1,5 @@
-use Rattle.pieces.proofs.Pieces.{laws}
+use Rattle.pieces.proofs.Pieces.{short-fits}
 use Rattle.pieces.proofs.with_value.Goals as goal
 
-pub returns-in_default : goal.returns-in_default
-returns-in_default c = search laws
-
 pub overflow_add-result-2 : goal.overflow_add-result-2
-overflow_add-result-2 c = search laws
-
-pub returns : goal.returns
-returns c = search laws
+overflow_add-result-2 c = short-fits _ _ _ c.requires c.in-Some.is

@@ -1,25 +1,20 @@
-use borrow.Author.Rules.{rules}
-use Rattle.names.proofs.Laws.{row-name-there}
-use Rattle.places.proofs.Walks.{laws}
+use Prim.Native.Nat.{◌+◌, ◌-◌}
+use native.Mathlib.Omega.{arith}
+use mathlib.Core.Path.{◌≡◌, refl}
+use Rattle.places.proofs.Walks.{walked-all, walked-full, walked-stop, walking-step}
 use Rattle.places.proofs.find_tags.Goals as goal
 
-pub loop-left-init : goal.loop-left-init
-loop-left-init c = search laws
-
-pub returns-then-words-changes : goal.returns-then-words-changes
-returns-then-words-changes c = search laws
+pub returns-then-words-sheet : goal.returns-then-words-sheet
+returns-then-words-sheet c = walked-full _ _ _ _ _ _ _ _ _ _ _ _ c.loop-passed.invariant c.if-words-sheet.true
 
 pub returns-in_default : goal.returns-in_default
-returns-in_default c = search laws
+returns-in_default c = walked-stop _ _ _ _ _ _ _ _ _ _ _ _ c.loop-passed.invariant _ c.in_default.ensures refl
 
-pub overflow_add-place : goal.overflow_add-place
-overflow_add-place c = search laws
-
-pub find_change-found-requires : goal.find_change-found-requires
-find_change-found-requires c = (search (rules, row-name-there, c.row_at-row.ensures, c.in-Whole.is), search rules, search rules)
-
-pub loop-left-preserved : goal.loop-left-preserved
-loop-left-preserved c = search laws
+pub loop-passed-preserved : goal.loop-passed-preserved
+loop-passed-preserved c =
+    let q : c.loop-passed.place + 1 + c.in-Some.row.name - (c.loop-passed.place + 1) ≡ c.in-Some.row.name = omega arith in
+    walking-step _ _ _ _ _ _ _ _ _ _ _ _ c.loop-passed.invariant _ _ _ _ _ c.find_change-found.result c.loop-passed-test.true c.if-words-sheet.false
+    c.in-Some.ensures refl (rw q at c.find_change-found.ensures) c.list_tag-words.ensures.0 c.list_tag-words.ensures.1 c.note.ensures
 
 pub returns : goal.returns
-returns c = search laws
+returns c = walked-all _ _ _ _ _ _ _ _ _ _ _ _ c.loop-passed.invariant c.loop-passed-test.false

@@ -1,11 +1,6 @@
-use Rattle.places.proofs.Searches.{laws}
+use mathlib.Core.Path.{refl}
+use Rattle.places.proofs.Searches.{named_by}
 use Rattle.places.proofs.is_named.Goals as goal
 
-pub returns-then-other-mark : goal.returns-then-other-mark
-returns-then-other-mark c = search laws
-
-pub returns-in_default : goal.returns-in_default
-returns-in_default c = search laws
-
 pub returns : goal.returns
-returns c = search laws
+returns c = named_by _ _ _ _ c.find_name-found.result _ c.find_name-found.ensures refl c.is_some.ensures

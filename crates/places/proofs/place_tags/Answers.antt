@@ -1,13 +1,19 @@
-use borrow.Author.Rules.{rules}
-use Rattle.places.proofs.Walks.{marks-cover, place-many, place-few, place-whole}
-use Rattle.places.proofs.Searches.{known_start}
+use Rattle.places.proofs.Walks.{place-few}
+use Rattle.places.proofs.Searches.{marks-told}
 use Rattle.places.proofs.place_tags.Goals as goal
 
-pub returns-then-places-gt-MOST_CHANGES : goal.returns-then-places-gt-MOST_CHANGES
-returns-then-places-gt-MOST_CHANGES c = search (rules, place-many)
+pub slice_bounds-changes-end : goal.slice_bounds-changes-end
+slice_bounds-changes-end c = (marks-told _ _ _ _ _ c.if-places-gt-MOST_CHANGES.false c.mark_names-whole.ensures).room
+
+pub slice_bounds-marked-end-2 : goal.slice_bounds-marked-end-2
+slice_bounds-marked-end-2 c = (marks-told _ _ _ _ _ c.if-places-gt-MOST_CHANGES.false c.mark_names-whole.ensures).long
 
 pub find_tags-requires : goal.find_tags-requires
-find_tags-requires c = (search (rules, place-whole), search (rules, marks-cover), search (rules, known_start))
+find_tags-requires c =
+    let t = marks-told _ _ _ _ _ c.if-places-gt-MOST_CHANGES.false c.mark_names-whole.ensures in
+    (t.few, t.marked)
 
 pub returns : goal.returns
-returns c = search (rules, place-few)
+returns c =
+    let t = marks-told _ _ _ _ _ c.if-places-gt-MOST_CHANGES.false c.mark_names-whole.ensures in
+    place-few _ _ _ _ _ _ _ _ _ _ c.if-places-gt-MOST_CHANGES.false t.whole c.find_tags.ensures.0 c.find_tags.ensures.1 c.find_tags.ensures.2

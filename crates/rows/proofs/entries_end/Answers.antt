@@ -1,8 +1,5 @@
 use Rattle.rows.proofs.Laws.{laws}
 use Rattle.rows.proofs.entries_end.Goals as goal
 
-pub returns-in_default : goal.returns-in_default
-returns-in_default c = search laws
-
 pub returns : goal.returns
-returns c = search laws
+returns c = search (laws, c.in_ok-next.was)

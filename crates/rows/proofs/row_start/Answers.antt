@@ -1,11 +1,5 @@
 use Rattle.rows.proofs.Laws.{laws}
 use Rattle.rows.proofs.row_start.Goals as goal
 
-pub returns-in_default : goal.returns-in_default
-returns-in_default c = search laws
-
-pub loop-left-preserved : goal.loop-left-preserved
-loop-left-preserved c = search laws
-
-pub returns : goal.returns
-returns c = search laws
+pub loop-preserved : goal.loop-preserved
+loop-preserved c = search (laws, c.in_ok-place.was)

@@ -1,17 +1,5 @@
 use Rattle.sheet.proofs.Sheets.{laws}
 use Rattle.sheet.proofs.change_end.Goals as goal
 
-pub returns-in_default : goal.returns-in_default
-returns-in_default c = search laws
-
-pub overflow_add-at : goal.overflow_add-at
-overflow_add-at c = search laws
-
-pub overflow_add-at-2 : goal.overflow_add-at-2
-overflow_add-at-2 c = search laws
-
-pub returns-in_default-seen : goal.returns-in_default-seen
-returns-in_default-seen c = search laws
-
 pub returns : goal.returns
-returns c = search laws
+returns c = search (laws, c.in_ok-n.was, c.in_ok-next.was)

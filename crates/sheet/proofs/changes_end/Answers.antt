@@ -1,11 +1,6 @@
-use Rattle.sheet.proofs.Sheets.{laws}
+use native.Mathlib.Omega.{arith}
+use Rattle.sheet.proofs.Sheets.{changes-step}
 use Rattle.sheet.proofs.changes_end.Goals as goal
 
-pub returns-in_default : goal.returns-in_default
-returns-in_default c = search laws
-
-pub loop-left-preserved : goal.loop-left-preserved
-loop-left-preserved c = search laws
-
-pub returns : goal.returns
-returns c = search laws
+pub loop-preserved : goal.loop-preserved
+loop-preserved c = changes-step _ _ _ _ _ c.loop.invariant _ _ _ c.change_end.ensures c.in_ok-place.was (omega arith)

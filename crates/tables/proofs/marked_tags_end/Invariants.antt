@@ -1,4 +1,4 @@
-use Prim.Native.Nat.{◌-◌, ◌≤◌}
+use Prim.Native.Nat.{◌-◌}
 use mathlib.Core.Path.{◌≡◌}
 use lib.ListN.{length, drop}
 use Rattle.layout.specs.Reading.{times, tag}
@@ -6,9 +6,7 @@ use Rattle.parts.specs.Parts.{end_of}
 use Rattle.tables.proofs.Apart.{Apart}
 use Rattle.tables.proofs.marked_tags_end.Given as goal
 
-abbrev pub invariant-loop-left : goal.invariant-loop-left
-invariant-loop-left l = (l.left ≤ l.n) × (length l.marked ≡ 512) × (end_of l.place (times l.left tag (drop l.place l.s)) ≡ end_of l.at (times l.n tag (drop l.at l.s)))
-    × Apart l.apart l.marked l.s l.at (l.n - l.left) l.place
-
-abbrev pub decreases-loop-left : goal.decreases-loop-left
-decreases-loop-left l = l.left
+abbrev pub invariant-loop-passed : goal.invariant-loop-passed
+invariant-loop-passed l = (length l.marked ≡ 512)
+    × (end_of l.place (times (l.n - l.passed) tag (drop l.place l.s)) ≡ end_of l.at (times l.n tag (drop l.at l.s)))
+    × Apart l.apart l.marked l.s l.at l.passed l.place

@@ -1,14 +1,11 @@
-use Rattle.recorder.proofs.Laws.{close-laws}
+use Rattle.recorder.proofs.Laws.{laws}
 use Rattle.recorder.proofs.Recorder.close.Goals as goal
 
-pub returns-then-refused-ne0 : goal.returns-then-refused-ne0
-returns-then-refused-ne0 c = search close-laws
-
 pub returns-then-piece-eq0 : goal.returns-then-piece-eq0
-returns-then-piece-eq0 c = search close-laws
-
-pub overflow_add-self : goal.overflow_add-self
-overflow_add-self c = search close-laws
+returns-then-piece-eq0 c = search (laws, c.in_default.is)
 
 pub returns : goal.returns
-returns c = search close-laws
+returns c = search (laws, c.in_default.is)
+
+pub returns-in-Err : goal.returns-in-Err
+returns-in-Err c = search (laws, c.in-Err.is)

@@ -1,5 +1,0 @@
-use Rattle.face_recording.proofs.Laws.{laws}
-use Rattle.face_recording.proofs.recorder_asked.Goals as goal
-
-pub returns : goal.returns
-returns c = search laws

@@ -1,8 +1,0 @@
-use Rattle.faults.proofs.Laws.{laws}
-use Rattle.faults.proofs.rest_passed.Goals as goal
-
-pub returns-in-Whole : goal.returns-in-Whole
-returns-in-Whole c = search laws
-
-pub returns-in-Broken : goal.returns-in-Broken
-returns-in-Broken c = search laws

@@ -1,8 +1,0 @@
-use Rattle.marks.proofs.Laws.{laws}
-use Rattle.marks.proofs.mix_words.Goals as goal
-
-pub loop-left-preserved : goal.loop-left-preserved
-loop-left-preserved c = search laws
-
-pub returns : goal.returns
-returns c = search laws

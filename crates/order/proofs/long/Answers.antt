@@ -1,8 +1,0 @@
-use Rattle.order.proofs.Laws.{laws}
-use Rattle.order.proofs.long.Goals as goal
-
-pub returns-in_default : goal.returns-in_default
-returns-in_default c = search laws
-
-pub returns : goal.returns
-returns c = search laws

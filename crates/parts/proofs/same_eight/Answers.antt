@@ -1,5 +1,0 @@
-use Rattle.parts.proofs.Laws.{laws}
-use Rattle.parts.proofs.same_eight.Goals as goal
-
-pub returns : goal.returns
-returns c = search laws

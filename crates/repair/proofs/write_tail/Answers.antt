@@ -1,5 +1,0 @@
-use Rattle.repair.proofs.Laws.{laws}
-use Rattle.repair.proofs.write_tail.Goals as goal
-
-pub returns : goal.returns
-returns c = search laws

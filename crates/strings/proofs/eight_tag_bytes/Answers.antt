@@ -1,5 +1,0 @@
-use Rattle.strings.proofs.Blocks.{laws}
-use Rattle.strings.proofs.eight_tag_bytes.Goals as goal
-
-pub returns : goal.returns
-returns c = search laws
