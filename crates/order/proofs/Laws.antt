@@ -24,7 +24,7 @@ use Rattle.strings.specs.Strings.{text_of}
 use Rattle.strings.proofs.Laws.{string-parts, text_of-broken}
 use Rattle.order.specs.Order.{key, name_of, name_at, turn_of, keys, middle, halves}
 use Rattle.order.proofs.Keys.{turn-cmp, turn-before, turn-same, turn-after, key-longer, same_ends, other-ends}
-use Rattle.order.proofs.Seats.{keys-at, halves-done, halves-lower, halves-met, halves-upper, seek-more, seek-start, insert-full, insert-nowhere, insert-there}
+use Rattle.order.proofs.Seats.{keys-at, halves-done, halves-lower, halves-met, halves-upper, seek-more, seek-start, insert-full, insert-nowhere, insert-start, insert-step, insert-done}
 
 -- ── Names of one length, from their ends on ──
 
@@ -229,5 +229,6 @@ pub ruleset laws = (
   seek-start,
   insert-full,
   insert-nowhere,
-  insert-there,
+  insert-start,
+  insert-done,
 )

@@ -4,15 +4,14 @@
 use Rattle.std.specs.Prelude.{Option, Some, None}
 use Rattle.std.specs.declared.cmp.Ordering.{Ordering}
 use Rattle.std.specs.declared.cmp.Ordering.TheVariants.{Less, Equal, Greater}
-use Rattle.std.specs.List.{copy_within}
-use Rattle.std.proofs.Common.{add-one}
 use Prim.Native.Nat.{ℕ, zero, suc, ◌+◌, ◌-◌, ◌<◌, ◌≤◌}
+use native.Mathlib.Nat.{add-zero, add-suc}
 use native.Mathlib.Omega.{arith}
 use mathlib.Core.Path.{◌≡◌, refl, ap, sym, ◌∙◌}
 use mathlib.Core.Bool.{Bool, true, false, ◌&&◌, ◌||◌, cond}
-use mathlib.Core.List.{List, [], ◌∷◌, ◌++◌, append_assoc}
-use lib.ListN.{length, take, drop, get_or, set, length-append, length-drop}
-use lib.Seq.{length-take-le, take-suc, take-add, take_at, drop_at, set_at}
+use mathlib.Core.List.{List, [], ◌∷◌, ◌++◌, append_assoc, append-nil}
+use lib.ListN.{length, take, drop, get_or, set, length-append, length-drop, length-set, take-append-drop}
+use lib.Seq.{length-take-le, take-suc, take-add, take_at, drop_at, set_at, drop-cons, take-set-le, drop-set-lt, drop-set-add, get_or-set_same, get_or-drop}
 use lib.Dec.{leb, ltb, eqb}
 use borrow.Author.Tests.{ltb-true, lt-ltb, le-ltb, le-leb, lt-leb, leb-true, eq-eqb, ne_eqb}
 use Rattle.number.proofs.Bytes.{both_true, and-true, part-long}
@@ -296,6 +295,32 @@ module _ (s ps : List ℕ) (n place : ℕ) where
 
 -- ── A place put at its seat ──
 
+-- the k places from a seat on, each stored one later, the last first
+unfoldable pub raised : (k seat : ℕ) → List ℕ → List ℕ
+raised zero p ps = ps
+raised (suc k) p ps = raised k p (set ps (p + suc k) (get_or ps (p + k) 0))
+
+raised_is : (k p : ℕ) (ps : List ℕ) → p + k < length ps → raised k p ps ≡ (take (suc p) ps ++ take k (drop p ps)) ++ drop (suc (p + k)) ps
+unfolding raised
+raised_is zero p ps h =
+    rw (append-nil (take (suc p) ps), add-zero p) (sym (take-append-drop (suc p) ps))
+raised_is (suc k) p ps h =
+    let x : ℕ = get_or ps (p + k) 0 in
+    let qs : List ℕ = set ps (p + suc k) x in
+    let a : take (suc p) qs ≡ take (suc p) ps = take-set-le (suc p) ps (p + suc k) x (omega arith) in
+    let b : take k (drop p qs) ≡ take k (drop p ps) = ap (take k) (drop-set-add p ps (suc k) x) ∙ take-set-le k (drop p ps) (suc k) x (omega arith) in
+    let c : drop (p + suc k) qs ≡ x ∷ drop (suc (p + suc k)) ps =
+    drop-cons qs (p + suc k) 0 (rw length-set h) ∙ rw (get_or-set_same ps (p + suc k) x 0 h, drop-set-lt (suc (p + suc k)) ps (p + suc k) x (omega arith)) in
+    let d : take (suc k) (drop p ps) ≡ take k (drop p ps) ++ (x ∷ []) =
+    take-suc (drop p ps) k 0 (omega (arith, length-drop p ps)) ∙ rw (get_or-drop p ps k 0) in
+    raised_is k p qs (rw length-set (omega arith)) ∙ rw (a, b, ← add-suc p k, c, d)
+    (sym (append_assoc (take (suc p) ps ++ take k (drop p ps)) (x ∷ []) (drop (suc (p + suc k)) ps))
+    ∙ ap (λ (l : List ℕ). l ++ drop (suc (p + suc k)) ps) (append_assoc (take (suc p) ps) (take k (drop p ps)) (x ∷ [])))
+
+raised-suc : (k p : ℕ) (ps : List ℕ) → raised (suc k) p ps ≡ raised k p (set ps (p + suc k) (get_or ps (p + k) 0))
+unfolding raised
+raised-suc k p ps = refl
+
 module _ (ps : List ℕ) (n p place : ℕ) where
   pub insert-full : length ps ≤ n → ps ≡ inserted ps n p place
   unfolding inserted
@@ -305,14 +330,13 @@ module _ (ps : List ℕ) (n p place : ℕ) where
   unfolding inserted
   insert-nowhere h = rw (lt-leb p n h, and-false (ltb n (length ps)))
 
-  -- those from the seat on are copied one up, and the place is stored at its seat
-  pub insert-there : (qs : List ℕ) → n < length ps → p ≤ n → qs ≡ copy_within ps p n (p + 1) → set qs p place ≡ inserted ps n p place
+  pub insert-start : n < length ps → p ≤ n → set (raised (n - p) p ps) p place ≡ inserted ps n p place
   unfolding inserted
-  insert-there qs h l e =
-      let q : p + 1 + (n - p) ≡ n + 1 = omega arith in
-      let a : take (p + 1) ps ≡ take p ps ++ (get_or ps p 0 ∷ []) = rw add-one (take-suc ps p 0 (omega arith)) in
+  insert-start h l =
+      let q : suc (p + (n - p)) ≡ n + 1 = omega arith in
+      let a : take (suc p) ps ≡ take p ps ++ (get_or ps p 0 ∷ []) = take-suc ps p 0 (omega arith) in
       rw (
-        e,
+        raised_is (n - p) p ps (omega arith),
         q,
         a,
         append_assoc (take p ps) (get_or ps p 0 ∷ []) (take (n - p) (drop p ps)),
@@ -321,3 +345,17 @@ module _ (ps : List ℕ) (n p place : ℕ) where
         lt-ltb n (length ps) h,
         le-leb p n l,
       ) (sym (append_assoc (take p ps) (place ∷ take (n - p) (drop p ps)) (drop (n + 1) ps)))
+
+module _ (ps : List ℕ) (p place : ℕ) where
+  pub insert-step : (i : ℕ) (all : List ℕ) → p < i → set (raised (i - p) p ps) p place ≡ all
+      → set (raised (i - 1 - p) p (set ps i (get_or ps (i - 1) 0))) p place ≡ all
+  insert-step i all h e =
+      let q : i - p ≡ suc (i - 1 - p) = omega arith in
+      let a : p + suc (i - 1 - p) ≡ i = omega arith in
+      let b : p + (i - 1 - p) ≡ i - 1 = omega arith in
+      let c : set ps (p + suc (i - 1 - p)) (get_or ps (p + (i - 1 - p)) 0) ≡ set ps i (get_or ps (i - 1) 0) = rw (a, b) in
+      sym (ap (λ (l : List ℕ). set l p place) (ap (λ (k : ℕ). raised k p ps) q ∙ raised-suc (i - 1 - p) p ps ∙ ap (raised (i - 1 - p) p) c)) ∙ e
+
+  pub insert-done : (i : ℕ) (all : List ℕ) → i ≤ p → p ≤ i → set (raised (i - p) p ps) p place ≡ all → set ps p place ≡ all
+  unfolding raised
+  insert-done i all h l e = let q : i - p ≡ 0 = omega arith in rw q at e

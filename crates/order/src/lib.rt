@@ -100,6 +100,9 @@ pub fn insert(places: &mut [usize], count: usize, seat: usize, place: usize)
     if count < seat {
         return;
     }
-    places.copy_within(seat..count, seat + 1);
+    // by a loop: the toolchain's own copy would have the library ask for one more function of C's
+    for i in (seat..count).rev() {
+        places[i + 1] = places[i];
+    }
     places[seat] = place;
 }

@@ -1,12 +1,12 @@
 -- Equal parts and copying: what the functions of this crate leave to be shown.
 -- Assumes nothing.
-use Prim.Native.Nat.{ℕ, ◌+◌, ◌*◌, ◌-◌, ◌/◌, ◌<◌, ◌≤◌}
+use Prim.Native.Nat.{ℕ, suc, ◌+◌, ◌*◌, ◌-◌, ◌/◌, ◌<◌, ◌≤◌}
 use native.Mathlib.Omega.{arith}
 use mathlib.Core.Path.{◌≡◌, refl, ap, sym, ◌∙◌}
 use mathlib.Core.Bool.{Bool, true, false, ◌&&◌}
-use mathlib.Core.List.{List, [], ◌∷◌, ◌++◌}
-use lib.ListN.{length, take, drop}
-use lib.Seq.{drop-drop, sets, sets-eq}
+use mathlib.Core.List.{List, [], ◌∷◌}
+use lib.ListN.{length, take, drop, get_or, set}
+use lib.Seq.{sets, drop-cons}
 use lib.Dec.{eqb}
 use borrow.Author.Rules.{rules}
 use borrow.Author.Tests.{le-leb, lt-leb, eq-eqb, ne_eqb, not-true, not-false}
@@ -15,7 +15,6 @@ use Rattle.std.specs.Prelude.{nat_eq}
 use Rattle.std.specs.Cmp.Lexicographic.{pointwise}
 use Rattle.std.proofs.Common.{append_assoc}
 use Rattle.number.proofs.Bools.{and-false}
-use Rattle.number.proofs.Bytes.{part-long}
 use Rattle.layout.specs.Recording.{same}
 use Rattle.parts.specs.Parts.{same_part, copied}
 use Rattle.parts.proofs.Same.{same_add, eight-same, sixteen-same, blocks-stop, blocks_next}
@@ -108,11 +107,27 @@ pub copied-there : (f t : List ℕ) (i j n : ℕ) → i + n ≤ length f → j +
 unfolding copied
 copied-there f t i j n h k = rw (there f i n h, there t j n k)
 
-pub copied-put : (f t y : List ℕ) (i j n k m : ℕ) → k ≡ n → m ≡ n → n ≤ length f → i ≤ length f - n → n ≤ length t → j ≤ length t - n
-    → y ≡ take m (drop i f) → take j t ++ (y ++ drop k (drop j t)) ≡ copied f i t j n
-copied-put f t y i j n k m p q a b c d e =
-    let l : length (take n (drop i f)) ≡ n = part-long f i n (omega arith) in
-    rw (p, e, q, copied-there f t i j n (omega arith) (omega arith), sets-eq (take n (drop i f)) t j (omega arith), drop-drop n j t, l, append_assoc)
+pub copy_start : (f t : List ℕ) (i j n : ℕ) → sets t (j + 0) (take (n - 0) (drop (i + 0) f)) ≡ sets t j (take n (drop i f))
+copy_start f t i j n =
+    let p : j + 0 ≡ j = omega arith in
+    let q : n - 0 ≡ n = omega arith in
+    let r : i + 0 ≡ i = omega arith in
+    rw (p, q, r)
+
+pub copy_more : (f t t₀ : List ℕ) (i j n k : ℕ) → k < n → i + n ≤ length f
+    → sets t (j + k) (take (n - k) (drop (i + k) f)) ≡ sets t₀ j (take n (drop i f))
+    → sets (set t (j + k) (get_or f (i + k) 0)) (j + (k + 1)) (take (n - (k + 1)) (drop (i + (k + 1)) f)) ≡ sets t₀ j (take n (drop i f))
+copy_more f t t₀ i j n k h l e =
+    let p : n - k ≡ suc (n - (k + 1)) = omega arith in
+    let q : j + (k + 1) ≡ suc (j + k) = omega arith in
+    let r : i + (k + 1) ≡ suc (i + k) = omega arith in
+    rw (q, r) (sym (rw (p, drop-cons f (i + k) 0 (omega arith))) ∙ e)
+
+pub copy-end : (f t t₀ : List ℕ) (i j n k : ℕ) → n ≤ k → k ≤ n → i + n ≤ length f → j + n ≤ length t → length t ≡ length t₀
+    → sets t (j + k) (take (n - k) (drop (i + k) f)) ≡ sets t₀ j (take n (drop i f)) → t ≡ copied f i t₀ j n
+copy-end f t t₀ i j n k h l p q o e =
+    let z : n - k ≡ 0 = omega arith in
+    sym (rw z) ∙ e ∙ sym (copied-there f t₀ i j n p (omega arith))
 
 pub ruleset laws = (
   rules,
@@ -133,5 +148,7 @@ pub ruleset laws = (
   copied-far,
   copied-no-room,
   copied-past,
-  copied-put,
+  copy_start,
+  copy_more,
+  copy-end,
 )

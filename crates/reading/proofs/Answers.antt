@@ -81,10 +81,10 @@ found-item f it o = go (no_such_item (shown f) it) refl
 
 pub find-opened : (f : List ℕ) (r : Result Held Refusal) (h : Held) (it : Item) (x : Result Found Refusal) → r ≡ open_of f → r ≡ Ok h
     → x ≡ held_found f h it → Bytes f → x ≡ find_of f it
-unfolding find_of held_found
+unfolding find_of
 find-opened f r h it x e g u b =
     let (o, i) = open-opens f h (sym e ∙ g) in
-    u ∙ ap or_no_such (shown-item f b o h i it) ∙ found-item f (item_of it) o
+    u ∙ shown-item f b o h i it ∙ found-item f (item_of it) o
 
 module _ (f : List ℕ) (it : Item) (r : Result Found Refusal) (e : r ≡ find_of f it) where
   pub none-refused : (x : Found) → r ≡ Ok x → None ≡ refusal_in f (item_of it)

@@ -33,7 +33,7 @@ use Rattle.front.specs.Front.{definition_at, whole_definition}
 use Rattle.front.specs.declared.DefinitionAt.{DefinitionAt}
 use Rattle.opening.specs.declared.Held.{Held}
 use Rattle.reading.specs.Read.{item_of, found_in}
-use Rattle.items.specs.Items.{found_at, frame_place, held_section, definition_place, held_name, next_at, held_configuration, name_of, value_of, held_item}
+use Rattle.items.specs.Items.{found_at, frame_place, held_section, definition_place, held_name, next_at, held_configuration, name_of, value_of, held_item, held_found, or_no_such}
 use Rattle.items.specs.declared.Item.{Item}
 use Rattle.items.specs.declared.Item.TheVariants as item
 use Rattle.reading.proofs.Standing.{configurations-next}
@@ -216,13 +216,18 @@ module _ (f : List ℕ) (b : Bytes f) (o : refusal f ≡ 0) where
         (value_start (user_start (shown f)) (shown f).user i) (length (get_or (shown f).user i no_tag).value)) None
     shown-user i = rw (held-user f b o h e) (tag_in f (user_start (shown f)) _ i (shown f).user (user-read f b o))
 
-    pub shown-item : (it : Item) → held_item f h it ≡ found_in (shown f) (item_of it)
+    shown-held : (it : Item) → held_item f h it ≡ found_in (shown f) (item_of it)
     unfolding item_of found_in no_such_item item_start item_bytes
-    shown-item (item.Section i j) = shown-section h.frames h.index h.sections i j (held-frames f b o h e) (held-index f b o h e)
+    shown-held (item.Section i j) = shown-section h.frames h.index h.sections i j (held-frames f b o h e) (held-index f b o h e)
         (held-sections f b o h e)
-    shown-item (item.SectionName i) = shown-name i h.sections (held-sections f b o h e)
-    shown-item (item.Configuration i) = shown-configuration i h.sections (held-sections f b o h e) h.system (held-system f b o h e)
-    shown-item (item.SystemName i) = ap name_of (shown-system i) ∙ name-or (ltb i (length (shown f).system)) _ _ _ _
-    shown-item (item.SystemValue i) = ap value_of (shown-system i) ∙ value-or (ltb i (length (shown f).system)) _ _ _ _
-    shown-item (item.UserName i) = ap name_of (shown-user i) ∙ name-or (ltb i (length (shown f).user)) _ _ _ _
-    shown-item (item.UserValue i) = ap value_of (shown-user i) ∙ value-or (ltb i (length (shown f).user)) _ _ _ _
+    shown-held (item.SectionName i) = shown-name i h.sections (held-sections f b o h e)
+    shown-held (item.Configuration i) = shown-configuration i h.sections (held-sections f b o h e) h.system (held-system f b o h e)
+    shown-held (item.SystemName i) = ap name_of (shown-system i) ∙ name-or (ltb i (length (shown f).system)) _ _ _ _
+    shown-held (item.SystemValue i) = ap value_of (shown-system i) ∙ value-or (ltb i (length (shown f).system)) _ _ _ _
+    shown-held (item.UserName i) = ap name_of (shown-user i) ∙ name-or (ltb i (length (shown f).user)) _ _ _ _
+    shown-held (item.UserValue i) = ap value_of (shown-user i) ∙ value-or (ltb i (length (shown f).user)) _ _ _ _
+
+    -- the same of the call's answer
+    pub shown-item : (it : Item) → held_found f h it ≡ or_no_such (found_in (shown f) (item_of it))
+    unfolding held_found
+    shown-item it = ap or_no_such (shown-held it)

@@ -38,7 +38,8 @@ in_order p =
     NotFstf ∷ Revision ∷ Sections p ∷ SystemTable p ∷ NotClosed ∷ Index ∷ UserTable p ∷ NoSuchItem ∷ NoRoom ∷ Sheet p ∷ Conflict p ∷ Stage
     ∷ Clock ∷ FrameShape ∷ Full ∷ Whole ∷ TableFull ∷ []
 
--- the refusal of a number, with its place where it carries one; a number that is none of document 01's stands for the last
+-- the refusal of a number from 1 to 17, with its place where it carries one; 0 and what is over 17 are no numbers of document 01's, and stand for the
+-- first and the last
 abbrev pub placed : (number place : ℕ) → Refusal
 placed n p = get_or (in_order p) (n - 1) TableFull
 

@@ -103,7 +103,7 @@ pub record Lengths (f : List ℕ) (sections start : ℕ) (r : Result Walked Refu
 unfoldable pub frames_in : List ℕ → (sections count place : ℕ) → ℕ
 frames_in f sections count place = length (walk count sections (drop place f)).frames
 
--- each of these frames has that length; of 0 nothing is said
+-- each of these frames has that length; where there is none nothing is said
 unfoldable pub alike : (common : Option ℕ) → List Frame → Bool
 alike None frames = true
 alike (Some n) [] = true

@@ -48,13 +48,13 @@ pub fn takes_close(stage: Stage) -> bool
 pub fn is_running(stage: Stage) -> bool
     ensures { result ≡ is_running (stage_of stage) }
 {
-    stage == Stage::Running
+    matches!(stage, Stage::Running)
 }
 
 pub fn is_fresh(stage: Stage) -> bool
     ensures { result ≡ is_fresh (stage_of stage) }
 {
-    stage == Stage::Fresh
+    matches!(stage, Stage::Fresh)
 }
 
 pub fn stage_after(piece: u8) -> Stage
