@@ -3,13 +3,19 @@
 -- Assumes nothing.
 use Prim.Native.Nat.{ℕ, zero, suc, ◌≤◌}
 use native.Mathlib.Omega.{arith}
-use mathlib.Core.Path.{◌≡◌, refl, sym}
+use mathlib.Core.Path.{◌≡◌, refl, sym, ap, ◌∙◌}
 use mathlib.Core.Bool.{Bool, true, false}
 use mathlib.Core.List.{List, [], ◌∷◌, ◌++◌}
 use lib.Dec.{ltb}
 use lib.ListN.{length}
 use borrow.Author.Tests.{ltb-true}
-use Rattle.std.specs.Prelude.{ℤ}
+use Rattle.std.specs.Prelude.{ℤ, Result, Ok, Err}
+use Rattle.refusal.specs.declared.Refusal.{Refusal}
+use Rattle.opening.specs.declared.Held.{Held}
+use Rattle.items.specs.declared.Found.{Found}
+use Rattle.items.specs.declared.FrameRead.{FrameRead}
+use Rattle.repair.specs.declared.Repaired.{Repaired}
+use Rattle.saving.specs.declared.Looked.{Looked}
 use Rattle.std.specs.Int.{w64}
 use Rattle.std.proofs.Common.{of_z}
 use Rattle.number.proofs.Bytes.{both_true}
@@ -20,7 +26,7 @@ use Rattle.layout.specs.Recorder.{State, Step, begin_place, begin_lines, add_lin
 use Rattle.layout.specs.Repair.{Repair, repair_lines, repair_refusal, repair_answer, repair}
 use Rattle.layout.specs.Saving.{look_place, look_lines, look_refusal, look_answer, look, table_lines, commit_place, commit_lines, commit_refusal, commit_answer, commit}
 use Rattle.layout.specs.OldSheets.{old_sheet_place, convert_lines, convert_refusal, convert_answer, convert}
-use Rattle.refusal.specs.Refusal.{place_of, placed, unless}
+use Rattle.refusal.specs.Refusal.{number_of, place_of, placed, unless}
 use Rattle.refusal.proofs.Numbers.{number_kept}
 use Rattle.opening.specs.Opened.{held_of, open_of}
 use Rattle.items.specs.declared.Item.{Item}
@@ -120,219 +126,196 @@ placed-place p b (suc (suc (suc (suc (suc (suc (suc (suc (suc (suc (suc (suc (su
 placed-place p b (suc (suc (suc (suc (suc (suc (suc (suc (suc (suc (suc (suc (suc (suc (suc (suc (suc zero))))))))))))))))) h = sym b.12
 placed-place p b (suc (suc (suc (suc (suc (suc (suc (suc (suc (suc (suc (suc (suc (suc (suc (suc (suc (suc n)))))))))))))))))) h = absurd (omega arith)
 
--- ── The calls ──
+-- ── What an answer says ──
 
+-- its number and its place; 0 and 0 where it is not refused
+pub record Told : Type 0 where
+  pub number : ℕ
+  pub place : ℕ
+
+abbrev handed : (number place : ℕ) → Told
+handed n p = record { number = n; place = p }
+
+says : {A : Type 0} → Result A Refusal → Told
+says (Ok x) = handed 0 0
+says (Err r) = handed (number_of r) (place_of r)
+
+told : {A : Type 0} (p : ℕ → ℕ) → Bare p → (x : A) (n : ℕ) → n ≤ 17 → says (unless n (p n) x) ≡ handed n (p n)
+unfolding says unless
+told p b x zero h = ap (λ q. handed 0 q) (sym b.0)
+told p b x (suc k) h = rw (number_kept (suc k) (p (suc k)) (omega arith) h, placed-place p b (suc k) h) refl
+
+-- the places that go with a call's numbers
 opening-bare : (f : List ℕ) → Bare (λ n. opening_place n f)
 unfolding opening_place
 opening-bare f = (refl, refl, refl, refl, refl, refl, refl, refl, refl, refl, refl, refl, refl)
-
-pub fstf-open-carries : (f : List ℕ) → (opened_flat (open_of f)).place ≡ opening_place (refusal f) f
-unfolding open_of unless
-fstf-open-carries f = go (refusal f) (opening-within f)
-  where
-    go : (n : ℕ) → n ≤ 17 → (opened_flat (unless n (opening_place n f) (held_of f))).place ≡ opening_place n f
-    go zero h = sym (opening-bare f).0
-    go (suc k) h = placed-place (λ n. opening_place n f) (opening-bare f) (suc k) h
-
-pub fstf-open-number : (f : List ℕ) → (opened_flat (open_of f)).refused ≡ refusal f
-unfolding open_of unless
-fstf-open-number f = go (refusal f) (opening-within f)
-  where
-    go : (n : ℕ) → n ≤ 17 → (opened_flat (unless n (opening_place n f) (held_of f))).refused ≡ n
-    go zero h = refl
-    go (suc k) h = number_kept (suc k) (opening_place (suc k) f) (omega arith) h
-
-pub fstf-part-carries : (f : List ℕ) (it : Item) → (part_flat (find_of f it)).place ≡ opening_place (item_refusal f (item_of it)) f
-unfolding find_of unless
-fstf-part-carries f it = go (item_refusal f (item_of it)) (item-within f it)
-  where
-    go : (n : ℕ) → n ≤ 17 → (part_flat (unless n (opening_place n f) (found_as (item_part f (item_of it))))).place ≡ opening_place n f
-    go zero h = sym (opening-bare f).0
-    go (suc k) h = placed-place (λ n. opening_place n f) (opening-bare f) (suc k) h
-
-pub fstf-part-number : (f : List ℕ) (it : Item) → (part_flat (find_of f it)).refused ≡ item_refusal f (item_of it)
-unfolding find_of unless
-fstf-part-number f it = go (item_refusal f (item_of it)) (item-within f it)
-  where
-    go : (n : ℕ) → n ≤ 17 → (part_flat (unless n (opening_place n f) (found_as (item_part f (item_of it))))).refused ≡ n
-    go zero h = refl
-    go (suc k) h = number_kept (suc k) (opening_place (suc k) f) (omega arith) h
-
-pub fstf-frame-carries : (f : List ℕ) (i : ℕ) → (frame_flat (frame_read_of f i)).place ≡ opening_place (frame_refusal f i) f
-unfolding frame_read_of unless
-fstf-frame-carries f i = go (frame_refusal f i) (frame-within f i)
-  where
-    go : (n : ℕ) → n ≤ 17 → (frame_flat (unless n (opening_place n f) (read_as (frame_shown f i)))).place ≡ opening_place n f
-    go zero h = sym (opening-bare f).0
-    go (suc k) h = placed-place (λ n. opening_place n f) (opening-bare f) (suc k) h
-
-pub fstf-frame-number : (f : List ℕ) (i : ℕ) → (frame_flat (frame_read_of f i)).refused ≡ frame_refusal f i
-unfolding frame_read_of unless
-fstf-frame-number f i = go (frame_refusal f i) (frame-within f i)
-  where
-    go : (n : ℕ) → n ≤ 17 → (frame_flat (unless n (opening_place n f) (read_as (frame_shown f i)))).refused ≡ n
-    go zero h = refl
-    go (suc k) h = number_kept (suc k) (opening_place (suc k) f) (omega arith) h
-
-pub fstf-repair-carries : (f out : List ℕ) → (made_flat (repair_of f out)).answer.place ≡ opening_place (repair_refusal f (length out)) f
-unfolding made_flat repair_of repairing.made_of answer_of repair repair_answer unless
-fstf-repair-carries f out = go (repair_refusal f (length out)) (repair-within f (length out)) _ refl
-  where
-    go : (n : ℕ) → n ≤ 17 → (r : Repair) → r.refused ≡ 0
-        → (repaired_flat (answer_of (repair_answer n r).refused (opening_place n f) (repair_answer n r))).place ≡ opening_place n f
-    go zero h r e = rw e (sym (opening-bare f).0)
-    go (suc k) h r e = placed-place (λ n. opening_place n f) (opening-bare f) (suc k) h
-
-pub fstf-repair-number : (f out : List ℕ) → (made_flat (repair_of f out)).answer.refused ≡ repair_refusal f (length out)
-unfolding made_flat repair_of repairing.made_of answer_of repair repair_answer unless
-fstf-repair-number f out = go (repair_refusal f (length out)) (repair-within f (length out)) (opening_place (repair_refusal f (length out)) f) _ refl
-  where
-    go : (n : ℕ) → n ≤ 17 → (p : ℕ) (r : Repair) → r.refused ≡ 0
-        → (repaired_flat (answer_of (repair_answer n r).refused p (repair_answer n r))).refused ≡ n
-    go zero h p r e = rw e refl
-    go (suc k) h p r e = number_kept (suc k) p (omega arith) h
 
 look-bare : (f s : List ℕ) → Bare (λ n. look_place n f s)
 unfolding look_place opening_place
 look-bare f s = (refl, refl, refl, refl, refl, refl, refl, refl, refl, refl, refl, refl, refl)
 
-pub fstf-look-carries : (f s : List ℕ) → (looked_flat (look_of f s)).place ≡ look_place (look_refusal f s) f s
-unfolding look_of look look_answer unless
-fstf-look-carries f s = go (look_refusal f s) (look-within f s) _
-  where
-    go : (n : ℕ) → n ≤ 17 → (bs : List Bool)
-        → (looked_flat (unless (look_answer n (look_place n f s) bs).refused (look_answer n (look_place n f s) bs).place
-        (looked (look_answer n (look_place n f s) bs)))).place ≡ look_place n f s
-    go zero h bs = sym (look-bare f s).0
-    go (suc k) h bs = placed-place (λ n. look_place n f s) (look-bare f s) (suc k) h
-
-pub fstf-look-number : (f s : List ℕ) → (looked_flat (look_of f s)).refused ≡ look_refusal f s
-unfolding look_of look look_answer unless
-fstf-look-number f s = go (look_refusal f s) (look-within f s) _ _
-  where
-    go : (n : ℕ) → n ≤ 17 → (p : ℕ) (bs : List Bool)
-        → (looked_flat (unless (look_answer n p bs).refused (look_answer n p bs).place (looked (look_answer n p bs)))).refused ≡ n
-    go zero h p bs = refl
-    go (suc k) h p bs = number_kept (suc k) p (omega arith) h
-
 commit-bare : (f s : List ℕ) → Bare (λ n. commit_place n f s)
 unfolding commit_place look_place opening_place
 commit-bare f s = (refl, refl, refl, refl, refl, refl, refl, refl, refl, refl, refl, refl, refl)
-
-pub fstf-commit-carries : (f s out : List ℕ)
-    → (outcome_flat (commit_of f s out)).answer.place ≡ commit_place (commit_refusal f s (length out)) f s
-unfolding outcome_flat commit_of committed_as commit commit_answer unless
-fstf-commit-carries f s out = go (commit_refusal f s (length out)) (commit-within f s (length out)) _
-  where
-    go : (n : ℕ) → n ≤ 17 → (ts : List Tag)
-        → (committed_flat (unless (commit_answer n (commit_place n f s) ts).refused (commit_answer n (commit_place n f s) ts).place
-        (length (commit_answer n (commit_place n f s) ts).table))).place ≡ commit_place n f s
-    go zero h ts = sym (commit-bare f s).0
-    go (suc k) h ts = placed-place (λ n. commit_place n f s) (commit-bare f s) (suc k) h
-
-pub fstf-commit-number : (f s out : List ℕ) → (outcome_flat (commit_of f s out)).answer.refused ≡ commit_refusal f s (length out)
-unfolding outcome_flat commit_of committed_as commit commit_answer unless
-fstf-commit-number f s out = go (commit_refusal f s (length out)) (commit-within f s (length out)) _ _
-  where
-    go : (n : ℕ) → n ≤ 17 → (p : ℕ) (ts : List Tag)
-        → (committed_flat (unless (commit_answer n p ts).refused (commit_answer n p ts).place (length (commit_answer n p ts).table))).refused ≡ n
-    go zero h p ts = refl
-    go (suc k) h p ts = number_kept (suc k) p (omega arith) h
 
 convert-bare : (f s : List ℕ) → Bare (λ n. old_sheet_place n f s)
 unfolding old_sheet_place opening_place
 convert-bare f s = (refl, refl, refl, refl, refl, refl, refl, refl, refl, refl, refl, refl, refl)
 
-pub fstf-convert-carries : (f s out : List ℕ)
-    → (conversion_flat (convert_of f s out)).answer.place ≡ old_sheet_place (convert_refusal f s (length out)) f s
-unfolding conversion_flat convert_of converted_as convert convert_answer unless
-fstf-convert-carries f s out = go (convert_refusal f s (length out)) (convert-within f s (length out)) _
+begin-bare : (setup system : List ℕ) → Bare (λ n. begin_place n setup system)
+unfolding begin_place
+begin-bare setup system = (refl, refl, refl, refl, refl, refl, refl, refl, refl, refl, refl, refl, refl)
+
+none-bare : Bare (λ n. 0)
+none-bare = (refl, refl, refl, refl, refl, refl, refl, refl, refl, refl, refl, refl, refl)
+
+-- ── The calls ──
+
+opened-says : (r : Result Held Refusal) → handed (opened_flat r).refused (opened_flat r).place ≡ says r
+unfolding says
+opened-says (Ok x) = refl
+opened-says (Err r) = refl
+
+pub fstf-open-told : (f : List ℕ) → handed (opened_flat (open_of f)).refused (opened_flat (open_of f)).place ≡ handed (refusal f) (opening_place (refusal f) f)
+unfolding open_of
+fstf-open-told f = opened-says (open_of f) ∙ told (λ n. opening_place n f) (opening-bare f) (held_of f) (refusal f) (opening-within f)
+
+part-says : (r : Result Found Refusal) → handed (part_flat r).refused (part_flat r).place ≡ says r
+unfolding says
+part-says (Ok x) = refl
+part-says (Err r) = refl
+
+pub fstf-part-told : (f : List ℕ) (it : Item)
+    → handed (part_flat (find_of f it)).refused (part_flat (find_of f it)).place
+    ≡ handed (item_refusal f (item_of it)) (opening_place (item_refusal f (item_of it)) f)
+unfolding find_of
+fstf-part-told f it =
+    part-says (find_of f it)
+    ∙ told (λ n. opening_place n f) (opening-bare f) (found_as (item_part f (item_of it))) (item_refusal f (item_of it)) (item-within f it)
+
+frame-says : (r : Result FrameRead Refusal) → handed (frame_flat r).refused (frame_flat r).place ≡ says r
+unfolding says
+frame-says (Ok x) = refl
+frame-says (Err r) = refl
+
+pub fstf-frame-told : (f : List ℕ) (i : ℕ)
+    → handed (frame_flat (frame_read_of f i)).refused (frame_flat (frame_read_of f i)).place ≡ handed (frame_refusal f i) (opening_place (frame_refusal f i) f)
+unfolding frame_read_of
+fstf-frame-told f i =
+    frame-says (frame_read_of f i) ∙ told (λ n. opening_place n f) (opening-bare f) (read_as (frame_shown f i)) (frame_refusal f i) (frame-within f i)
+
+repair-refused : (n : ℕ) (r : Repair) → r.refused ≡ 0 → (repair_answer n r).refused ≡ n
+unfolding repair_answer
+repair-refused zero r e = e
+repair-refused (suc k) r e = refl
+
+repaired-says : (r : Result Repaired Refusal) → handed (repaired_flat r).refused (repaired_flat r).place ≡ says r
+unfolding says
+repaired-says (Ok x) = refl
+repaired-says (Err r) = refl
+
+pub fstf-repair-told : (f out : List ℕ)
+    → handed (made_flat (repair_of f out)).answer.refused (made_flat (repair_of f out)).answer.place
+    ≡ handed (repair_refusal f (length out)) (opening_place (repair_refusal f (length out)) f)
+unfolding made_flat repair_of repairing.made_of answer_of repair
+fstf-repair-told f out = repaired-says _ ∙ go (repair_refusal f (length out)) (repair-within f (length out)) _ refl
+  where
+    go : (n : ℕ) → n ≤ 17 → (r : Repair) → r.refused ≡ 0 → says (answer_of (repair_answer n r).refused (opening_place n f) (repair_answer n r)) ≡ handed n (opening_place n f)
+    go n h r e = rw (repair-refused n r e) (told (λ n. opening_place n f) (opening-bare f) _ n h)
+
+looked-says : (r : Result Looked Refusal) → handed (looked_flat r).refused (looked_flat r).place ≡ says r
+unfolding says
+looked-says (Ok x) = refl
+looked-says (Err r) = refl
+
+pub fstf-look-told : (f s : List ℕ)
+    → handed (looked_flat (look_of f s)).refused (looked_flat (look_of f s)).place ≡ handed (look_refusal f s) (look_place (look_refusal f s) f s)
+unfolding look_of look look_answer says unless
+fstf-look-told f s = looked-says (look_of f s) ∙ go (look_refusal f s) (look-within f s) _
+  where
+    go : (n : ℕ) → n ≤ 17 → (bs : List Bool)
+        → says (unless (look_answer n (look_place n f s) bs).refused (look_answer n (look_place n f s) bs).place (looked (look_answer n (look_place n f s) bs)))
+        ≡ handed n (look_place n f s)
+    go zero h bs = told {A = ℕ} (λ n. look_place n f s) (look-bare f s) 0 zero h
+    go (suc k) h bs = told {A = ℕ} (λ n. look_place n f s) (look-bare f s) 0 (suc k) h
+
+committed-says : (r : Result ℕ Refusal) → handed (committed_flat r).refused (committed_flat r).place ≡ says r
+unfolding says
+committed-says (Ok x) = refl
+committed-says (Err r) = refl
+
+pub fstf-commit-told : (f s out : List ℕ)
+    → handed (outcome_flat (commit_of f s out)).answer.refused (outcome_flat (commit_of f s out)).answer.place
+    ≡ handed (commit_refusal f s (length out)) (commit_place (commit_refusal f s (length out)) f s)
+unfolding outcome_flat commit_of committed_as commit commit_answer says unless
+fstf-commit-told f s out = committed-says _ ∙ go (commit_refusal f s (length out)) (commit-within f s (length out)) _
+  where
+    go : (n : ℕ) → n ≤ 17 → (ts : List Tag)
+        → says {A = ℕ} (unless (commit_answer n (commit_place n f s) ts).refused (commit_answer n (commit_place n f s) ts).place
+        (length (commit_answer n (commit_place n f s) ts).table))
+        ≡ handed n (commit_place n f s)
+    go zero h ts = told {A = ℕ} (λ n. commit_place n f s) (commit-bare f s) 0 zero h
+    go (suc k) h ts = told {A = ℕ} (λ n. commit_place n f s) (commit-bare f s) 0 (suc k) h
+
+converted-says : (r : Result ℕ Refusal) → handed (converted_flat r).refused (converted_flat r).place ≡ says r
+unfolding says
+converted-says (Ok x) = refl
+converted-says (Err r) = refl
+
+pub fstf-convert-told : (f s out : List ℕ)
+    → handed (conversion_flat (convert_of f s out)).answer.refused (conversion_flat (convert_of f s out)).answer.place
+    ≡ handed (convert_refusal f s (length out)) (old_sheet_place (convert_refusal f s (length out)) f s)
+unfolding conversion_flat convert_of converted_as convert convert_answer says unless
+fstf-convert-told f s out = converted-says _ ∙ go (convert_refusal f s (length out)) (convert-within f s (length out)) _
   where
     go : (n : ℕ) → n ≤ 17 → (bytes : List ℕ)
-        → (converted_flat (unless (convert_answer n (old_sheet_place n f s) bytes).refused (convert_answer n (old_sheet_place n f s) bytes).place
-        (length (convert_answer n (old_sheet_place n f s) bytes).sheet))).place ≡ old_sheet_place n f s
-    go zero h bytes = sym (convert-bare f s).0
-    go (suc k) h bytes = placed-place (λ n. old_sheet_place n f s) (convert-bare f s) (suc k) h
-
-pub fstf-convert-number : (f s out : List ℕ) → (conversion_flat (convert_of f s out)).answer.refused ≡ convert_refusal f s (length out)
-unfolding conversion_flat convert_of converted_as convert convert_answer unless
-fstf-convert-number f s out = go (convert_refusal f s (length out)) (convert-within f s (length out)) _ _
-  where
-    go : (n : ℕ) → n ≤ 17 → (p : ℕ) (bytes : List ℕ)
-        → (converted_flat (unless (convert_answer n p bytes).refused (convert_answer n p bytes).place (length (convert_answer n p bytes).sheet))).refused ≡ n
-    go zero h p bytes = refl
-    go (suc k) h p bytes = number_kept (suc k) p (omega arith) h
+        → says {A = ℕ} (unless (convert_answer n (old_sheet_place n f s) bytes).refused (convert_answer n (old_sheet_place n f s) bytes).place
+        (length (convert_answer n (old_sheet_place n f s) bytes).sheet))
+        ≡ handed n (old_sheet_place n f s)
+    go zero h bytes = told {A = ℕ} (λ n. old_sheet_place n f s) (convert-bare f s) 0 zero h
+    go (suc k) h bytes = told {A = ℕ} (λ n. old_sheet_place n f s) (convert-bare f s) 0 (suc k) h
 
 -- a step of the recorder's, whose own number is 0
-step-number : (flat : FstfRecorder) (self : Recorder) (out : List ℕ) (st : State) (notes : List ℕ) (step : Step) → step.refused ≡ 0
-    → (at n : ℕ) → n ≤ 17 → (recorded_flat flat (made_of at self out (answer n st notes step))).answer.refused ≡ n
-unfolding recorded_flat taken_flat made_of taken_of answered answer
-step-number flat self out st notes step e at zero h = rw e refl
-step-number flat self out st notes step e at (suc k) h = number_kept (suc k) at (omega arith) h
-
-pub fstf-begin-number : (flat : FstfRecorder) (r : Recorder) (setup system notes out : List ℕ)
-    → (recorded_flat flat (begin_of r setup system notes out)).answer.refused ≡ first_of (begin_lines (state_of r) setup system notes (length out))
-unfolding begin_of made_begun begin
-fstf-begin-number flat r setup system notes out =
-    step-number flat r out (state_of r) notes _ refl _ (first_of (begin_lines (state_of r) setup system notes (length out)))
-    (begin-within (state_of r) setup system notes (length out))
-
-pub fstf-add-number : (flat : FstfRecorder) (r : Recorder) (time : ℤ) (exposure : ℕ) (sections notes out : List ℕ)
-    → (recorded_flat flat (add_of r time exposure sections notes out)).answer.refused
-    ≡ first_of (add_lines (state_of r) (of_z w64 time) exposure sections notes (length out))
-unfolding add_of add
-fstf-add-number flat r time exposure sections notes out =
-    step-number flat r out (state_of r) notes _ refl 0 (first_of (add_lines (state_of r) (of_z w64 time) exposure sections notes (length out)))
-    (add-within (state_of r) (of_z w64 time) exposure sections notes (length out))
-
-pub fstf-close-number : (flat : FstfRecorder) (r : Recorder) (notes out : List ℕ)
-    → (recorded_flat flat (close_of r notes out)).answer.refused ≡ first_of (close_lines (state_of r) notes (length out))
-unfolding close_of close
-fstf-close-number flat r notes out =
-    step-number flat r out (state_of r) notes _ refl 0 (first_of (close_lines (state_of r) notes (length out)))
-    (close-within (state_of r) notes (length out))
-
 step-refused : (n : ℕ) (st : State) (notes : List ℕ) (step : Step) → step.refused ≡ 0 → (answer n st notes step).refused ≡ n
 unfolding answer
 step-refused zero st notes step e = e
 step-refused (suc k) st notes step e = refl
 
-step-place : (flat : FstfRecorder) (self : Recorder) (out : List ℕ) (st : State) (notes : List ℕ) (step : Step) → step.refused ≡ 0
-    → (p : ℕ → ℕ) → Bare p → (n : ℕ) → n ≤ 17 → (recorded_flat flat (made_of (p n) self out (answer n st notes step))).answer.place ≡ p n
-unfolding recorded_flat taken_flat made_of taken_of answered answer
-step-place flat self out st notes step e p b zero h = rw e (sym b.0)
-step-place flat self out st notes step e p b (suc k) h = placed-place p b (suc k) h
+step-told : (flat : FstfRecorder) (self : Recorder) (out : List ℕ) (st : State) (notes : List ℕ) (step : Step) → step.refused ≡ 0
+    → (p : ℕ → ℕ) → Bare p → (n : ℕ) → n ≤ 17
+    → handed (recorded_flat flat (made_of (p n) self out (answer n st notes step))).answer.refused (recorded_flat flat (made_of (p n) self out (answer n st notes step))).answer.place
+    ≡ handed n (p n)
+unfolding recorded_flat taken_flat made_of taken_of answered answer says unless
+step-told flat self out st notes step e p b zero h = rw e (told {A = ℕ} p b 0 zero h)
+step-told flat self out st notes step e p b (suc k) h = told {A = ℕ} p b 0 (suc k) h
 
-begin-bare : (setup system : List ℕ) → Bare (λ n. begin_place n setup system)
-unfolding begin_place
-begin-bare setup system = (refl, refl, refl, refl, refl, refl, refl, refl, refl, refl, refl, refl, refl)
-
-pub fstf-begin-carries : (flat : FstfRecorder) (r : Recorder) (setup system notes out : List ℕ)
-    → (recorded_flat flat (begin_of r setup system notes out)).answer.place
-    ≡ begin_place (first_of (begin_lines (state_of r) setup system notes (length out))) setup system
+pub fstf-begin-told : (flat : FstfRecorder) (r : Recorder) (setup system notes out : List ℕ)
+    → handed (recorded_flat flat (begin_of r setup system notes out)).answer.refused (recorded_flat flat (begin_of r setup system notes out)).answer.place
+    ≡ handed (first_of (begin_lines (state_of r) setup system notes (length out)))
+    (begin_place (first_of (begin_lines (state_of r) setup system notes (length out))) setup system)
 unfolding begin_of made_begun begin answer
-fstf-begin-carries flat r setup system notes out =
+fstf-begin-told flat r setup system notes out =
     begun (first_of (begin_lines (state_of r) setup system notes (length out))) (begin-within (state_of r) setup system notes (length out)) _ refl
   where
     begun : (n : ℕ) → n ≤ 17 → (step : Step) → step.refused ≡ 0
-        → (recorded_flat flat (made_of (begin_place (answer n (state_of r) notes step).refused setup system) r out (answer n (state_of r) notes step))).answer.place
-        ≡ begin_place n setup system
+        → handed (recorded_flat flat (made_of (begin_place (answer n (state_of r) notes step).refused setup system) r out (answer n (state_of r) notes step))).answer.refused (recorded_flat flat (made_of (begin_place (answer n (state_of r) notes step).refused setup system) r out (answer n (state_of r) notes step))).answer.place
+        ≡ handed n (begin_place n setup system)
     begun n h step e = rw (step-refused n (state_of r) notes step e)
-        (step-place flat r out (state_of r) notes step e (λ n. begin_place n setup system) (begin-bare setup system) n h)
-
-none-bare : Bare (λ n. 0)
-none-bare = (refl, refl, refl, refl, refl, refl, refl, refl, refl, refl, refl, refl, refl)
+        (step-told flat r out (state_of r) notes step e (λ n. begin_place n setup system) (begin-bare setup system) n h)
 
 -- no number of the other calls carries a place
-pub fstf-add-carries : (flat : FstfRecorder) (r : Recorder) (time : ℤ) (exposure : ℕ) (sections notes out : List ℕ)
-    → (recorded_flat flat (add_of r time exposure sections notes out)).answer.place ≡ 0
+pub fstf-add-told : (flat : FstfRecorder) (r : Recorder) (time : ℤ) (exposure : ℕ) (sections notes out : List ℕ)
+    → handed (recorded_flat flat (add_of r time exposure sections notes out)).answer.refused (recorded_flat flat (add_of r time exposure sections notes out)).answer.place
+    ≡ handed (first_of (add_lines (state_of r) (of_z w64 time) exposure sections notes (length out))) 0
 unfolding add_of add
-fstf-add-carries flat r time exposure sections notes out =
-    step-place flat r out (state_of r) notes _ refl (λ n. 0) none-bare (first_of (add_lines (state_of r) (of_z w64 time) exposure sections notes (length out)))
+fstf-add-told flat r time exposure sections notes out =
+    step-told flat r out (state_of r) notes _ refl (λ n. 0) none-bare (first_of (add_lines (state_of r) (of_z w64 time) exposure sections notes (length out)))
     (add-within (state_of r) (of_z w64 time) exposure sections notes (length out))
 
-pub fstf-close-carries : (flat : FstfRecorder) (r : Recorder) (notes out : List ℕ) → (recorded_flat flat (close_of r notes out)).answer.place ≡ 0
+pub fstf-close-told : (flat : FstfRecorder) (r : Recorder) (notes out : List ℕ)
+    → handed (recorded_flat flat (close_of r notes out)).answer.refused (recorded_flat flat (close_of r notes out)).answer.place
+    ≡ handed (first_of (close_lines (state_of r) notes (length out))) 0
 unfolding close_of close
-fstf-close-carries flat r notes out =
-    step-place flat r out (state_of r) notes _ refl (λ n. 0) none-bare (first_of (close_lines (state_of r) notes (length out)))
+fstf-close-told flat r notes out =
+    step-told flat r out (state_of r) notes _ refl (λ n. 0) none-bare (first_of (close_lines (state_of r) notes (length out)))
     (close-within (state_of r) notes (length out))
