@@ -110,7 +110,7 @@ def look(module):
     foreign = [name for name in re.findall(r"^declare .*?@([\w.]+)\(", module, re.M) if not re.match(r"llvm\.(?!x86\b)", name)]
     if foreign:
         refuse(f"the module declares {foreign}")
-    memory = set(re.findall(r" load (\{.*?\}|\S+), ptr ", module)) | set(re.findall(r" store (\{.*?\}|\S+) ", module))
+    memory = set(re.findall(r" load (\{.*?\}|[^{].*?), ptr ", module)) | set(re.findall(r" store (\{.*?\}|\S+) ", module))
     # two numbers or pointers stand at the same places on both: the second at the next multiple of its own length
     pairs = {kind for kind in memory if re.fullmatch(r"\{ (i\d+|ptr), (i\d+|ptr) \}", kind) and set(re.findall(r"i\d+", kind)) <= NUMBERS}
     if memory - NUMBERS - pairs - {"ptr"}:

@@ -52,6 +52,7 @@ CHANGES = [
     (" || ", [" && "]),
     (" += ", [" -= "]),
     (" -= ", [" += "]),
+    (" &= ", [" |= "]),
     (" & ", [" | "]),
     (" | ", [" & "]),
     (" ^ ", [" & "]),
@@ -68,10 +69,21 @@ OPEN = re.compile(r"it is not proved that|of a `search` in the proof that rattle
 NAMES = re.compile(r"has no field|is not in scope|has no `|exports no such name|was not admitted")
 
 
+def within(line):
+    """What the prover puts ahead of the names of an impl's functions: its type, and behind it the words of its trait."""
+    named = re.match(r"impl(?:<.*?>)? (?:(.+) for )?(\w+)", line)
+    words = re.findall(r"\w+(?!\w|::)", named[1] or "")
+    return named[2] + "".join(word[0].upper() + word[1:] for word in words) + "::"
+
+
 def bodies(lines):
-    """Each function's name, and its lines between the braces. `rt fmt` puts both braces at the function's own indent."""
-    found = []
+    """Each function's name, as the prover says it, and its lines between the braces. `rt fmt` puts both braces at the function's own indent."""
+    found, ahead = [], ""
     for number, line in enumerate(lines):
+        if line.startswith("impl"):
+            ahead = within(line)
+        elif line == "}":
+            ahead = ""
         start = re.match(r'( *)(?:pub )?(?:extern "C" )?fn (\w+)', line)
         if not start:
             continue
@@ -80,7 +92,7 @@ def bodies(lines):
         while not opens(lines[first], indent):
             first += 1
         last = lines.index(indent + "}", first)
-        found.append((start.group(2), range(first + 1, last)))
+        found.append((ahead + start.group(2), range(first + 1, last)))
     return found
 
 
@@ -99,7 +111,7 @@ def told(said):
     """By each function, what is said of it: its verdict, and the notes on it, which stand above."""
     found, notes = {}, []
     for line in said.splitlines():
-        verdict = re.match(r"(?:fn|struct|enum) [\w:]*?(\w+): (.*)", line)
+        verdict = re.match(r"(?:fn|struct|enum) \w+::([\w:]+): (.*)", line)
         if verdict:
             found[verdict[1]] = [verdict[2], *notes]
             notes = []
@@ -110,7 +122,7 @@ def told(said):
 
 def errors_of(function, said):
     """The errors in the files of a function's proof: the file, and what is said."""
-    return re.findall(r"^\./(proofs/(?:[\w+]+/)*" + function + r"/\w+\.antt)(?::\d+:\d+)?: error: (.*)", said, re.M)
+    return re.findall(r"^\./(proofs/(?:[\w+]+/)*" + function.replace("::", "/") + r"/\w+\.antt)(?::\d+:\d+)?: error: (.*)", said, re.M)
 
 
 def without(answers, name):
@@ -244,12 +256,14 @@ class Crate:
             print(f"{kind}: {self.name}/{edit.label}", flush=True)
 
     def placed(self, edit):
-        """The function that an edit changes, with the number of its line and the changed line; nothing where it is in no function of this page."""
-        if edit.page == "src/lib.rt":
-            number = next(n for n, line in enumerate(self.lines) if edit.old in line)
+        """The function that an edit changes, with the number of its line and the changed line; nothing where it is in no function of this page, or of several
+        pairs."""
+        if edit.page == "src/lib.rt" and len(edit.pairs) == 1:
+            [(old, new)] = edit.pairs
+            number = next(n for n, line in enumerate(self.lines) if old in line)
             for function, body in bodies(self.lines):
                 if number in body:
-                    return function, (number, self.lines[number].replace(edit.old, edit.new))
+                    return function, (number, self.lines[number].replace(old, new))
         return None, None
 
     def ask_page(self, edit):
@@ -257,7 +271,7 @@ class Crate:
         the prover's own search for its proof does."""
         page = COPY / "crates" / self.name / edit.page
         text = page.read_text()
-        page.write_text(text.replace(edit.old, edit.new))
+        page.write_text(edit.made(text))
         said, proved = checked(self.name)
         page.write_text(text)
         if proved:
@@ -267,16 +281,24 @@ class Crate:
         return FACT if at_fact else SHAPE
 
 
-Edit = collections.namedtuple("Edit", "label page old new")
+class Edit(collections.namedtuple("Edit", "label page pairs")):
+    def made(self, text):
+        """The page with each old text changed, one after another; ValueError where one does not stand in it once."""
+        for old, new in self.pairs:
+            if text.count(old) != 1:
+                raise ValueError(f"{self.label}: its old text does not stand once in {self.page}: {old}")
+            text = text.replace(old, new)
+        return text
 
 
 def edits_of(name):
     found = []
     for path in sorted((ROOT / "crates" / name / "must-fail").glob("*.edit")):
-        says = dict(line.split(": ", 1) for line in path.read_text().splitlines() if re.match(r"(file|old|new): ", line))
-        edit = Edit(path.stem, says["file"], says["old"], says["new"])
-        if (ROOT / "crates" / name / edit.page).read_text().count(edit.old) != 1:
-            raise ValueError(f"{path.relative_to(ROOT)}: its old text does not stand once in {edit.page}")
+        says = {"file": [], "old": [], "new": []}
+        for word, text in re.findall(r"^(file|old|new): (.*)$", path.read_text(), re.M):
+            says[word].append(text)
+        edit = Edit(path.stem, says["file"][0], list(zip(says["old"], says["new"], strict=True)))
+        edit.made((ROOT / "crates" / name / edit.page).read_text())
         found.append(edit)
     return found
 

@@ -148,7 +148,10 @@ fn refusal_of(setup: &[u8], system: &[u8], notes: usize, room: usize) -> Result<
     ensures { result ≡ piece_refused setup.now system.now notes room }
 {
     setup::list_refusal(setup)?;
-    setup::system_refusal(system)?;
+    match setup::system_refusal(system) {
+        Ok(_) => {}
+        Err(refusal) => return Err(refusal),
+    }
     if room < system.len() {
         return Err(Refusal::NoRoom);
     }

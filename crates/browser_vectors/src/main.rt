@@ -6,9 +6,9 @@ use cursor::Cursor;
 use refusal::Refusal;
 use std::io;
 use tables::TagFound;
-use vector::counted;
 use vector::print::{no_vector, refused, say, with, with_sum};
-use vector::sweep::{Tally, sweep};
+use vector::sweep::{Step, Tally, sweep};
+use vector::{Program, counted};
 
 const NAMED: u8 = b'n';
 
@@ -93,10 +93,14 @@ fn named(rt: &impl Print, fields: &[u8]) -> io::Result<()> {
 }
 
 // The browser, a tag by its name, and a cursor, one after another.
-fn tried(table: &[u8], before: Tally) -> Tally {
-    let browsed = vector::sweep::tried(before, browser::tag_at(table, 0).err());
-    let named = vector::sweep::tried(browsed, browser::tag_named(table, b"A").err());
-    vector::sweep::tried(named, cursor::first_tag(table).err())
+struct Browsing;
+
+impl Step for Browsing {
+    fn tried(&self, table: &[u8], before: Tally) -> Tally {
+        let browsed = vector::sweep::tried(before, browser::tag_at(table, 0).err());
+        let named = vector::sweep::tried(browsed, browser::tag_named(table, b"A").err());
+        vector::sweep::tried(named, cursor::first_tag(table).err())
+    }
 }
 
 // The values of a sweep, and behind them the table.
@@ -104,19 +108,23 @@ fn swept(rt: &impl Print, fields: &[u8]) -> io::Result<()> {
     let Some((values, base)) = counted(fields, 1) else {
         return no_vector(rt);
     };
-    sweep(rt, base, values, tried)
+    sweep(rt, base, values, &Browsing)
 }
 
-// The call that a vector holds, by its first byte.
-fn answer(rt: &impl Print, vector: &[u8]) -> io::Result<()> {
-    match vector.split_first() {
-        Some((&NAMED, fields)) => named(rt, fields),
-        Some((&SWEEP, fields)) => swept(rt, fields),
-        Some((&TAG, fields)) => browse(rt, fields),
-        _ => no_vector(rt),
+// The call that a vector holds is told by its first byte.
+struct Vectors;
+
+impl Program for Vectors {
+    fn answer(rt: &impl Print, vector: &[u8]) -> io::Result<()> {
+        match vector.split_first() {
+            Some((&NAMED, fields)) => named(rt, fields),
+            Some((&SWEEP, fields)) => swept(rt, fields),
+            Some((&TAG, fields)) => browse(rt, fields),
+            _ => no_vector(rt),
+        }
     }
 }
 
 fn main(rt: HostRuntime) -> io::Result<()> {
-    vector::each(&rt, |vector| answer(&rt, vector))
+    vector::each::<Vectors, HostRuntime>(&rt)
 }

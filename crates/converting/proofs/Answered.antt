@@ -103,7 +103,7 @@ first f bytes out o h = opening-pass f _ (opens-passes f o) ∙ line-pass 10 _ _
 answer_at : (f bytes out : List ℕ) (n p : ℕ) (q : Refusal) → convert_refusal f bytes (length out) ≡ suc n → old_sheet_place (suc n) f bytes ≡ p
     → q ≡ placed (suc n) p → applying (Err q) out ≡ convert_of f bytes out
 unfolding convert_of converted_as unless convert convert_answer filled
-answer_at f bytes out n p q e h i = rw (e, h, i)
+answer_at f bytes out n p q e h i = rw e (ap (λ (k : Refusal). applying (Err k) out) (i ∙ ap (λ (x : ℕ). placed (suc n) x) (sym h)))
 
 pub convert-not : (f bytes out : List ℕ) (a : Result Asked Refusal) (q : Refusal) → a ≡ asked_of 2 f bytes → a ≡ Err q
     → applying (Err q) out ≡ convert_of f bytes out

@@ -84,9 +84,9 @@ impl From<Result<usize, Refusal>> for FstfCommitted {
                 place: 0,
                 length: length as u64,
             },
-            Err(refusal) => FstfCommitted {
-                refused: refusal.number() as u64,
-                place: refusal.place() as u64,
+            Err(refused) => FstfCommitted {
+                refused: refused.number() as u64,
+                place: refused.place() as u64,
                 length: 0,
             },
         }
@@ -121,9 +121,9 @@ impl From<Result<usize, Refusal>> for FstfConverted {
                 place: 0,
                 length: length as u64,
             },
-            Err(refusal) => FstfConverted {
-                refused: refusal.number() as u64,
-                place: refusal.place() as u64,
+            Err(why) => FstfConverted {
+                refused: why.number() as u64,
+                place: why.place() as u64,
                 length: 0,
             },
         }

@@ -1,5 +1,5 @@
--- C is handed document 01's own numbers: the number of each call's refusal is that of the first line that holds, and 0 where none does; its place is the one
--- that goes with that number.
+-- C is handed document 01's own numbers: the number of each call's refusal is that of the first line that holds, and 0 where none does, and is at most 17; its
+-- place is the one that goes with that number.
 -- Assumes nothing.
 use Prim.Native.Nat.{ℕ, zero, suc, ◌≤◌}
 use native.Mathlib.Omega.{arith}
@@ -24,10 +24,10 @@ use Rattle.layout.specs.Opening.{Line, line, first_of, front_lines, opening_line
 use Rattle.layout.specs.Items.{no_such_item, no_such_frame, item_refusal, item_part, frame_refusal, frame_shown}
 use Rattle.layout.specs.Recorder.{State, Step, begin_place, begin_lines, add_lines, close_lines, answer, begin, add, close}
 use Rattle.layout.specs.Repair.{Repair, repair_lines, repair_refusal, repair_answer, repair}
-use Rattle.layout.specs.Saving.{look_place, look_lines, look_refusal, look_answer, look, table_lines, commit_place, commit_lines, commit_refusal, commit_answer, commit}
-use Rattle.layout.specs.OldSheets.{old_sheet_place, convert_lines, convert_refusal, convert_answer, convert}
+use Rattle.layout.specs.Saving.{new_table, look_place, look_lines, look_refusal, look_answer, look, table_lines, commit_place, commit_lines, commit_refusal, commit_answer, commit}
+use Rattle.layout.specs.OldSheets.{converted, old_sheet_place, convert_lines, convert_refusal, convert_answer, convert}
 use Rattle.refusal.specs.Refusal.{number_of, place_of, placed, unless}
-use Rattle.refusal.proofs.Numbers.{number_kept}
+use Rattle.refusal.proofs.Numbers.{number_kept, place_kept}
 use Rattle.opening.specs.Opened.{held_of, open_of}
 use Rattle.items.specs.declared.Item.{Item}
 use Rattle.reading.specs.Read.{item_of, find_of, found_as, frame_read_of, read_as}
@@ -59,72 +59,45 @@ first-within (l ∷ ls) e = go l.number l.holds e (first-within ls)
     go n true q i = let l = ltb-true n 18 (both_true (ltb n 18) (every is_numbered ls) q).0 in omega arith
     go n false q i = i (both_true (ltb n 18) (every is_numbered ls) q).1
 
-opening-within : (f : List ℕ) → refusal f ≤ 17
+pub opening-within : (f : List ℕ) → refusal f ≤ 17
 unfolding refusal opening_lines front_lines every is_numbered
 opening-within f = first-within (opening_lines f) refl
 
-item-within : (f : List ℕ) (it : Item) → item_refusal f (item_of it) ≤ 17
+pub item-within : (f : List ℕ) (it : Item) → item_refusal f (item_of it) ≤ 17
 unfolding item_refusal opening_lines front_lines every is_numbered
 item-within f it = first-within (opening_lines f ++ (line 8 (no_such_item (shown f) (item_of it)) ∷ [])) refl
 
-frame-within : (f : List ℕ) (i : ℕ) → frame_refusal f i ≤ 17
+pub frame-within : (f : List ℕ) (i : ℕ) → frame_refusal f i ≤ 17
 unfolding frame_refusal opening_lines front_lines every is_numbered
 frame-within f i = first-within (opening_lines f ++ (line 8 (no_such_frame (shown f) i) ∷ [])) refl
 
-repair-within : (f : List ℕ) (room : ℕ) → repair_refusal f room ≤ 17
+pub repair-within : (f : List ℕ) (room : ℕ) → repair_refusal f room ≤ 17
 unfolding repair_refusal repair_lines front_lines every is_numbered
 repair-within f room = first-within (repair_lines f room) refl
 
-look-within : (f s : List ℕ) → look_refusal f s ≤ 17
+pub look-within : (f s : List ℕ) → look_refusal f s ≤ 17
 unfolding look_refusal look_lines opening_lines front_lines every is_numbered
 look-within f s = first-within (look_lines f s) refl
 
-commit-within : (f s : List ℕ) (room : ℕ) → commit_refusal f s room ≤ 17
+pub commit-within : (f s : List ℕ) (room : ℕ) → commit_refusal f s room ≤ 17
 unfolding commit_refusal commit_lines look_lines table_lines opening_lines front_lines every is_numbered
 commit-within f s room = first-within (commit_lines f s room) refl
 
-convert-within : (f s : List ℕ) (room : ℕ) → convert_refusal f s room ≤ 17
+pub convert-within : (f s : List ℕ) (room : ℕ) → convert_refusal f s room ≤ 17
 unfolding convert_refusal convert_lines opening_lines front_lines every is_numbered
 convert-within f s room = first-within (convert_lines f s room) refl
 
-begin-within : (st : State) (setup system notes : List ℕ) (room : ℕ) → first_of (begin_lines st setup system notes room) ≤ 17
+pub begin-within : (st : State) (setup system notes : List ℕ) (room : ℕ) → first_of (begin_lines st setup system notes room) ≤ 17
 unfolding begin_lines every is_numbered
 begin-within st setup system notes room = first-within (begin_lines st setup system notes room) refl
 
-add-within : (st : State) (time exposure : ℕ) (sections notes : List ℕ) (room : ℕ) → first_of (add_lines st time exposure sections notes room) ≤ 17
+pub add-within : (st : State) (time exposure : ℕ) (sections notes : List ℕ) (room : ℕ) → first_of (add_lines st time exposure sections notes room) ≤ 17
 unfolding add_lines every is_numbered
 add-within st time exposure sections notes room = first-within (add_lines st time exposure sections notes room) refl
 
-close-within : (st : State) (notes : List ℕ) (room : ℕ) → first_of (close_lines st notes room) ≤ 17
+pub close-within : (st : State) (notes : List ℕ) (room : ℕ) → first_of (close_lines st notes room) ≤ 17
 unfolding close_lines every is_numbered
 close-within st notes room = first-within (close_lines st notes room) refl
-
--- ── The places of refusals ──
-
--- places of numbers, of which only 3, 4, 7, 10 and 11 have one
-abbrev Bare : (ℕ → ℕ) → Type 0
-Bare p = (p 0 ≡ 0) × (p 1 ≡ 0) × (p 2 ≡ 0) × (p 5 ≡ 0) × (p 6 ≡ 0) × (p 8 ≡ 0) × (p 9 ≡ 0) × (p 12 ≡ 0) × (p 13 ≡ 0) × (p 14 ≡ 0) × (p 15 ≡ 0) × (p 16 ≡ 0) × (p 17 ≡ 0)
-
-placed-place : (p : ℕ → ℕ) → Bare p → (n : ℕ) → n ≤ 17 → place_of (placed n (p n)) ≡ p n
-placed-place p b zero h = sym b.0
-placed-place p b (suc zero) h = sym b.1
-placed-place p b (suc (suc zero)) h = sym b.2
-placed-place p b (suc (suc (suc zero))) h = refl
-placed-place p b (suc (suc (suc (suc zero)))) h = refl
-placed-place p b (suc (suc (suc (suc (suc zero))))) h = sym b.3
-placed-place p b (suc (suc (suc (suc (suc (suc zero)))))) h = sym b.4
-placed-place p b (suc (suc (suc (suc (suc (suc (suc zero))))))) h = refl
-placed-place p b (suc (suc (suc (suc (suc (suc (suc (suc zero)))))))) h = sym b.5
-placed-place p b (suc (suc (suc (suc (suc (suc (suc (suc (suc zero))))))))) h = sym b.6
-placed-place p b (suc (suc (suc (suc (suc (suc (suc (suc (suc (suc zero)))))))))) h = refl
-placed-place p b (suc (suc (suc (suc (suc (suc (suc (suc (suc (suc (suc zero))))))))))) h = refl
-placed-place p b (suc (suc (suc (suc (suc (suc (suc (suc (suc (suc (suc (suc zero)))))))))))) h = sym b.7
-placed-place p b (suc (suc (suc (suc (suc (suc (suc (suc (suc (suc (suc (suc (suc zero))))))))))))) h = sym b.8
-placed-place p b (suc (suc (suc (suc (suc (suc (suc (suc (suc (suc (suc (suc (suc (suc zero)))))))))))))) h = sym b.9
-placed-place p b (suc (suc (suc (suc (suc (suc (suc (suc (suc (suc (suc (suc (suc (suc (suc zero))))))))))))))) h = sym b.10
-placed-place p b (suc (suc (suc (suc (suc (suc (suc (suc (suc (suc (suc (suc (suc (suc (suc (suc zero)))))))))))))))) h = sym b.11
-placed-place p b (suc (suc (suc (suc (suc (suc (suc (suc (suc (suc (suc (suc (suc (suc (suc (suc (suc zero))))))))))))))))) h = sym b.12
-placed-place p b (suc (suc (suc (suc (suc (suc (suc (suc (suc (suc (suc (suc (suc (suc (suc (suc (suc (suc n)))))))))))))))))) h = absurd (omega arith)
 
 -- ── What an answer says ──
 
@@ -140,34 +113,32 @@ says : {A : Type 0} → Result A Refusal → Told
 says (Ok x) = handed 0 0
 says (Err r) = handed (number_of r) (place_of r)
 
-told : {A : Type 0} (p : ℕ → ℕ) → Bare p → (x : A) (n : ℕ) → n ≤ 17 → says (unless n (p n) x) ≡ handed n (p n)
+-- with no number goes the place 0
+told : {A : Type 0} (p : ℕ → ℕ) → p 0 ≡ 0 → (x : A) (n : ℕ) → says (unless n (p n) x) ≡ handed n (p n)
 unfolding says unless
-told p b x zero h = ap (λ q. handed 0 q) (sym b.0)
-told p b x (suc k) h = rw (number_kept (suc k) (p (suc k)) (omega arith) h, placed-place p b (suc k) h) refl
+told p b x zero = ap (λ q. handed 0 q) (sym b)
+told p b x (suc k) = rw (number_kept (suc k) (p (suc k)), place_kept (suc k) (p (suc k))) refl
 
--- the places that go with a call's numbers
-opening-bare : (f : List ℕ) → Bare (λ n. opening_place n f)
+-- the place that goes with none of a call's numbers
+opening-none : (f : List ℕ) → opening_place 0 f ≡ 0
 unfolding opening_place
-opening-bare f = (refl, refl, refl, refl, refl, refl, refl, refl, refl, refl, refl, refl, refl)
+opening-none f = refl
 
-look-bare : (f s : List ℕ) → Bare (λ n. look_place n f s)
+look-none : (f s : List ℕ) → look_place 0 f s ≡ 0
 unfolding look_place opening_place
-look-bare f s = (refl, refl, refl, refl, refl, refl, refl, refl, refl, refl, refl, refl, refl)
+look-none f s = refl
 
-commit-bare : (f s : List ℕ) → Bare (λ n. commit_place n f s)
+commit-none : (f s : List ℕ) → commit_place 0 f s ≡ 0
 unfolding commit_place look_place opening_place
-commit-bare f s = (refl, refl, refl, refl, refl, refl, refl, refl, refl, refl, refl, refl, refl)
+commit-none f s = refl
 
-convert-bare : (f s : List ℕ) → Bare (λ n. old_sheet_place n f s)
+convert-none : (f s : List ℕ) → old_sheet_place 0 f s ≡ 0
 unfolding old_sheet_place opening_place
-convert-bare f s = (refl, refl, refl, refl, refl, refl, refl, refl, refl, refl, refl, refl, refl)
+convert-none f s = refl
 
-begin-bare : (setup system : List ℕ) → Bare (λ n. begin_place n setup system)
+begin-none : (setup system : List ℕ) → begin_place 0 setup system ≡ 0
 unfolding begin_place
-begin-bare setup system = (refl, refl, refl, refl, refl, refl, refl, refl, refl, refl, refl, refl, refl)
-
-none-bare : Bare (λ n. 0)
-none-bare = (refl, refl, refl, refl, refl, refl, refl, refl, refl, refl, refl, refl, refl)
+begin-none setup system = refl
 
 -- ── The calls ──
 
@@ -178,7 +149,7 @@ opened-says (Err r) = refl
 
 pub fstf-open-told : (f : List ℕ) → handed (opened_flat (open_of f)).refused (opened_flat (open_of f)).place ≡ handed (refusal f) (opening_place (refusal f) f)
 unfolding open_of
-fstf-open-told f = opened-says (open_of f) ∙ told (λ n. opening_place n f) (opening-bare f) (held_of f) (refusal f) (opening-within f)
+fstf-open-told f = opened-says (open_of f) ∙ told (λ n. opening_place n f) (opening-none f) (held_of f) (refusal f)
 
 part-says : (r : Result Found Refusal) → handed (part_flat r).refused (part_flat r).place ≡ says r
 unfolding says
@@ -191,7 +162,7 @@ pub fstf-part-told : (f : List ℕ) (it : Item)
 unfolding find_of
 fstf-part-told f it =
     part-says (find_of f it)
-    ∙ told (λ n. opening_place n f) (opening-bare f) (found_as (item_part f (item_of it))) (item_refusal f (item_of it)) (item-within f it)
+    ∙ told (λ n. opening_place n f) (opening-none f) (found_as (item_part f (item_of it))) (item_refusal f (item_of it))
 
 frame-says : (r : Result FrameRead Refusal) → handed (frame_flat r).refused (frame_flat r).place ≡ says r
 unfolding says
@@ -202,7 +173,7 @@ pub fstf-frame-told : (f : List ℕ) (i : ℕ)
     → handed (frame_flat (frame_read_of f i)).refused (frame_flat (frame_read_of f i)).place ≡ handed (frame_refusal f i) (opening_place (frame_refusal f i) f)
 unfolding frame_read_of
 fstf-frame-told f i =
-    frame-says (frame_read_of f i) ∙ told (λ n. opening_place n f) (opening-bare f) (read_as (frame_shown f i)) (frame_refusal f i) (frame-within f i)
+    frame-says (frame_read_of f i) ∙ told (λ n. opening_place n f) (opening-none f) (read_as (frame_shown f i)) (frame_refusal f i)
 
 repair-refused : (n : ℕ) (r : Repair) → r.refused ≡ 0 → (repair_answer n r).refused ≡ n
 unfolding repair_answer
@@ -218,10 +189,10 @@ pub fstf-repair-told : (f out : List ℕ)
     → handed (made_flat (repair_of f out)).answer.refused (made_flat (repair_of f out)).answer.place
     ≡ handed (repair_refusal f (length out)) (opening_place (repair_refusal f (length out)) f)
 unfolding made_flat repair_of repairing.made_of answer_of repair
-fstf-repair-told f out = repaired-says _ ∙ go (repair_refusal f (length out)) (repair-within f (length out)) _ refl
+fstf-repair-told f out = repaired-says _ ∙ go (repair_refusal f (length out)) _ refl
   where
-    go : (n : ℕ) → n ≤ 17 → (r : Repair) → r.refused ≡ 0 → says (answer_of (repair_answer n r).refused (opening_place n f) (repair_answer n r)) ≡ handed n (opening_place n f)
-    go n h r e = rw (repair-refused n r e) (told (λ n. opening_place n f) (opening-bare f) _ n h)
+    go : (n : ℕ) (r : Repair) → r.refused ≡ 0 → says (answer_of (repair_answer n r).refused (opening_place n f) (repair_answer n r)) ≡ handed n (opening_place n f)
+    go n r e = rw (repair-refused n r e) (told (λ n. opening_place n f) (opening-none f) _ n)
 
 looked-says : (r : Result Looked Refusal) → handed (looked_flat r).refused (looked_flat r).place ≡ says r
 unfolding says
@@ -231,13 +202,13 @@ looked-says (Err r) = refl
 pub fstf-look-told : (f s : List ℕ)
     → handed (looked_flat (look_of f s)).refused (looked_flat (look_of f s)).place ≡ handed (look_refusal f s) (look_place (look_refusal f s) f s)
 unfolding look_of look look_answer says unless
-fstf-look-told f s = looked-says (look_of f s) ∙ go (look_refusal f s) (look-within f s) _
+fstf-look-told f s = looked-says (look_of f s) ∙ go (look_refusal f s) _
   where
-    go : (n : ℕ) → n ≤ 17 → (bs : List Bool)
+    go : (n : ℕ) (bs : List Bool)
         → says (unless (look_answer n (look_place n f s) bs).refused (look_answer n (look_place n f s) bs).place (looked (look_answer n (look_place n f s) bs)))
         ≡ handed n (look_place n f s)
-    go zero h bs = told {A = ℕ} (λ n. look_place n f s) (look-bare f s) 0 zero h
-    go (suc k) h bs = told {A = ℕ} (λ n. look_place n f s) (look-bare f s) 0 (suc k) h
+    go zero bs = told {A = ℕ} (λ n. look_place n f s) (look-none f s) 0 zero
+    go (suc k) bs = told {A = ℕ} (λ n. look_place n f s) (look-none f s) 0 (suc k)
 
 committed-says : (r : Result ℕ Refusal) → handed (committed_flat r).refused (committed_flat r).place ≡ says r
 unfolding says
@@ -248,14 +219,14 @@ pub fstf-commit-told : (f s out : List ℕ)
     → handed (outcome_flat (commit_of f s out)).answer.refused (outcome_flat (commit_of f s out)).answer.place
     ≡ handed (commit_refusal f s (length out)) (commit_place (commit_refusal f s (length out)) f s)
 unfolding outcome_flat commit_of committed_as commit commit_answer says unless
-fstf-commit-told f s out = committed-says _ ∙ go (commit_refusal f s (length out)) (commit-within f s (length out)) _
+fstf-commit-told f s out = committed-says (commit_of f s out).answer ∙ go (commit_refusal f s (length out)) (new_table f s)
   where
-    go : (n : ℕ) → n ≤ 17 → (ts : List Tag)
+    go : (n : ℕ) (ts : List Tag)
         → says {A = ℕ} (unless (commit_answer n (commit_place n f s) ts).refused (commit_answer n (commit_place n f s) ts).place
         (length (commit_answer n (commit_place n f s) ts).table))
         ≡ handed n (commit_place n f s)
-    go zero h ts = told {A = ℕ} (λ n. commit_place n f s) (commit-bare f s) 0 zero h
-    go (suc k) h ts = told {A = ℕ} (λ n. commit_place n f s) (commit-bare f s) 0 (suc k) h
+    go zero ts = told {A = ℕ} (λ n. commit_place n f s) (commit-none f s) 0 zero
+    go (suc k) ts = told {A = ℕ} (λ n. commit_place n f s) (commit-none f s) 0 (suc k)
 
 converted-says : (r : Result ℕ Refusal) → handed (converted_flat r).refused (converted_flat r).place ≡ says r
 unfolding says
@@ -266,14 +237,14 @@ pub fstf-convert-told : (f s out : List ℕ)
     → handed (conversion_flat (convert_of f s out)).answer.refused (conversion_flat (convert_of f s out)).answer.place
     ≡ handed (convert_refusal f s (length out)) (old_sheet_place (convert_refusal f s (length out)) f s)
 unfolding conversion_flat convert_of converted_as convert convert_answer says unless
-fstf-convert-told f s out = converted-says _ ∙ go (convert_refusal f s (length out)) (convert-within f s (length out)) _
+fstf-convert-told f s out = converted-says (convert_of f s out).answer ∙ go (convert_refusal f s (length out)) (converted f s)
   where
-    go : (n : ℕ) → n ≤ 17 → (bytes : List ℕ)
+    go : (n : ℕ) (bytes : List ℕ)
         → says {A = ℕ} (unless (convert_answer n (old_sheet_place n f s) bytes).refused (convert_answer n (old_sheet_place n f s) bytes).place
         (length (convert_answer n (old_sheet_place n f s) bytes).sheet))
         ≡ handed n (old_sheet_place n f s)
-    go zero h bytes = told {A = ℕ} (λ n. old_sheet_place n f s) (convert-bare f s) 0 zero h
-    go (suc k) h bytes = told {A = ℕ} (λ n. old_sheet_place n f s) (convert-bare f s) 0 (suc k) h
+    go zero bytes = told {A = ℕ} (λ n. old_sheet_place n f s) (convert-none f s) 0 zero
+    go (suc k) bytes = told {A = ℕ} (λ n. old_sheet_place n f s) (convert-none f s) 0 (suc k)
 
 -- a step of the recorder's, whose own number is 0
 step-refused : (n : ℕ) (st : State) (notes : List ℕ) (step : Step) → step.refused ≡ 0 → (answer n st notes step).refused ≡ n
@@ -282,12 +253,12 @@ step-refused zero st notes step e = e
 step-refused (suc k) st notes step e = refl
 
 step-told : (flat : FstfRecorder) (self : Recorder) (out : List ℕ) (st : State) (notes : List ℕ) (step : Step) → step.refused ≡ 0
-    → (p : ℕ → ℕ) → Bare p → (n : ℕ) → n ≤ 17
+    → (p : ℕ → ℕ) → p 0 ≡ 0 → (n : ℕ)
     → handed (recorded_flat flat (made_of (p n) self out (answer n st notes step))).answer.refused (recorded_flat flat (made_of (p n) self out (answer n st notes step))).answer.place
     ≡ handed n (p n)
 unfolding recorded_flat taken_flat made_of taken_of answered answer says unless
-step-told flat self out st notes step e p b zero h = rw e (told {A = ℕ} p b 0 zero h)
-step-told flat self out st notes step e p b (suc k) h = told {A = ℕ} p b 0 (suc k) h
+step-told flat self out st notes step e p b zero = rw e (told {A = ℕ} p b 0 zero)
+step-told flat self out st notes step e p b (suc k) = told {A = ℕ} p b 0 (suc k)
 
 pub fstf-begin-told : (flat : FstfRecorder) (r : Recorder) (setup system notes out : List ℕ)
     → handed (recorded_flat flat (begin_of r setup system notes out)).answer.refused (recorded_flat flat (begin_of r setup system notes out)).answer.place
@@ -295,13 +266,13 @@ pub fstf-begin-told : (flat : FstfRecorder) (r : Recorder) (setup system notes o
     (begin_place (first_of (begin_lines (state_of r) setup system notes (length out))) setup system)
 unfolding begin_of made_begun begin answer
 fstf-begin-told flat r setup system notes out =
-    begun (first_of (begin_lines (state_of r) setup system notes (length out))) (begin-within (state_of r) setup system notes (length out)) _ refl
+    begun (first_of (begin_lines (state_of r) setup system notes (length out))) _ refl
   where
-    begun : (n : ℕ) → n ≤ 17 → (step : Step) → step.refused ≡ 0
+    begun : (n : ℕ) (step : Step) → step.refused ≡ 0
         → handed (recorded_flat flat (made_of (begin_place (answer n (state_of r) notes step).refused setup system) r out (answer n (state_of r) notes step))).answer.refused (recorded_flat flat (made_of (begin_place (answer n (state_of r) notes step).refused setup system) r out (answer n (state_of r) notes step))).answer.place
         ≡ handed n (begin_place n setup system)
-    begun n h step e = rw (step-refused n (state_of r) notes step e)
-        (step-told flat r out (state_of r) notes step e (λ n. begin_place n setup system) (begin-bare setup system) n h)
+    begun n step e = rw (step-refused n (state_of r) notes step e)
+        (step-told flat r out (state_of r) notes step e (λ n. begin_place n setup system) (begin-none setup system) n)
 
 -- no number of the other calls carries a place
 pub fstf-add-told : (flat : FstfRecorder) (r : Recorder) (time : ℤ) (exposure : ℕ) (sections notes out : List ℕ)
@@ -309,13 +280,11 @@ pub fstf-add-told : (flat : FstfRecorder) (r : Recorder) (time : ℤ) (exposure 
     ≡ handed (first_of (add_lines (state_of r) (of_z w64 time) exposure sections notes (length out))) 0
 unfolding add_of add
 fstf-add-told flat r time exposure sections notes out =
-    step-told flat r out (state_of r) notes _ refl (λ n. 0) none-bare (first_of (add_lines (state_of r) (of_z w64 time) exposure sections notes (length out)))
-    (add-within (state_of r) (of_z w64 time) exposure sections notes (length out))
+    step-told flat r out (state_of r) notes _ refl (λ n. 0) refl (first_of (add_lines (state_of r) (of_z w64 time) exposure sections notes (length out)))
 
 pub fstf-close-told : (flat : FstfRecorder) (r : Recorder) (notes out : List ℕ)
     → handed (recorded_flat flat (close_of r notes out)).answer.refused (recorded_flat flat (close_of r notes out)).answer.place
     ≡ handed (first_of (close_lines (state_of r) notes (length out))) 0
 unfolding close_of close
 fstf-close-told flat r notes out =
-    step-told flat r out (state_of r) notes _ refl (λ n. 0) none-bare (first_of (close_lines (state_of r) notes (length out)))
-    (close-within (state_of r) notes (length out))
+    step-told flat r out (state_of r) notes _ refl (λ n. 0) refl (first_of (close_lines (state_of r) notes (length out)))

@@ -6,7 +6,9 @@ use items::{FrameRead, Item};
 use opening::Held;
 use refusal::Refusal;
 use std::io;
+use vector::Program;
 use vector::print::{hex, no_vector, refused, say, with, with_time};
+use vector::sweep::{Step, Tally, sweep};
 
 const FRAME: u8 = b'f';
 
@@ -87,30 +89,40 @@ fn part(rt: &impl Print, fields: &[u8]) -> io::Result<()> {
     part_of(rt, file, item)
 }
 
+struct Opening;
+
+impl Step for Opening {
+    fn tried(&self, file: &[u8], before: Tally) -> Tally {
+        vector::sweep::tried(before, opening::open_refusal(opening::open(file)))
+    }
+}
+
 // The values of a sweep, and behind them the file.
 fn swept(rt: &impl Print, fields: &[u8]) -> io::Result<()> {
     let Some((values, base)) = vector::counted(fields, 1) else {
         return no_vector(rt);
     };
-    vector::sweep::sweep(rt, base, values, |file, before| {
-        vector::sweep::tried(before, opening::open_refusal(opening::open(file)))
-    })
+    sweep(rt, base, values, &Opening)
 }
 
-// The call that a vector holds, by its first byte.
-fn answer(rt: &impl Print, vector: &[u8]) -> io::Result<()> {
-    let Some((kind, fields)) = vector.split_first() else {
-        return no_vector(rt);
-    };
-    match *kind {
-        FRAME => frame(rt, fields),
-        OPEN => open(rt, fields),
-        PART => part(rt, fields),
-        SWEEP => swept(rt, fields),
-        _ => no_vector(rt),
+// The call that a vector holds is told by its first byte.
+struct Vectors;
+
+impl Program for Vectors {
+    fn answer(rt: &impl Print, vector: &[u8]) -> io::Result<()> {
+        let Some((kind, fields)) = vector.split_first() else {
+            return no_vector(rt);
+        };
+        match *kind {
+            FRAME => frame(rt, fields),
+            OPEN => open(rt, fields),
+            PART => part(rt, fields),
+            SWEEP => swept(rt, fields),
+            _ => no_vector(rt),
+        }
     }
 }
 
 fn main(rt: HostRuntime) -> io::Result<()> {
-    vector::each(&rt, |vector| answer(&rt, vector))
+    vector::each::<Vectors, HostRuntime>(&rt)
 }

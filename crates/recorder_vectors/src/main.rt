@@ -6,10 +6,10 @@ use recorder::{Piece, Recorder, Taken};
 use refusal::Refusal;
 use stages::Stage;
 use std::io;
-use vector::counted;
 use vector::lend::lent;
 use vector::print::{no_vector, refused, with, with_check, with_time};
-use vector::sweep::{Tally, sweep};
+use vector::sweep::{Step, Tally, sweep};
+use vector::{Program, counted};
 
 const ADD: u8 = b'a';
 
@@ -159,11 +159,19 @@ fn began(setup: &[u8], system: &[u8]) -> Option<Refusal> {
 }
 
 // A sweep changes the set-up list or the system table, and leaves the other as it is.
-fn tried(kind: u8, bytes: &[u8], other: &[u8], before: Tally) -> Tally {
-    if kind == SWEEP_OF_LIST {
-        return vector::sweep::tried(before, began(bytes, other));
+#[derive(Clone, Copy)]
+struct Beginning<'a> {
+    kind: u8,
+    other: &'a [u8],
+}
+
+impl Step for Beginning<'_> {
+    fn tried(&self, bytes: &[u8], before: Tally) -> Tally {
+        if self.kind == SWEEP_OF_LIST {
+            return vector::sweep::tried(before, began(bytes, self.other));
+        }
+        vector::sweep::tried(before, began(self.other, bytes))
     }
-    vector::sweep::tried(before, began(other, bytes))
 }
 
 // The values of a sweep come first, then what it leaves as it is, and behind it what it changes.
@@ -174,23 +182,25 @@ fn swept(rt: &impl Print, kind: u8, fields: &[u8]) -> io::Result<()> {
     let Some((other, base)) = counted(given, 2) else {
         return no_vector(rt);
     };
-    sweep(rt, base, values, |bytes, before| {
-        tried(kind, bytes, other, before)
-    })
+    sweep(rt, base, values, &Beginning { kind, other })
 }
 
-// The call that a vector holds, by its first byte.
-fn answer(rt: &impl Print, vector: &[u8]) -> io::Result<()> {
-    let Some((&kind, fields)) = vector.split_first() else {
-        return no_vector(rt);
-    };
-    match kind {
-        ADD | BEGIN | CLOSE => run(rt, kind, fields),
-        SWEEP_OF_LIST | SWEEP_OF_TABLE => swept(rt, kind, fields),
-        _ => no_vector(rt),
+// The call that a vector holds is told by its first byte.
+struct Vectors;
+
+impl Program for Vectors {
+    fn answer(rt: &impl Print, vector: &[u8]) -> io::Result<()> {
+        let Some((&kind, fields)) = vector.split_first() else {
+            return no_vector(rt);
+        };
+        match kind {
+            ADD | BEGIN | CLOSE => run(rt, kind, fields),
+            SWEEP_OF_LIST | SWEEP_OF_TABLE => swept(rt, kind, fields),
+            _ => no_vector(rt),
+        }
     }
 }
 
 fn main(rt: HostRuntime) -> io::Result<()> {
-    vector::each(&rt, |vector| answer(&rt, vector))
+    vector::each::<Vectors, HostRuntime>(&rt)
 }

@@ -1,33 +1,59 @@
--- A refusal and its number.
+-- A refusal, its number and its place.
 -- Assumes nothing.
-use Prim.Native.Nat.{ℕ, zero, suc, ◌≤◌}
-use native.Mathlib.Omega.{arith}
+use Prim.Native.Nat.{ℕ, zero, suc}
 use mathlib.Core.Path.{◌≡◌, refl}
-use Rattle.refusal.specs.Refusal.{number_of, place_of, placed}
+use Rattle.refusal.specs.declared.Refusal.{Refusal}
+use Rattle.refusal.specs.declared.Refusal.TheVariants.{NotFstf, Revision, NotClosed, Index, NoSuchItem, NoRoom, Stage, Clock, FrameShape, Full, Whole, TableFull}
+use Rattle.refusal.specs.Refusal.{number_of, place_of, beside, placed}
 
--- the refusal of a number of document 01's has that number
-pub number_kept : (n place : ℕ) → 1 ≤ n → n ≤ 17 → number_of (placed n place) ≡ n
-number_kept zero place l h = absurd (omega arith)
-number_kept (suc zero) place l h = refl
-number_kept (suc (suc zero)) place l h = refl
-number_kept (suc (suc (suc zero))) place l h = refl
-number_kept (suc (suc (suc (suc zero)))) place l h = refl
-number_kept (suc (suc (suc (suc (suc zero))))) place l h = refl
-number_kept (suc (suc (suc (suc (suc (suc zero)))))) place l h = refl
-number_kept (suc (suc (suc (suc (suc (suc (suc zero))))))) place l h = refl
-number_kept (suc (suc (suc (suc (suc (suc (suc (suc zero)))))))) place l h = refl
-number_kept (suc (suc (suc (suc (suc (suc (suc (suc (suc zero))))))))) place l h = refl
-number_kept (suc (suc (suc (suc (suc (suc (suc (suc (suc (suc zero)))))))))) place l h = refl
-number_kept (suc (suc (suc (suc (suc (suc (suc (suc (suc (suc (suc zero))))))))))) place l h = refl
-number_kept (suc (suc (suc (suc (suc (suc (suc (suc (suc (suc (suc (suc zero)))))))))))) place l h = refl
-number_kept (suc (suc (suc (suc (suc (suc (suc (suc (suc (suc (suc (suc (suc zero))))))))))))) place l h = refl
-number_kept (suc (suc (suc (suc (suc (suc (suc (suc (suc (suc (suc (suc (suc (suc zero)))))))))))))) place l h = refl
-number_kept (suc (suc (suc (suc (suc (suc (suc (suc (suc (suc (suc (suc (suc (suc (suc zero))))))))))))))) place l h = refl
-number_kept (suc (suc (suc (suc (suc (suc (suc (suc (suc (suc (suc (suc (suc (suc (suc (suc zero)))))))))))))))) place l h = refl
-number_kept (suc (suc (suc (suc (suc (suc (suc (suc (suc (suc (suc (suc (suc (suc (suc (suc (suc zero))))))))))))))))) place l h = refl
-number_kept (suc (suc (suc (suc (suc (suc (suc (suc (suc (suc (suc (suc (suc (suc (suc (suc (suc (suc n)))))))))))))))))) place l h = absurd (omega arith)
+beside-number : (r : Refusal) (n p : ℕ) → number_of r ≡ n → number_of (beside r n p) ≡ n
+beside-number r n zero e = e
+beside-number r n (suc p) e = refl
 
--- 3, 4, 7, 10 and 11 carry the place that they were given
-pub place_kept : (place : ℕ) → (place_of (placed 3 place) ≡ place) × (place_of (placed 4 place) ≡ place) × (place_of (placed 7 place) ≡ place)
-    × (place_of (placed 10 place) ≡ place) × (place_of (placed 11 place) ≡ place)
-place_kept place = (refl, refl, refl, refl, refl)
+beside-place : (r : Refusal) (n p : ℕ) → place_of r ≡ 0 → place_of (beside r n p) ≡ p
+beside-place r n zero e = e
+beside-place r n (suc p) e = refl
+
+-- the refusal of a number and a place has that number
+pub number_kept : (n place : ℕ) → number_of (placed n place) ≡ n
+number_kept zero p = refl
+number_kept (suc zero) p = beside-number NotFstf 1 p refl
+number_kept (suc (suc zero)) p = beside-number Revision 2 p refl
+number_kept (suc (suc (suc zero))) p = refl
+number_kept (suc (suc (suc (suc zero)))) p = refl
+number_kept (suc (suc (suc (suc (suc zero))))) p = beside-number NotClosed 5 p refl
+number_kept (suc (suc (suc (suc (suc (suc zero)))))) p = beside-number Index 6 p refl
+number_kept (suc (suc (suc (suc (suc (suc (suc zero))))))) p = refl
+number_kept (suc (suc (suc (suc (suc (suc (suc (suc zero)))))))) p = beside-number NoSuchItem 8 p refl
+number_kept (suc (suc (suc (suc (suc (suc (suc (suc (suc zero))))))))) p = beside-number NoRoom 9 p refl
+number_kept (suc (suc (suc (suc (suc (suc (suc (suc (suc (suc zero)))))))))) p = refl
+number_kept (suc (suc (suc (suc (suc (suc (suc (suc (suc (suc (suc zero))))))))))) p = refl
+number_kept (suc (suc (suc (suc (suc (suc (suc (suc (suc (suc (suc (suc zero)))))))))))) p = beside-number Stage 12 p refl
+number_kept (suc (suc (suc (suc (suc (suc (suc (suc (suc (suc (suc (suc (suc zero))))))))))))) p = beside-number Clock 13 p refl
+number_kept (suc (suc (suc (suc (suc (suc (suc (suc (suc (suc (suc (suc (suc (suc zero)))))))))))))) p = beside-number FrameShape 14 p refl
+number_kept (suc (suc (suc (suc (suc (suc (suc (suc (suc (suc (suc (suc (suc (suc (suc zero))))))))))))))) p = beside-number Full 15 p refl
+number_kept (suc (suc (suc (suc (suc (suc (suc (suc (suc (suc (suc (suc (suc (suc (suc (suc zero)))))))))))))))) p = beside-number Whole 16 p refl
+number_kept (suc (suc (suc (suc (suc (suc (suc (suc (suc (suc (suc (suc (suc (suc (suc (suc (suc zero))))))))))))))))) p = beside-number TableFull 17 p refl
+number_kept (suc (suc (suc (suc (suc (suc (suc (suc (suc (suc (suc (suc (suc (suc (suc (suc (suc (suc n)))))))))))))))))) p = refl
+
+-- and that place
+pub place_kept : (n place : ℕ) → place_of (placed n place) ≡ place
+place_kept zero p = refl
+place_kept (suc zero) p = beside-place NotFstf 1 p refl
+place_kept (suc (suc zero)) p = beside-place Revision 2 p refl
+place_kept (suc (suc (suc zero))) p = refl
+place_kept (suc (suc (suc (suc zero)))) p = refl
+place_kept (suc (suc (suc (suc (suc zero))))) p = beside-place NotClosed 5 p refl
+place_kept (suc (suc (suc (suc (suc (suc zero)))))) p = beside-place Index 6 p refl
+place_kept (suc (suc (suc (suc (suc (suc (suc zero))))))) p = refl
+place_kept (suc (suc (suc (suc (suc (suc (suc (suc zero)))))))) p = beside-place NoSuchItem 8 p refl
+place_kept (suc (suc (suc (suc (suc (suc (suc (suc (suc zero))))))))) p = beside-place NoRoom 9 p refl
+place_kept (suc (suc (suc (suc (suc (suc (suc (suc (suc (suc zero)))))))))) p = refl
+place_kept (suc (suc (suc (suc (suc (suc (suc (suc (suc (suc (suc zero))))))))))) p = refl
+place_kept (suc (suc (suc (suc (suc (suc (suc (suc (suc (suc (suc (suc zero)))))))))))) p = beside-place Stage 12 p refl
+place_kept (suc (suc (suc (suc (suc (suc (suc (suc (suc (suc (suc (suc (suc zero))))))))))))) p = beside-place Clock 13 p refl
+place_kept (suc (suc (suc (suc (suc (suc (suc (suc (suc (suc (suc (suc (suc (suc zero)))))))))))))) p = beside-place FrameShape 14 p refl
+place_kept (suc (suc (suc (suc (suc (suc (suc (suc (suc (suc (suc (suc (suc (suc (suc zero))))))))))))))) p = beside-place Full 15 p refl
+place_kept (suc (suc (suc (suc (suc (suc (suc (suc (suc (suc (suc (suc (suc (suc (suc (suc zero)))))))))))))))) p = beside-place Whole 16 p refl
+place_kept (suc (suc (suc (suc (suc (suc (suc (suc (suc (suc (suc (suc (suc (suc (suc (suc (suc zero))))))))))))))))) p = beside-place TableFull 17 p refl
+place_kept (suc (suc (suc (suc (suc (suc (suc (suc (suc (suc (suc (suc (suc (suc (suc (suc (suc (suc n)))))))))))))))))) p = refl

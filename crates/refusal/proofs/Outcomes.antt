@@ -9,6 +9,7 @@ use prog.Memory.{Memory}
 use prog.Routine.{Routine}
 use Rattle.outcome.specs.Outcome.{Determines, agree}
 use Rattle.refusal.specs.contracts.Refusal.at
+use Rattle.refusal.specs.contracts.Refusal.of
 use Rattle.refusal.specs.contracts.Refusal.number
 use Rattle.refusal.specs.contracts.Refusal.place
 
@@ -21,3 +22,6 @@ module _ {M : Type 1} {𝓤 : Ura M} (𝓛 : Logic 𝓤) (mem : Memory → SProp
 
   pub place-one : Determines 𝓤 place.ended (place.clauses 𝓛 mem run)
   place-one κs a g x y v w = agree 𝓤 (λ p q. (p ∙ sym q, refl))
+
+  pub of-one : Determines 𝓤 of.ended (of.clauses 𝓛 mem run)
+  of-one κs a g x y v w = agree 𝓤 (λ p q. (p ∙ sym q, refl))

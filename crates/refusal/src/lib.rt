@@ -2,12 +2,13 @@
 #![tactic(auto)]
 
 ghost use Rattle.std.specs.Prelude.{◌≡◌};
-ghost use Rattle.refusal.specs.Refusal.{number_of, place_of, placed};
+ghost use Rattle.refusal.specs.Refusal.{number_of, place_of, beside, placed};
 
 use std::fmt;
 
 // Why a call did nothing. `Sections`, `SystemTable`, `UserTable` and `Sheet` carry the position of the first fault in the lent bytes, `Conflict` the
-// change's number, from 0; the others carry no place.
+// change's number, from 0; the others of document 01's carry no place. `Other` is what no call of the library makes and each takes and hands on: another
+// number, or one of those without a place beside a place.
 #[derive(Clone, Copy, Debug, PartialEq, Eq)]
 pub enum Refusal {
     NotFstf,
@@ -27,6 +28,7 @@ pub enum Refusal {
     Full,
     Whole,
     TableFull,
+    Other(u8, usize),
 }
 
 impl Refusal {
@@ -52,6 +54,7 @@ impl Refusal {
             Refusal::Full => 15,
             Refusal::Whole => 16,
             Refusal::TableFull => 17,
+            Refusal::Other(number, _) => number,
         }
     }
 
@@ -64,23 +67,53 @@ impl Refusal {
             | Refusal::SystemTable(place)
             | Refusal::UserTable(place)
             | Refusal::Sheet(place)
-            | Refusal::Conflict(place) => place,
+            | Refusal::Conflict(place)
+            | Refusal::Other(_, place) => place,
             _ => 0,
         }
     }
 
-    // The same number with a place, where it carries one.
+    // One that carries no place, beside a place.
+    fn beside(self, place: usize) -> Refusal
+        ensures { result ≡ beside self (number_of self) place }
+    {
+        if place == 0 {
+            return self;
+        }
+        Refusal::Other(self.number(), place)
+    }
+
+    // The refusal of a number and a place.
+    pub fn of(number: u8, place: usize) -> Refusal
+        ensures { result ≡ placed number place }
+    {
+        match number {
+            1 => Refusal::NotFstf.beside(place),
+            2 => Refusal::Revision.beside(place),
+            3 => Refusal::Sections(place),
+            4 => Refusal::SystemTable(place),
+            5 => Refusal::NotClosed.beside(place),
+            6 => Refusal::Index.beside(place),
+            7 => Refusal::UserTable(place),
+            8 => Refusal::NoSuchItem.beside(place),
+            9 => Refusal::NoRoom.beside(place),
+            10 => Refusal::Sheet(place),
+            11 => Refusal::Conflict(place),
+            12 => Refusal::Stage.beside(place),
+            13 => Refusal::Clock.beside(place),
+            14 => Refusal::FrameShape.beside(place),
+            15 => Refusal::Full.beside(place),
+            16 => Refusal::Whole.beside(place),
+            17 => Refusal::TableFull.beside(place),
+            _ => Refusal::Other(number, place),
+        }
+    }
+
+    // The same number with a place.
     pub fn at(self, place: usize) -> Refusal
         ensures { result ≡ placed (number_of self) place }
     {
-        match self {
-            Refusal::Sections(_) => Refusal::Sections(place),
-            Refusal::SystemTable(_) => Refusal::SystemTable(place),
-            Refusal::UserTable(_) => Refusal::UserTable(place),
-            Refusal::Sheet(_) => Refusal::Sheet(place),
-            Refusal::Conflict(_) => Refusal::Conflict(place),
-            other => other,
-        }
+        Refusal::of(self.number(), place)
     }
 }
 

@@ -66,14 +66,11 @@ fn frame_step(
 fn common_length(count: usize, common: Option<usize>, size: usize) -> Option<usize>
     ensures { result ≡ common_with count common size }
 {
-    if count == 0 {
-        return Some(size);
+    if (count == 0) | (common == Some(size)) {
+        Some(size)
+    } else {
+        None
     }
-    let length = common?;
-    if length != size {
-        return None;
-    }
-    Some(length)
 }
 
 // Keeps the length of a frame, where there is a place for it.

@@ -5,10 +5,10 @@
 use refusal::Refusal;
 use repair::Repaired;
 use std::io;
-use vector::counted;
 use vector::lend::lent;
 use vector::print::{no_vector, refused, with, with_check};
-use vector::sweep::{Tally, sweep};
+use vector::sweep::{Step, Tally, sweep};
+use vector::{Program, counted};
 
 const REPAIR: u8 = b'r';
 
@@ -43,9 +43,13 @@ fn repair(rt: &impl Print, fields: &[u8]) -> io::Result<()> {
     }
 }
 
-fn tried(file: &[u8], before: Tally) -> Tally {
-    let mut out = [0; 512];
-    vector::sweep::tried(before, repair::repair(file, &mut out).err())
+struct Repairing;
+
+impl Step for Repairing {
+    fn tried(&self, file: &[u8], before: Tally) -> Tally {
+        let mut out = [0; 512];
+        vector::sweep::tried(before, repair::repair(file, &mut out).err())
+    }
 }
 
 // The values of a sweep, and behind them the file.
@@ -53,18 +57,22 @@ fn swept(rt: &impl Print, fields: &[u8]) -> io::Result<()> {
     let Some((values, base)) = counted(fields, 1) else {
         return no_vector(rt);
     };
-    sweep(rt, base, values, tried)
+    sweep(rt, base, values, &Repairing)
 }
 
-// The call that a vector holds, by its first byte.
-fn answer(rt: &impl Print, vector: &[u8]) -> io::Result<()> {
-    match vector.split_first() {
-        Some((&REPAIR, fields)) => repair(rt, fields),
-        Some((&SWEEP, fields)) => swept(rt, fields),
-        _ => no_vector(rt),
+// The call that a vector holds is told by its first byte.
+struct Vectors;
+
+impl Program for Vectors {
+    fn answer(rt: &impl Print, vector: &[u8]) -> io::Result<()> {
+        match vector.split_first() {
+            Some((&REPAIR, fields)) => repair(rt, fields),
+            Some((&SWEEP, fields)) => swept(rt, fields),
+            _ => no_vector(rt),
+        }
     }
 }
 
 fn main(rt: HostRuntime) -> io::Result<()> {
-    vector::each(&rt, |vector| answer(&rt, vector))
+    vector::each::<Vectors, HostRuntime>(&rt)
 }

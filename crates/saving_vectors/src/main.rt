@@ -5,10 +5,10 @@
 use refusal::Refusal;
 use saving::Looked;
 use std::io;
-use vector::counted;
 use vector::lend::lent;
 use vector::print::{no_vector, refused, with, with_check};
-use vector::sweep::{Tally, sweep};
+use vector::sweep::{Step, Tally, sweep};
+use vector::{Program, counted};
 
 const COMMIT: u8 = b'm';
 
@@ -93,7 +93,23 @@ fn all(file: &[u8], sheet: &[u8], before: Tally) -> Tally {
     tries(file, sheet, looks(file, sheet, before))
 }
 
-// A sweep changes the sheet or the file, and leaves the other as it is. Its values come first; what it leaves, and behind it what it changes, follow.
+// A sweep changes the sheet or the file, and leaves the other as it is.
+#[derive(Clone, Copy)]
+struct Saving<'a> {
+    kind: u8,
+    other: &'a [u8],
+}
+
+impl Step for Saving<'_> {
+    fn tried(&self, bytes: &[u8], before: Tally) -> Tally {
+        if self.kind == SWEEP_OF_SHEET {
+            return all(self.other, bytes, before);
+        }
+        all(bytes, self.other, before)
+    }
+}
+
+// The values of a sweep come first; what it leaves, and behind it what it changes, follow.
 fn swept(rt: &impl Print, kind: u8, fields: &[u8]) -> io::Result<()> {
     let Some((values, given)) = counted(fields, 1) else {
         return no_vector(rt);
@@ -101,24 +117,25 @@ fn swept(rt: &impl Print, kind: u8, fields: &[u8]) -> io::Result<()> {
     let Some((other, base)) = counted(given, 2) else {
         return no_vector(rt);
     };
-    if kind == SWEEP_OF_SHEET {
-        return sweep(rt, base, values, |sheet, before| all(other, sheet, before));
-    }
-    sweep(rt, base, values, |file, before| all(file, other, before))
+    sweep(rt, base, values, &Saving { kind, other })
 }
 
-// The call that a vector holds, by its first byte.
-fn answer(rt: &impl Print, vector: &[u8]) -> io::Result<()> {
-    let Some((kind, fields)) = vector.split_first() else {
-        return no_vector(rt);
-    };
-    match *kind {
-        COMMIT | CONVERT | LOOK => call(rt, *kind, fields),
-        SWEEP_OF_FILE | SWEEP_OF_SHEET => swept(rt, *kind, fields),
-        _ => no_vector(rt),
+// The call that a vector holds is told by its first byte.
+struct Vectors;
+
+impl Program for Vectors {
+    fn answer(rt: &impl Print, vector: &[u8]) -> io::Result<()> {
+        let Some((kind, fields)) = vector.split_first() else {
+            return no_vector(rt);
+        };
+        match *kind {
+            COMMIT | CONVERT | LOOK => call(rt, *kind, fields),
+            SWEEP_OF_FILE | SWEEP_OF_SHEET => swept(rt, *kind, fields),
+            _ => no_vector(rt),
+        }
     }
 }
 
 fn main(rt: HostRuntime) -> io::Result<()> {
-    vector::each(&rt, |vector| answer(&rt, vector))
+    vector::each::<Vectors, HostRuntime>(&rt)
 }

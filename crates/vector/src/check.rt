@@ -36,6 +36,16 @@ pub fn told(h: u64, number: u8, place: u64) -> u64
     bytes(byte(h, number), &eight)
 }
 
+// The number of a refusal, 0 for none.
+pub(crate) fn number_of(refused: Option<Refusal>) -> u8
+    ensures { result ≡ number_told refused }
+{
+    match refused {
+        Some(refusal) => refusal.number(),
+        None => 0,
+    }
+}
+
 // A check with an answer behind it: the number of a refusal, 0 for none, and the place that it carries.
 pub fn answer(h: u64, refused: Option<Refusal>) -> u64
     ensures { result ≡ with_answer h (number_told refused) (place_told refused) }

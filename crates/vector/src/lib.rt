@@ -83,17 +83,18 @@ pub fn read<R: Env + Files + Print>(rt: &R, argument: usize, space: &mut [u8]) -
     Ok(read_full(&mut file, space))
 }
 
+// A program that runs vectors. By a trait, and by no closure: of a closure a caller would have to show that it may be called.
+pub trait Program {
+    // The call that a vector holds, and what the line says of it.
+    fn answer(rt: &impl Print, vector: &[u8]) -> io::Result<()>;
+}
+
 // Answers each vector that the arguments name: a line for each.
-pub fn each<R: Env + Files + Print, F: FnMut(&[u8]) -> io::Result<()>>(
-    rt: &R,
-    mut answer: F,
-) -> io::Result<()>
-    requires { F.IsAlwaysCallable answer }
-{
+pub fn each<P: Program, R: Env + Files + Print>(rt: &R) -> io::Result<()> {
     for argument in 1..arguments(rt) {
         let mut space = lend::lent(0);
         let n = read(rt, argument, &mut space)?;
-        answer(&space[..n])?;
+        P::answer(rt, &space[..n])?;
         say(rt, b"\n")?;
     }
     Ok(())

@@ -84,10 +84,10 @@ pub fn tried(before: Tally, refused: Option<Refusal>) -> Tally
 {
     Tally {
         inputs: before.inputs.wrapping_add(1),
-        refused: if refused.is_some() {
-            before.refused.wrapping_add(1)
-        } else {
+        refused: if check::number_of(refused) == 0 {
             before.refused
+        } else {
+            before.refused.wrapping_add(1)
         },
         sum: check::answer(before.sum, refused),
     }
@@ -111,19 +111,17 @@ pub fn line(rt: &impl Print, tally: Tally) -> io::Result<()> {
     with_sum(rt, b" check ", tally.sum)
 }
 
-// Each turn of a sweep, whose step is told the turn's bytes and the tally so far; and its line.
-pub fn sweep<F: FnMut(&[u8], Tally) -> Tally>(
-    rt: &impl Print,
-    base: &[u8],
-    values: &[u8],
-    mut step: F,
-) -> io::Result<()>
-    requires { F.IsAlwaysCallable step }
-{
+// What a sweep tries at each turn: it is told the turn's bytes and the tally so far.
+pub trait Step {
+    fn tried(&self, bytes: &[u8], before: Tally) -> Tally;
+}
+
+// Each turn of a sweep, and its line.
+pub fn sweep(rt: &impl Print, base: &[u8], values: &[u8], step: &impl Step) -> io::Result<()> {
     let mut tally = Tally::NONE;
     for turn in 0..turns(base.len()) {
         let bytes = turn_bytes(base, values, turn);
-        tally = step(&bytes[..turn_length(base.len(), turn)], tally);
+        tally = step.tried(&bytes[..turn_length(base.len(), turn)], tally);
     }
     line(rt, tally)
 }

@@ -10,7 +10,7 @@ use repair::Repaired;
 use std::io;
 use vector::lend::lent;
 use vector::print::{no_vector, with, with_check, with_sum};
-use vector::{check, counted};
+use vector::{Program, check, counted};
 
 const WHOLE: u8 = b'w';
 
@@ -275,14 +275,18 @@ fn whole(rt: &impl Print, fields: &[u8]) -> io::Result<()> {
     no_vector(rt)
 }
 
-// The call that a vector holds, by its first byte.
-fn answer(rt: &impl Print, vector: &[u8]) -> io::Result<()> {
-    match vector.split_first() {
-        Some((&WHOLE, fields)) => whole(rt, fields),
-        _ => no_vector(rt),
+// The call that a vector holds is told by its first byte.
+struct Vectors;
+
+impl Program for Vectors {
+    fn answer(rt: &impl Print, vector: &[u8]) -> io::Result<()> {
+        match vector.split_first() {
+            Some((&WHOLE, fields)) => whole(rt, fields),
+            _ => no_vector(rt),
+        }
     }
 }
 
 fn main(rt: HostRuntime) -> io::Result<()> {
-    vector::each(&rt, |vector| answer(&rt, vector))
+    vector::each::<Vectors, HostRuntime>(&rt)
 }

@@ -20,3 +20,6 @@ loop-count-preserved c =
       walk-goes c.args.file.now c.args.sections c.read-first.result (1000000 - k) c.loop-count.last k c.loop-count.common c.loop-count.end _ (1000000 - (k + 1)) step _ c.type_inv.file here.2 goes c.common_length-common.ensures e,
       kept_goes c.args.file.now c.loop-count.lengths _ c.args.sections c.read-first.result c.loop-count.last (1000000 - k) c.loop-count.end k (1000000 - (k + 1)) c.note_length.new.lengths step c.type_inv.file here.3 goes c.note_length.ensures e,
     )
+
+pub returns-in_err-step : goal.returns-in_err-step
+returns-in_err-step c = search (laws, c.in_err-step.was)
