@@ -1,5 +1,5 @@
 -- C is handed document 01's own numbers: the number of each call's refusal is that of the first line that holds, and 0 where none does, and is at most 17; its
--- place is the one that goes with that number.
+-- place is the one that goes with that number. No refusal of opening, reading, look, commit and the converter is one that document 01 does not have.
 -- Assumes nothing.
 use Prim.Native.Nat.{ℕ, zero, suc, ◌≤◌}
 use native.Mathlib.Omega.{arith}
@@ -11,6 +11,7 @@ use lib.ListN.{length}
 use borrow.Author.Tests.{ltb-true}
 use Rattle.std.specs.Prelude.{ℤ, Result, Ok, Err}
 use Rattle.refusal.specs.declared.Refusal.{Refusal}
+use Rattle.refusal.specs.declared.Refusal.TheVariants.{Other}
 use Rattle.opening.specs.declared.Held.{Held}
 use Rattle.items.specs.declared.Found.{Found}
 use Rattle.items.specs.declared.FrameRead.{FrameRead}
@@ -99,6 +100,44 @@ pub close-within : (st : State) (notes : List ℕ) (room : ℕ) → first_of (cl
 unfolding close_lines every is_numbered
 close-within st notes room = first-within (close_lines st notes room) refl
 
+-- ── The places of refusals ──
+
+-- places of numbers, of which only 3, 4, 7, 10 and 11 have one
+abbrev pub Bare : (ℕ → ℕ) → Type 0
+Bare p = (p 0 ≡ 0) × (p 1 ≡ 0) × (p 2 ≡ 0) × (p 5 ≡ 0) × (p 6 ≡ 0) × (p 8 ≡ 0) × (p 9 ≡ 0) × (p 12 ≡ 0) × (p 13 ≡ 0) × (p 14 ≡ 0) × (p 15 ≡ 0) × (p 16 ≡ 0) × (p 17 ≡ 0)
+
+-- whether a refusal is one of document 01's
+abbrev pub is_listed : Refusal → Bool
+is_listed (Other n p) = false
+is_listed r = true
+
+pub placed-listed : (p : ℕ → ℕ) → Bare p → (n : ℕ) → 1 ≤ n → n ≤ 17 → is_listed (placed n (p n)) ≡ true
+placed-listed p b zero l h = absurd (omega arith)
+placed-listed p b (suc zero) l h = rw (b.1)
+placed-listed p b (suc (suc zero)) l h = rw (b.2)
+placed-listed p b (suc (suc (suc zero))) l h = refl
+placed-listed p b (suc (suc (suc (suc zero)))) l h = refl
+placed-listed p b (suc (suc (suc (suc (suc zero))))) l h = rw (b.3)
+placed-listed p b (suc (suc (suc (suc (suc (suc zero)))))) l h = rw (b.4)
+placed-listed p b (suc (suc (suc (suc (suc (suc (suc zero))))))) l h = refl
+placed-listed p b (suc (suc (suc (suc (suc (suc (suc (suc zero)))))))) l h = rw (b.5)
+placed-listed p b (suc (suc (suc (suc (suc (suc (suc (suc (suc zero))))))))) l h = rw (b.6)
+placed-listed p b (suc (suc (suc (suc (suc (suc (suc (suc (suc (suc zero)))))))))) l h = refl
+placed-listed p b (suc (suc (suc (suc (suc (suc (suc (suc (suc (suc (suc zero))))))))))) l h = refl
+placed-listed p b (suc (suc (suc (suc (suc (suc (suc (suc (suc (suc (suc (suc zero)))))))))))) l h = rw (b.7)
+placed-listed p b (suc (suc (suc (suc (suc (suc (suc (suc (suc (suc (suc (suc (suc zero))))))))))))) l h = rw (b.8)
+placed-listed p b (suc (suc (suc (suc (suc (suc (suc (suc (suc (suc (suc (suc (suc (suc zero)))))))))))))) l h = rw (b.9)
+placed-listed p b (suc (suc (suc (suc (suc (suc (suc (suc (suc (suc (suc (suc (suc (suc (suc zero))))))))))))))) l h = rw (b.10)
+placed-listed p b (suc (suc (suc (suc (suc (suc (suc (suc (suc (suc (suc (suc (suc (suc (suc (suc zero)))))))))))))))) l h = rw (b.11)
+placed-listed p b (suc (suc (suc (suc (suc (suc (suc (suc (suc (suc (suc (suc (suc (suc (suc (suc (suc zero))))))))))))))))) l h = rw (b.12)
+placed-listed p b (suc (suc (suc (suc (suc (suc (suc (suc (suc (suc (suc (suc (suc (suc (suc (suc (suc (suc n)))))))))))))))))) l h = absurd (omega arith)
+
+-- what is refused by lines is refused by one of document 01's
+pub refused-listed : {A : Type 0} (p : ℕ → ℕ) → Bare p → (n : ℕ) → n ≤ 17 → (x : A) (r : Refusal) → unless n (p n) x ≡ Err r → is_listed r ≡ true
+unfolding unless
+refused-listed p b zero h x r e = let z : ◌≡◌ {A = ℕ} 0 1 = cc in absurd (omega arith)
+refused-listed p b (suc k) h x r e = let c : placed (suc k) (p (suc k)) ≡ r = cc in sym (ap is_listed c) ∙ placed-listed p b (suc k) (omega arith) h
+
 -- ── What an answer says ──
 
 -- its number and its place; 0 and 0 where it is not refused
@@ -119,26 +158,29 @@ unfolding says unless
 told p b x zero = ap (λ q. handed 0 q) (sym b)
 told p b x (suc k) = rw (number_kept (suc k) (p (suc k)), place_kept (suc k) (p (suc k))) refl
 
--- the place that goes with none of a call's numbers
-opening-none : (f : List ℕ) → opening_place 0 f ≡ 0
+-- the places that go with a call's numbers
+pub opening-bare : (f : List ℕ) → Bare (λ n. opening_place n f)
 unfolding opening_place
-opening-none f = refl
+opening-bare f = (refl, refl, refl, refl, refl, refl, refl, refl, refl, refl, refl, refl, refl)
 
-look-none : (f s : List ℕ) → look_place 0 f s ≡ 0
+pub look-bare : (f s : List ℕ) → Bare (λ n. look_place n f s)
 unfolding look_place opening_place
-look-none f s = refl
+look-bare f s = (refl, refl, refl, refl, refl, refl, refl, refl, refl, refl, refl, refl, refl)
 
-commit-none : (f s : List ℕ) → commit_place 0 f s ≡ 0
+pub commit-bare : (f s : List ℕ) → Bare (λ n. commit_place n f s)
 unfolding commit_place look_place opening_place
-commit-none f s = refl
+commit-bare f s = (refl, refl, refl, refl, refl, refl, refl, refl, refl, refl, refl, refl, refl)
 
-convert-none : (f s : List ℕ) → old_sheet_place 0 f s ≡ 0
+pub convert-bare : (f s : List ℕ) → Bare (λ n. old_sheet_place n f s)
 unfolding old_sheet_place opening_place
-convert-none f s = refl
+convert-bare f s = (refl, refl, refl, refl, refl, refl, refl, refl, refl, refl, refl, refl, refl)
 
-begin-none : (setup system : List ℕ) → begin_place 0 setup system ≡ 0
+pub begin-bare : (setup system : List ℕ) → Bare (λ n. begin_place n setup system)
 unfolding begin_place
-begin-none setup system = refl
+begin-bare setup system = (refl, refl, refl, refl, refl, refl, refl, refl, refl, refl, refl, refl, refl)
+
+pub none-bare : Bare (λ n. 0)
+none-bare = (refl, refl, refl, refl, refl, refl, refl, refl, refl, refl, refl, refl, refl)
 
 -- ── The calls ──
 
@@ -149,7 +191,11 @@ opened-says (Err r) = refl
 
 pub fstf-open-told : (f : List ℕ) → handed (opened_flat (open_of f)).refused (opened_flat (open_of f)).place ≡ handed (refusal f) (opening_place (refusal f) f)
 unfolding open_of
-fstf-open-told f = opened-says (open_of f) ∙ told (λ n. opening_place n f) (opening-none f) (held_of f) (refusal f)
+fstf-open-told f = opened-says (open_of f) ∙ told (λ n. opening_place n f) (opening-bare f).0 (held_of f) (refusal f)
+
+pub open-listed : (f : List ℕ) (r : Refusal) → open_of f ≡ Err r → is_listed r ≡ true
+unfolding open_of
+open-listed f r e = refused-listed (λ n. opening_place n f) (opening-bare f) (refusal f) (opening-within f) (held_of f) r e
 
 part-says : (r : Result Found Refusal) → handed (part_flat r).refused (part_flat r).place ≡ says r
 unfolding says
@@ -162,7 +208,12 @@ pub fstf-part-told : (f : List ℕ) (it : Item)
 unfolding find_of
 fstf-part-told f it =
     part-says (find_of f it)
-    ∙ told (λ n. opening_place n f) (opening-none f) (found_as (item_part f (item_of it))) (item_refusal f (item_of it))
+    ∙ told (λ n. opening_place n f) (opening-bare f).0 (found_as (item_part f (item_of it))) (item_refusal f (item_of it))
+
+pub part-listed : (f : List ℕ) (it : Item) (r : Refusal) → find_of f it ≡ Err r → is_listed r ≡ true
+unfolding find_of
+part-listed f it r e =
+    refused-listed (λ n. opening_place n f) (opening-bare f) (item_refusal f (item_of it)) (item-within f it) (found_as (item_part f (item_of it))) r e
 
 frame-says : (r : Result FrameRead Refusal) → handed (frame_flat r).refused (frame_flat r).place ≡ says r
 unfolding says
@@ -173,7 +224,11 @@ pub fstf-frame-told : (f : List ℕ) (i : ℕ)
     → handed (frame_flat (frame_read_of f i)).refused (frame_flat (frame_read_of f i)).place ≡ handed (frame_refusal f i) (opening_place (frame_refusal f i) f)
 unfolding frame_read_of
 fstf-frame-told f i =
-    frame-says (frame_read_of f i) ∙ told (λ n. opening_place n f) (opening-none f) (read_as (frame_shown f i)) (frame_refusal f i)
+    frame-says (frame_read_of f i) ∙ told (λ n. opening_place n f) (opening-bare f).0 (read_as (frame_shown f i)) (frame_refusal f i)
+
+pub frame-listed : (f : List ℕ) (i : ℕ) (r : Refusal) → frame_read_of f i ≡ Err r → is_listed r ≡ true
+unfolding frame_read_of
+frame-listed f i r e = refused-listed (λ n. opening_place n f) (opening-bare f) (frame_refusal f i) (frame-within f i) (read_as (frame_shown f i)) r e
 
 repair-refused : (n : ℕ) (r : Repair) → r.refused ≡ 0 → (repair_answer n r).refused ≡ n
 unfolding repair_answer
@@ -192,7 +247,7 @@ unfolding made_flat repair_of repairing.made_of answer_of repair
 fstf-repair-told f out = repaired-says _ ∙ go (repair_refusal f (length out)) _ refl
   where
     go : (n : ℕ) (r : Repair) → r.refused ≡ 0 → says (answer_of (repair_answer n r).refused (opening_place n f) (repair_answer n r)) ≡ handed n (opening_place n f)
-    go n r e = rw (repair-refused n r e) (told (λ n. opening_place n f) (opening-none f) _ n)
+    go n r e = rw (repair-refused n r e) (told (λ n. opening_place n f) (opening-bare f).0 _ n)
 
 looked-says : (r : Result Looked Refusal) → handed (looked_flat r).refused (looked_flat r).place ≡ says r
 unfolding says
@@ -207,8 +262,18 @@ fstf-look-told f s = looked-says (look_of f s) ∙ go (look_refusal f s) _
     go : (n : ℕ) (bs : List Bool)
         → says (unless (look_answer n (look_place n f s) bs).refused (look_answer n (look_place n f s) bs).place (looked (look_answer n (look_place n f s) bs)))
         ≡ handed n (look_place n f s)
-    go zero bs = told {A = ℕ} (λ n. look_place n f s) (look-none f s) 0 zero
-    go (suc k) bs = told {A = ℕ} (λ n. look_place n f s) (look-none f s) 0 (suc k)
+    go zero bs = told {A = ℕ} (λ n. look_place n f s) (look-bare f s).0 0 zero
+    go (suc k) bs = told {A = ℕ} (λ n. look_place n f s) (look-bare f s).0 0 (suc k)
+
+pub look-listed : (f s : List ℕ) (r : Refusal) → look_of f s ≡ Err r → is_listed r ≡ true
+unfolding look_of look look_answer look_place opening_place
+look-listed f s r = go (look_refusal f s) (look-within f s) _
+  where
+    go : (n : ℕ) → n ≤ 17 → (bs : List Bool)
+        → unless (look_answer n (look_place n f s) bs).refused (look_answer n (look_place n f s) bs).place (looked (look_answer n (look_place n f s) bs)) ≡ Err r
+        → is_listed r ≡ true
+    go zero h bs e = refused-listed (λ n. look_place n f s) (look-bare f s) zero h (looked (look_answer zero (look_place zero f s) bs)) r e
+    go (suc k) h bs e = refused-listed (λ n. look_place n f s) (look-bare f s) (suc k) h (looked (look_answer (suc k) (look_place (suc k) f s) bs)) r e
 
 committed-says : (r : Result ℕ Refusal) → handed (committed_flat r).refused (committed_flat r).place ≡ says r
 unfolding says
@@ -225,8 +290,18 @@ fstf-commit-told f s out = committed-says (commit_of f s out).answer ∙ go (com
         → says {A = ℕ} (unless (commit_answer n (commit_place n f s) ts).refused (commit_answer n (commit_place n f s) ts).place
         (length (commit_answer n (commit_place n f s) ts).table))
         ≡ handed n (commit_place n f s)
-    go zero ts = told {A = ℕ} (λ n. commit_place n f s) (commit-none f s) 0 zero
-    go (suc k) ts = told {A = ℕ} (λ n. commit_place n f s) (commit-none f s) 0 (suc k)
+    go zero ts = told {A = ℕ} (λ n. commit_place n f s) (commit-bare f s).0 0 zero
+    go (suc k) ts = told {A = ℕ} (λ n. commit_place n f s) (commit-bare f s).0 0 (suc k)
+
+pub commit-listed : (f s out : List ℕ) (r : Refusal) → (commit_of f s out).answer ≡ Err r → is_listed r ≡ true
+unfolding commit_of committed_as commit commit_answer commit_place look_place opening_place
+commit-listed f s out r = go (commit_refusal f s (length out)) (commit-within f s (length out)) (new_table f s)
+  where
+    go : (n : ℕ) → n ≤ 17 → (ts : List Tag)
+        → unless (commit_answer n (commit_place n f s) ts).refused (commit_answer n (commit_place n f s) ts).place (length (commit_answer n (commit_place n f s) ts).table) ≡ Err r
+        → is_listed r ≡ true
+    go zero h ts e = refused-listed (λ n. commit_place n f s) (commit-bare f s) zero h (length (commit_answer zero (commit_place zero f s) ts).table) r e
+    go (suc k) h ts e = refused-listed (λ n. commit_place n f s) (commit-bare f s) (suc k) h (length (commit_answer (suc k) (commit_place (suc k) f s) ts).table) r e
 
 converted-says : (r : Result ℕ Refusal) → handed (converted_flat r).refused (converted_flat r).place ≡ says r
 unfolding says
@@ -243,8 +318,18 @@ fstf-convert-told f s out = converted-says (convert_of f s out).answer ∙ go (c
         → says {A = ℕ} (unless (convert_answer n (old_sheet_place n f s) bytes).refused (convert_answer n (old_sheet_place n f s) bytes).place
         (length (convert_answer n (old_sheet_place n f s) bytes).sheet))
         ≡ handed n (old_sheet_place n f s)
-    go zero bytes = told {A = ℕ} (λ n. old_sheet_place n f s) (convert-none f s) 0 zero
-    go (suc k) bytes = told {A = ℕ} (λ n. old_sheet_place n f s) (convert-none f s) 0 (suc k)
+    go zero bytes = told {A = ℕ} (λ n. old_sheet_place n f s) (convert-bare f s).0 0 zero
+    go (suc k) bytes = told {A = ℕ} (λ n. old_sheet_place n f s) (convert-bare f s).0 0 (suc k)
+
+pub convert-listed : (f s out : List ℕ) (r : Refusal) → (convert_of f s out).answer ≡ Err r → is_listed r ≡ true
+unfolding convert_of converted_as convert convert_answer old_sheet_place opening_place
+convert-listed f s out r = go (convert_refusal f s (length out)) (convert-within f s (length out)) (converted f s)
+  where
+    go : (n : ℕ) → n ≤ 17 → (bytes : List ℕ)
+        → unless (convert_answer n (old_sheet_place n f s) bytes).refused (convert_answer n (old_sheet_place n f s) bytes).place (length (convert_answer n (old_sheet_place n f s) bytes).sheet) ≡ Err r
+        → is_listed r ≡ true
+    go zero h bytes e = refused-listed (λ n. old_sheet_place n f s) (convert-bare f s) zero h (length (convert_answer zero (old_sheet_place zero f s) bytes).sheet) r e
+    go (suc k) h bytes e = refused-listed (λ n. old_sheet_place n f s) (convert-bare f s) (suc k) h (length (convert_answer (suc k) (old_sheet_place (suc k) f s) bytes).sheet) r e
 
 -- a step of the recorder's, whose own number is 0
 step-refused : (n : ℕ) (st : State) (notes : List ℕ) (step : Step) → step.refused ≡ 0 → (answer n st notes step).refused ≡ n
@@ -272,7 +357,7 @@ fstf-begin-told flat r setup system notes out =
         → handed (recorded_flat flat (made_of (begin_place (answer n (state_of r) notes step).refused setup system) r out (answer n (state_of r) notes step))).answer.refused (recorded_flat flat (made_of (begin_place (answer n (state_of r) notes step).refused setup system) r out (answer n (state_of r) notes step))).answer.place
         ≡ handed n (begin_place n setup system)
     begun n step e = rw (step-refused n (state_of r) notes step e)
-        (step-told flat r out (state_of r) notes step e (λ n. begin_place n setup system) (begin-none setup system) n)
+        (step-told flat r out (state_of r) notes step e (λ n. begin_place n setup system) (begin-bare setup system).0 n)
 
 -- no number of the other calls carries a place
 pub fstf-add-told : (flat : FstfRecorder) (r : Recorder) (time : ℤ) (exposure : ℕ) (sections notes out : List ℕ)
