@@ -77,9 +77,12 @@ def within(line):
 
 
 def bodies(lines):
-    """Each function's name, as the prover says it, and its lines between the braces. `rt fmt` puts both braces at the function's own indent."""
+    """Each function's name, as the prover says it, and its lines between the braces. `rt fmt` puts both braces at the function's own indent. Tests stand at
+    the end of a file, and are no code."""
     found, ahead = [], ""
     for number, line in enumerate(lines):
+        if line == "#[cfg(test)]":
+            break
         if line.startswith("impl"):
             ahead = within(line)
         elif line == "}":

@@ -7,7 +7,7 @@ use refusal::Refusal;
 use std::io;
 use tables::TagFound;
 use vector::print::{no_vector, refused, say, with, with_sum};
-use vector::sweep::{Step, Tally, sweep};
+use vector::sweep::{Step, Tally, sweep_by};
 use vector::{Program, counted};
 
 const NAMED: u8 = b'n';
@@ -108,7 +108,7 @@ fn swept(rt: &impl Print, fields: &[u8]) -> io::Result<()> {
     let Some((values, base)) = counted(fields, 1) else {
         return no_vector(rt);
     };
-    sweep(rt, base, values, &Browsing)
+    sweep_by(rt, base, values, &Browsing)
 }
 
 // The call that a vector holds is told by its first byte.
@@ -126,5 +126,5 @@ impl Program for Vectors {
 }
 
 fn main(rt: HostRuntime) -> io::Result<()> {
-    vector::each::<Vectors, HostRuntime>(&rt)
+    vector::each_by::<Vectors, HostRuntime>(&rt)
 }

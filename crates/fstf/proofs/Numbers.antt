@@ -1,17 +1,15 @@
--- C is handed document 01's own numbers: the number of each call's refusal is that of the first line that holds, and 0 where none does, and is at most 17; its
--- place is the one that goes with that number. No refusal of opening, reading, look, commit and the converter is one that document 01 does not have.
+-- C is handed document 01's own numbers: the number of each call's refusal is that of the first line that holds, and 0 where none does; its place is the one
+-- that goes with that number. That the number is at most 17, and no refusal one that document 01 does not have, says the crate `listed`.
 -- Assumes nothing.
-use Prim.Native.Nat.{ℕ, zero, suc, ◌≤◌}
-use native.Mathlib.Omega.{arith}
+use Prim.Native.Nat.{ℕ, zero, suc}
 use mathlib.Core.Path.{◌≡◌, refl, sym, ap, ◌∙◌}
-use mathlib.Core.Bool.{Bool, true, false}
-use mathlib.Core.List.{List, [], ◌∷◌, ◌++◌}
-use lib.Dec.{ltb}
+use mathlib.Core.Bool.{Bool}
+use mathlib.Core.List.{List}
 use lib.ListN.{length}
-use borrow.Author.Tests.{ltb-true}
 use Rattle.std.specs.Prelude.{ℤ, Result, Ok, Err}
 use Rattle.refusal.specs.declared.Refusal.{Refusal}
-use Rattle.refusal.specs.declared.Refusal.TheVariants.{Other}
+use Rattle.listed.proofs.Numbers.{opening-bare, look-bare, commit-bare, convert-bare, begin-bare}
+use Rattle.listed.proofs.Calls.{step-refused, repair-refused}
 use Rattle.opening.specs.declared.Held.{Held}
 use Rattle.items.specs.declared.Found.{Found}
 use Rattle.items.specs.declared.FrameRead.{FrameRead}
@@ -19,15 +17,14 @@ use Rattle.repair.specs.declared.Repaired.{Repaired}
 use Rattle.saving.specs.declared.Looked.{Looked}
 use Rattle.std.specs.Int.{w64}
 use Rattle.std.proofs.Common.{of_z}
-use Rattle.number.proofs.Bytes.{both_true}
-use Rattle.layout.specs.Recording.{Tag, every}
-use Rattle.layout.specs.Opening.{Line, line, first_of, front_lines, opening_lines, opening_place, refusal, shown}
-use Rattle.layout.specs.Items.{no_such_item, no_such_frame, item_refusal, item_part, frame_refusal, frame_shown}
+use Rattle.layout.specs.Recording.{Tag}
+use Rattle.layout.specs.Opening.{first_of, opening_place, refusal}
+use Rattle.layout.specs.Items.{item_refusal, item_part, frame_refusal, frame_shown}
 use Rattle.layout.specs.Recorder.{State, Step, begin_place, begin_lines, add_lines, close_lines, answer, begin, add, close}
-use Rattle.layout.specs.Repair.{Repair, repair_lines, repair_refusal, repair_answer, repair}
-use Rattle.layout.specs.Saving.{new_table, look_place, look_lines, look_refusal, look_answer, look, table_lines, commit_place, commit_lines, commit_refusal, commit_answer, commit}
-use Rattle.layout.specs.OldSheets.{converted, old_sheet_place, convert_lines, convert_refusal, convert_answer, convert}
-use Rattle.refusal.specs.Refusal.{number_of, place_of, placed, unless}
+use Rattle.layout.specs.Repair.{Repair, repair_refusal, repair_answer, repair}
+use Rattle.layout.specs.Saving.{new_table, look_place, look_refusal, look_answer, look, commit_place, commit_refusal, commit_answer, commit}
+use Rattle.layout.specs.OldSheets.{converted, old_sheet_place, convert_refusal, convert_answer, convert}
+use Rattle.refusal.specs.Refusal.{number_of, place_of, unless}
 use Rattle.refusal.proofs.Numbers.{number_kept, place_kept}
 use Rattle.opening.specs.Opened.{held_of, open_of}
 use Rattle.items.specs.declared.Item.{Item}
@@ -44,99 +41,6 @@ use Rattle.face_recording.specs.declared.FstfRecorder.{FstfRecorder}
 use Rattle.face_recording.specs.Face.{taken_flat, recorded_flat}
 use Rattle.face_repair.specs.Face.{repaired_flat, made_flat}
 use Rattle.face_tags.specs.Face.{looked_flat, committed_flat, outcome_flat, converted_flat, conversion_flat}
-
--- ── The numbers of lines ──
-
--- a line whose number is one of document 01's
-is_numbered : Line → Bool
-is_numbered l = ltb l.number 18
-
-first-within : (ls : List Line) → every is_numbered ls ≡ true → first_of ls ≤ 17
-unfolding first_of every is_numbered
-first-within [] e = omega arith
-first-within (l ∷ ls) e = go l.number l.holds e (first-within ls)
-  where
-    go : (n : ℕ) (b : Bool) → every is_numbered (line n b ∷ ls) ≡ true → (every is_numbered ls ≡ true → first_of ls ≤ 17) → first_of (line n b ∷ ls) ≤ 17
-    go n true q i = let l = ltb-true n 18 (both_true (ltb n 18) (every is_numbered ls) q).0 in omega arith
-    go n false q i = i (both_true (ltb n 18) (every is_numbered ls) q).1
-
-pub opening-within : (f : List ℕ) → refusal f ≤ 17
-unfolding refusal opening_lines front_lines every is_numbered
-opening-within f = first-within (opening_lines f) refl
-
-pub item-within : (f : List ℕ) (it : Item) → item_refusal f (item_of it) ≤ 17
-unfolding item_refusal opening_lines front_lines every is_numbered
-item-within f it = first-within (opening_lines f ++ (line 8 (no_such_item (shown f) (item_of it)) ∷ [])) refl
-
-pub frame-within : (f : List ℕ) (i : ℕ) → frame_refusal f i ≤ 17
-unfolding frame_refusal opening_lines front_lines every is_numbered
-frame-within f i = first-within (opening_lines f ++ (line 8 (no_such_frame (shown f) i) ∷ [])) refl
-
-pub repair-within : (f : List ℕ) (room : ℕ) → repair_refusal f room ≤ 17
-unfolding repair_refusal repair_lines front_lines every is_numbered
-repair-within f room = first-within (repair_lines f room) refl
-
-pub look-within : (f s : List ℕ) → look_refusal f s ≤ 17
-unfolding look_refusal look_lines opening_lines front_lines every is_numbered
-look-within f s = first-within (look_lines f s) refl
-
-pub commit-within : (f s : List ℕ) (room : ℕ) → commit_refusal f s room ≤ 17
-unfolding commit_refusal commit_lines look_lines table_lines opening_lines front_lines every is_numbered
-commit-within f s room = first-within (commit_lines f s room) refl
-
-pub convert-within : (f s : List ℕ) (room : ℕ) → convert_refusal f s room ≤ 17
-unfolding convert_refusal convert_lines opening_lines front_lines every is_numbered
-convert-within f s room = first-within (convert_lines f s room) refl
-
-pub begin-within : (st : State) (setup system notes : List ℕ) (room : ℕ) → first_of (begin_lines st setup system notes room) ≤ 17
-unfolding begin_lines every is_numbered
-begin-within st setup system notes room = first-within (begin_lines st setup system notes room) refl
-
-pub add-within : (st : State) (time exposure : ℕ) (sections notes : List ℕ) (room : ℕ) → first_of (add_lines st time exposure sections notes room) ≤ 17
-unfolding add_lines every is_numbered
-add-within st time exposure sections notes room = first-within (add_lines st time exposure sections notes room) refl
-
-pub close-within : (st : State) (notes : List ℕ) (room : ℕ) → first_of (close_lines st notes room) ≤ 17
-unfolding close_lines every is_numbered
-close-within st notes room = first-within (close_lines st notes room) refl
-
--- ── The places of refusals ──
-
--- places of numbers, of which only 3, 4, 7, 10 and 11 have one
-abbrev pub Bare : (ℕ → ℕ) → Type 0
-Bare p = (p 0 ≡ 0) × (p 1 ≡ 0) × (p 2 ≡ 0) × (p 5 ≡ 0) × (p 6 ≡ 0) × (p 8 ≡ 0) × (p 9 ≡ 0) × (p 12 ≡ 0) × (p 13 ≡ 0) × (p 14 ≡ 0) × (p 15 ≡ 0) × (p 16 ≡ 0) × (p 17 ≡ 0)
-
--- whether a refusal is one of document 01's
-abbrev pub is_listed : Refusal → Bool
-is_listed (Other n p) = false
-is_listed r = true
-
-pub placed-listed : (p : ℕ → ℕ) → Bare p → (n : ℕ) → 1 ≤ n → n ≤ 17 → is_listed (placed n (p n)) ≡ true
-placed-listed p b zero l h = absurd (omega arith)
-placed-listed p b (suc zero) l h = rw (b.1)
-placed-listed p b (suc (suc zero)) l h = rw (b.2)
-placed-listed p b (suc (suc (suc zero))) l h = refl
-placed-listed p b (suc (suc (suc (suc zero)))) l h = refl
-placed-listed p b (suc (suc (suc (suc (suc zero))))) l h = rw (b.3)
-placed-listed p b (suc (suc (suc (suc (suc (suc zero)))))) l h = rw (b.4)
-placed-listed p b (suc (suc (suc (suc (suc (suc (suc zero))))))) l h = refl
-placed-listed p b (suc (suc (suc (suc (suc (suc (suc (suc zero)))))))) l h = rw (b.5)
-placed-listed p b (suc (suc (suc (suc (suc (suc (suc (suc (suc zero))))))))) l h = rw (b.6)
-placed-listed p b (suc (suc (suc (suc (suc (suc (suc (suc (suc (suc zero)))))))))) l h = refl
-placed-listed p b (suc (suc (suc (suc (suc (suc (suc (suc (suc (suc (suc zero))))))))))) l h = refl
-placed-listed p b (suc (suc (suc (suc (suc (suc (suc (suc (suc (suc (suc (suc zero)))))))))))) l h = rw (b.7)
-placed-listed p b (suc (suc (suc (suc (suc (suc (suc (suc (suc (suc (suc (suc (suc zero))))))))))))) l h = rw (b.8)
-placed-listed p b (suc (suc (suc (suc (suc (suc (suc (suc (suc (suc (suc (suc (suc (suc zero)))))))))))))) l h = rw (b.9)
-placed-listed p b (suc (suc (suc (suc (suc (suc (suc (suc (suc (suc (suc (suc (suc (suc (suc zero))))))))))))))) l h = rw (b.10)
-placed-listed p b (suc (suc (suc (suc (suc (suc (suc (suc (suc (suc (suc (suc (suc (suc (suc (suc zero)))))))))))))))) l h = rw (b.11)
-placed-listed p b (suc (suc (suc (suc (suc (suc (suc (suc (suc (suc (suc (suc (suc (suc (suc (suc (suc zero))))))))))))))))) l h = rw (b.12)
-placed-listed p b (suc (suc (suc (suc (suc (suc (suc (suc (suc (suc (suc (suc (suc (suc (suc (suc (suc (suc n)))))))))))))))))) l h = absurd (omega arith)
-
--- what is refused by lines is refused by one of document 01's
-pub refused-listed : {A : Type 0} (p : ℕ → ℕ) → Bare p → (n : ℕ) → n ≤ 17 → (x : A) (r : Refusal) → unless n (p n) x ≡ Err r → is_listed r ≡ true
-unfolding unless
-refused-listed p b zero h x r e = let z : ◌≡◌ {A = ℕ} 0 1 = cc in absurd (omega arith)
-refused-listed p b (suc k) h x r e = let c : placed (suc k) (p (suc k)) ≡ r = cc in sym (ap is_listed c) ∙ placed-listed p b (suc k) (omega arith) h
 
 -- ── What an answer says ──
 
@@ -158,30 +62,6 @@ unfolding says unless
 told p b x zero = ap (λ q. handed 0 q) (sym b)
 told p b x (suc k) = rw (number_kept (suc k) (p (suc k)), place_kept (suc k) (p (suc k))) refl
 
--- the places that go with a call's numbers
-pub opening-bare : (f : List ℕ) → Bare (λ n. opening_place n f)
-unfolding opening_place
-opening-bare f = (refl, refl, refl, refl, refl, refl, refl, refl, refl, refl, refl, refl, refl)
-
-pub look-bare : (f s : List ℕ) → Bare (λ n. look_place n f s)
-unfolding look_place opening_place
-look-bare f s = (refl, refl, refl, refl, refl, refl, refl, refl, refl, refl, refl, refl, refl)
-
-pub commit-bare : (f s : List ℕ) → Bare (λ n. commit_place n f s)
-unfolding commit_place look_place opening_place
-commit-bare f s = (refl, refl, refl, refl, refl, refl, refl, refl, refl, refl, refl, refl, refl)
-
-pub convert-bare : (f s : List ℕ) → Bare (λ n. old_sheet_place n f s)
-unfolding old_sheet_place opening_place
-convert-bare f s = (refl, refl, refl, refl, refl, refl, refl, refl, refl, refl, refl, refl, refl)
-
-pub begin-bare : (setup system : List ℕ) → Bare (λ n. begin_place n setup system)
-unfolding begin_place
-begin-bare setup system = (refl, refl, refl, refl, refl, refl, refl, refl, refl, refl, refl, refl, refl)
-
-pub none-bare : Bare (λ n. 0)
-none-bare = (refl, refl, refl, refl, refl, refl, refl, refl, refl, refl, refl, refl, refl)
-
 -- ── The calls ──
 
 opened-says : (r : Result Held Refusal) → handed (opened_flat r).refused (opened_flat r).place ≡ says r
@@ -192,10 +72,6 @@ opened-says (Err r) = refl
 pub fstf-open-told : (f : List ℕ) → handed (opened_flat (open_of f)).refused (opened_flat (open_of f)).place ≡ handed (refusal f) (opening_place (refusal f) f)
 unfolding open_of
 fstf-open-told f = opened-says (open_of f) ∙ told (λ n. opening_place n f) (opening-bare f).0 (held_of f) (refusal f)
-
-pub open-listed : (f : List ℕ) (r : Refusal) → open_of f ≡ Err r → is_listed r ≡ true
-unfolding open_of
-open-listed f r e = refused-listed (λ n. opening_place n f) (opening-bare f) (refusal f) (opening-within f) (held_of f) r e
 
 part-says : (r : Result Found Refusal) → handed (part_flat r).refused (part_flat r).place ≡ says r
 unfolding says
@@ -210,11 +86,6 @@ fstf-part-told f it =
     part-says (find_of f it)
     ∙ told (λ n. opening_place n f) (opening-bare f).0 (found_as (item_part f (item_of it))) (item_refusal f (item_of it))
 
-pub part-listed : (f : List ℕ) (it : Item) (r : Refusal) → find_of f it ≡ Err r → is_listed r ≡ true
-unfolding find_of
-part-listed f it r e =
-    refused-listed (λ n. opening_place n f) (opening-bare f) (item_refusal f (item_of it)) (item-within f it) (found_as (item_part f (item_of it))) r e
-
 frame-says : (r : Result FrameRead Refusal) → handed (frame_flat r).refused (frame_flat r).place ≡ says r
 unfolding says
 frame-says (Ok x) = refl
@@ -225,15 +96,6 @@ pub fstf-frame-told : (f : List ℕ) (i : ℕ)
 unfolding frame_read_of
 fstf-frame-told f i =
     frame-says (frame_read_of f i) ∙ told (λ n. opening_place n f) (opening-bare f).0 (read_as (frame_shown f i)) (frame_refusal f i)
-
-pub frame-listed : (f : List ℕ) (i : ℕ) (r : Refusal) → frame_read_of f i ≡ Err r → is_listed r ≡ true
-unfolding frame_read_of
-frame-listed f i r e = refused-listed (λ n. opening_place n f) (opening-bare f) (frame_refusal f i) (frame-within f i) (read_as (frame_shown f i)) r e
-
-repair-refused : (n : ℕ) (r : Repair) → r.refused ≡ 0 → (repair_answer n r).refused ≡ n
-unfolding repair_answer
-repair-refused zero r e = e
-repair-refused (suc k) r e = refl
 
 repaired-says : (r : Result Repaired Refusal) → handed (repaired_flat r).refused (repaired_flat r).place ≡ says r
 unfolding says
@@ -265,16 +127,6 @@ fstf-look-told f s = looked-says (look_of f s) ∙ go (look_refusal f s) _
     go zero bs = told {A = ℕ} (λ n. look_place n f s) (look-bare f s).0 0 zero
     go (suc k) bs = told {A = ℕ} (λ n. look_place n f s) (look-bare f s).0 0 (suc k)
 
-pub look-listed : (f s : List ℕ) (r : Refusal) → look_of f s ≡ Err r → is_listed r ≡ true
-unfolding look_of look look_answer look_place opening_place
-look-listed f s r = go (look_refusal f s) (look-within f s) _
-  where
-    go : (n : ℕ) → n ≤ 17 → (bs : List Bool)
-        → unless (look_answer n (look_place n f s) bs).refused (look_answer n (look_place n f s) bs).place (looked (look_answer n (look_place n f s) bs)) ≡ Err r
-        → is_listed r ≡ true
-    go zero h bs e = refused-listed (λ n. look_place n f s) (look-bare f s) zero h (looked (look_answer zero (look_place zero f s) bs)) r e
-    go (suc k) h bs e = refused-listed (λ n. look_place n f s) (look-bare f s) (suc k) h (looked (look_answer (suc k) (look_place (suc k) f s) bs)) r e
-
 committed-says : (r : Result ℕ Refusal) → handed (committed_flat r).refused (committed_flat r).place ≡ says r
 unfolding says
 committed-says (Ok x) = refl
@@ -293,16 +145,6 @@ fstf-commit-told f s out = committed-says (commit_of f s out).answer ∙ go (com
     go zero ts = told {A = ℕ} (λ n. commit_place n f s) (commit-bare f s).0 0 zero
     go (suc k) ts = told {A = ℕ} (λ n. commit_place n f s) (commit-bare f s).0 0 (suc k)
 
-pub commit-listed : (f s out : List ℕ) (r : Refusal) → (commit_of f s out).answer ≡ Err r → is_listed r ≡ true
-unfolding commit_of committed_as commit commit_answer commit_place look_place opening_place
-commit-listed f s out r = go (commit_refusal f s (length out)) (commit-within f s (length out)) (new_table f s)
-  where
-    go : (n : ℕ) → n ≤ 17 → (ts : List Tag)
-        → unless (commit_answer n (commit_place n f s) ts).refused (commit_answer n (commit_place n f s) ts).place (length (commit_answer n (commit_place n f s) ts).table) ≡ Err r
-        → is_listed r ≡ true
-    go zero h ts e = refused-listed (λ n. commit_place n f s) (commit-bare f s) zero h (length (commit_answer zero (commit_place zero f s) ts).table) r e
-    go (suc k) h ts e = refused-listed (λ n. commit_place n f s) (commit-bare f s) (suc k) h (length (commit_answer (suc k) (commit_place (suc k) f s) ts).table) r e
-
 converted-says : (r : Result ℕ Refusal) → handed (converted_flat r).refused (converted_flat r).place ≡ says r
 unfolding says
 converted-says (Ok x) = refl
@@ -320,22 +162,6 @@ fstf-convert-told f s out = converted-says (convert_of f s out).answer ∙ go (c
         ≡ handed n (old_sheet_place n f s)
     go zero bytes = told {A = ℕ} (λ n. old_sheet_place n f s) (convert-bare f s).0 0 zero
     go (suc k) bytes = told {A = ℕ} (λ n. old_sheet_place n f s) (convert-bare f s).0 0 (suc k)
-
-pub convert-listed : (f s out : List ℕ) (r : Refusal) → (convert_of f s out).answer ≡ Err r → is_listed r ≡ true
-unfolding convert_of converted_as convert convert_answer old_sheet_place opening_place
-convert-listed f s out r = go (convert_refusal f s (length out)) (convert-within f s (length out)) (converted f s)
-  where
-    go : (n : ℕ) → n ≤ 17 → (bytes : List ℕ)
-        → unless (convert_answer n (old_sheet_place n f s) bytes).refused (convert_answer n (old_sheet_place n f s) bytes).place (length (convert_answer n (old_sheet_place n f s) bytes).sheet) ≡ Err r
-        → is_listed r ≡ true
-    go zero h bytes e = refused-listed (λ n. old_sheet_place n f s) (convert-bare f s) zero h (length (convert_answer zero (old_sheet_place zero f s) bytes).sheet) r e
-    go (suc k) h bytes e = refused-listed (λ n. old_sheet_place n f s) (convert-bare f s) (suc k) h (length (convert_answer (suc k) (old_sheet_place (suc k) f s) bytes).sheet) r e
-
--- a step of the recorder's, whose own number is 0
-step-refused : (n : ℕ) (st : State) (notes : List ℕ) (step : Step) → step.refused ≡ 0 → (answer n st notes step).refused ≡ n
-unfolding answer
-step-refused zero st notes step e = e
-step-refused (suc k) st notes step e = refl
 
 step-told : (flat : FstfRecorder) (self : Recorder) (out : List ℕ) (st : State) (notes : List ℕ) (step : Step) → step.refused ≡ 0
     → (p : ℕ → ℕ) → p 0 ≡ 0 → (n : ℕ)

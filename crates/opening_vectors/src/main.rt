@@ -8,7 +8,7 @@ use refusal::Refusal;
 use std::io;
 use vector::Program;
 use vector::print::{hex, no_vector, refused, say, with, with_time};
-use vector::sweep::{Step, Tally, sweep};
+use vector::sweep::{Step, Tally, sweep_by};
 
 const FRAME: u8 = b'f';
 
@@ -102,7 +102,7 @@ fn swept(rt: &impl Print, fields: &[u8]) -> io::Result<()> {
     let Some((values, base)) = vector::counted(fields, 1) else {
         return no_vector(rt);
     };
-    sweep(rt, base, values, &Opening)
+    sweep_by(rt, base, values, &Opening)
 }
 
 // The call that a vector holds is told by its first byte.
@@ -124,5 +124,5 @@ impl Program for Vectors {
 }
 
 fn main(rt: HostRuntime) -> io::Result<()> {
-    vector::each::<Vectors, HostRuntime>(&rt)
+    vector::each_by::<Vectors, HostRuntime>(&rt)
 }

@@ -8,7 +8,7 @@ use stages::Stage;
 use std::io;
 use vector::lend::lent;
 use vector::print::{no_vector, refused, with, with_check, with_time};
-use vector::sweep::{Step, Tally, sweep};
+use vector::sweep::{Step, Tally, sweep_by};
 use vector::{Program, counted};
 
 const ADD: u8 = b'a';
@@ -182,7 +182,7 @@ fn swept(rt: &impl Print, kind: u8, fields: &[u8]) -> io::Result<()> {
     let Some((other, base)) = counted(given, 2) else {
         return no_vector(rt);
     };
-    sweep(rt, base, values, &Beginning { kind, other })
+    sweep_by(rt, base, values, &Beginning { kind, other })
 }
 
 // The call that a vector holds is told by its first byte.
@@ -202,5 +202,5 @@ impl Program for Vectors {
 }
 
 fn main(rt: HostRuntime) -> io::Result<()> {
-    vector::each::<Vectors, HostRuntime>(&rt)
+    vector::each_by::<Vectors, HostRuntime>(&rt)
 }

@@ -7,7 +7,7 @@ use repair::Repaired;
 use std::io;
 use vector::lend::lent;
 use vector::print::{no_vector, refused, with, with_check};
-use vector::sweep::{Step, Tally, sweep};
+use vector::sweep::{Step, Tally, sweep_by};
 use vector::{Program, counted};
 
 const REPAIR: u8 = b'r';
@@ -57,7 +57,7 @@ fn swept(rt: &impl Print, fields: &[u8]) -> io::Result<()> {
     let Some((values, base)) = counted(fields, 1) else {
         return no_vector(rt);
     };
-    sweep(rt, base, values, &Repairing)
+    sweep_by(rt, base, values, &Repairing)
 }
 
 // The call that a vector holds is told by its first byte.
@@ -74,5 +74,5 @@ impl Program for Vectors {
 }
 
 fn main(rt: HostRuntime) -> io::Result<()> {
-    vector::each::<Vectors, HostRuntime>(&rt)
+    vector::each_by::<Vectors, HostRuntime>(&rt)
 }

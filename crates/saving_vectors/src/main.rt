@@ -7,7 +7,7 @@ use saving::Looked;
 use std::io;
 use vector::lend::lent;
 use vector::print::{no_vector, refused, with, with_check};
-use vector::sweep::{Step, Tally, sweep};
+use vector::sweep::{Step, Tally, sweep_by};
 use vector::{Program, counted};
 
 const COMMIT: u8 = b'm';
@@ -117,7 +117,7 @@ fn swept(rt: &impl Print, kind: u8, fields: &[u8]) -> io::Result<()> {
     let Some((other, base)) = counted(given, 2) else {
         return no_vector(rt);
     };
-    sweep(rt, base, values, &Saving { kind, other })
+    sweep_by(rt, base, values, &Saving { kind, other })
 }
 
 // The call that a vector holds is told by its first byte.
@@ -137,5 +137,5 @@ impl Program for Vectors {
 }
 
 fn main(rt: HostRuntime) -> io::Result<()> {
-    vector::each::<Vectors, HostRuntime>(&rt)
+    vector::each_by::<Vectors, HostRuntime>(&rt)
 }

@@ -83,14 +83,30 @@ pub fn read<R: Env + Files + Print>(rt: &R, argument: usize, space: &mut [u8]) -
     Ok(read_full(&mut file, space))
 }
 
-// A program that runs vectors. By a trait, and by no closure: of a closure a caller would have to show that it may be called.
+// Answers each vector that the arguments name: a line for each.
+pub fn each<R: Env + Files + Print, F: FnMut(&[u8]) -> io::Result<()>>(
+    rt: &R,
+    mut answer: F,
+) -> io::Result<()>
+    requires { F.IsAlwaysCallable answer }
+{
+    for argument in 1..arguments(rt) {
+        let mut space = lend::lent(0);
+        let n = read(rt, argument, &mut space)?;
+        answer(&space[..n])?;
+        say(rt, b"\n")?;
+    }
+    Ok(())
+}
+
+// A program that runs vectors. By a trait, and by no closure: of a closure a caller has to show that it may be called.
 pub trait Program {
     // The call that a vector holds, and what the line says of it.
     fn answer(rt: &impl Print, vector: &[u8]) -> io::Result<()>;
 }
 
-// Answers each vector that the arguments name: a line for each.
-pub fn each<P: Program, R: Env + Files + Print>(rt: &R) -> io::Result<()> {
+// The same, by a program.
+pub fn each_by<P: Program, R: Env + Files + Print>(rt: &R) -> io::Result<()> {
     for argument in 1..arguments(rt) {
         let mut space = lend::lent(0);
         let n = read(rt, argument, &mut space)?;
@@ -98,4 +114,24 @@ pub fn each<P: Program, R: Env + Files + Print>(rt: &R) -> io::Result<()> {
         say(rt, b"\n")?;
     }
     Ok(())
+}
+
+#[cfg(test)]
+mod tests {
+    use super::*;
+
+    // A closure may count, which a program cannot; and its error comes out. A test is run with an argument, which names no file.
+    #[test]
+    fn each_argument_by_a_closure(rt: HostRuntime) -> io::Result<()> {
+        let mut vectors: usize = 0;
+        each(&rt, |_vector| {
+            vectors = vectors.wrapping_add(1);
+            Ok(())
+        })?;
+        assert_ne!(rt; vectors, 0);
+        assert_eq!(rt; vectors.wrapping_add(1), arguments(&rt));
+        let broken = each(&rt, |_vector| Err(io::Error::from(io::ErrorKind::Other)));
+        assert!(rt; broken.is_err());
+        Ok(())
+    }
 }

@@ -111,17 +111,64 @@ pub fn line(rt: &impl Print, tally: Tally) -> io::Result<()> {
     with_sum(rt, b" check ", tally.sum)
 }
 
+// Each turn of a sweep, whose step is told the turn's bytes and the tally so far; and its line.
+pub fn sweep<F: FnMut(&[u8], Tally) -> Tally>(
+    rt: &impl Print,
+    base: &[u8],
+    values: &[u8],
+    mut step: F,
+) -> io::Result<()>
+    requires { F.IsAlwaysCallable step }
+{
+    let mut tally = Tally::NONE;
+    for turn in 0..turns(base.len()) {
+        let bytes = turn_bytes(base, values, turn);
+        tally = step(&bytes[..turn_length(base.len(), turn)], tally);
+    }
+    line(rt, tally)
+}
+
 // What a sweep tries at each turn: it is told the turn's bytes and the tally so far.
 pub trait Step {
     fn tried(&self, bytes: &[u8], before: Tally) -> Tally;
 }
 
-// Each turn of a sweep, and its line.
-pub fn sweep(rt: &impl Print, base: &[u8], values: &[u8], step: &impl Step) -> io::Result<()> {
+// The same, by a step that asks nothing of its caller.
+pub fn sweep_by(rt: &impl Print, base: &[u8], values: &[u8], step: &impl Step) -> io::Result<()> {
     let mut tally = Tally::NONE;
     for turn in 0..turns(base.len()) {
         let bytes = turn_bytes(base, values, turn);
         tally = step.tried(&bytes[..turn_length(base.len(), turn)], tally);
     }
     line(rt, tally)
+}
+
+#[cfg(test)]
+mod tests {
+    use super::*;
+
+    // Three places of 32 turns each: the bytes cut there, each value there, and the bytes as they are for the 29 turns without a value.
+    #[test]
+    fn each_turn_by_a_closure(rt: HostRuntime) -> io::Result<()> {
+        let mut turns: u64 = 0;
+        let mut bytes_told: usize = 0;
+        let mut with_first_value: usize = 0;
+        let mut out_of_turn: usize = 0;
+        sweep(&rt, b"abc", b"xy", |bytes, before| {
+            if before.inputs != turns {
+                out_of_turn = out_of_turn.wrapping_add(1);
+            }
+            if bytes.contains(&b'x') {
+                with_first_value = with_first_value.wrapping_add(1);
+            }
+            turns = turns.wrapping_add(1);
+            bytes_told = bytes_told.wrapping_add(bytes.len());
+            answered(before, 0)
+        })?;
+        assert_eq!(rt; turns, 96);
+        assert_eq!(rt; bytes_told, 282);
+        assert_eq!(rt; with_first_value, 3);
+        assert_eq!(rt; out_of_turn, 0);
+        Ok(())
+    }
 }

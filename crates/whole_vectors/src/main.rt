@@ -288,5 +288,5 @@ impl Program for Vectors {
 }
 
 fn main(rt: HostRuntime) -> io::Result<()> {
-    vector::each::<Vectors, HostRuntime>(&rt)
+    vector::each_by::<Vectors, HostRuntime>(&rt)
 }
