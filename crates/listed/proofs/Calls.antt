@@ -2,13 +2,12 @@
 -- refusal that it was lent hands on one of document 01's where it was lent one.
 -- Assumes nothing.
 use Prim.Native.Nat.{ℕ, zero, suc, ◌≤◌}
-use native.Mathlib.Omega.{arith}
 use mathlib.Core.Path.{◌≡◌, refl}
 use mathlib.Core.Bool.{Bool, true, false}
 use mathlib.Core.List.{List, []}
 use lib.Dec.{ltb}
 use lib.ListN.{length}
-use Rattle.std.specs.Prelude.{ℤ, ◌+◌, cond, drop, Option, Some, None, Result, Ok, Err, ⊤}
+use Rattle.std.specs.Prelude.{ℤ, ◌+◌, cond, map, drop, Option, Some, None, Result, Ok, Err, ⊤}
 use Rattle.std.specs.Int.{w64}
 use Rattle.std.proofs.Common.{of_z}
 use Rattle.parts.specs.declared.Fault.{Fault}
@@ -22,7 +21,7 @@ use Rattle.layout.specs.Cursor.{stands_at, first_tag, next_tag}
 use Rattle.layout.specs.Cursor as at_tag
 use Rattle.layout.specs.Recorder.{State, Step, no_room, begin_place, begin_lines, add_lines, close_lines, answer, begin, add, close}
 use Rattle.layout.specs.Repair.{Repair, repair_refusal, repair_answer, repair}
-use Rattle.layout.specs.Saving.{new_table, look_place, look_refusal, look_answer, look, commit_place, commit_refusal, commit_answer, commit}
+use Rattle.layout.specs.Saving.{user_tags, changes_of, conflicts, new_table, look_place, look_refusal, look_answer, look, commit_place, commit_refusal, commit_answer, commit}
 use Rattle.layout.specs.OldSheets.{converted, old_sheet_place, convert_refusal, convert_answer, convert}
 use Rattle.refusal.specs.declared.Refusal.{Refusal}
 use Rattle.refusal.specs.declared.Refusal.TheVariants.{NoRoom, TableFull}
@@ -44,95 +43,92 @@ use Rattle.recorder.specs.Recorded.{state_of, answered, taken_of, made_of, made_
 use Rattle.repair.specs.Repaired.{answer_of, repair_of}
 use Rattle.repair.specs.Repaired as repairing
 use Rattle.apply.specs.Applied.{applying, applied_to}
+use Rattle.sheet.specs.Sheet.{sheet_up_to, sheet_of}
 use Rattle.saving.specs.Answers.{asked_by, asked_of, looked, look_of, committed_as, commit_of}
 use Rattle.converting.specs.Answers.{converted_as, convert_of}
 use Rattle.browser.specs.Browsing.{browsed_as}
 use Rattle.cursor.specs.declared.Cursor.{Cursor}
 use Rattle.cursor.specs.Cursors.{cursor_as, next_as}
 use Rattle.listed.specs.Listed.{is_listed, OnlyListed}
-use Rattle.listed.proofs.Listed.{placed-listed, given-listed, same-listed, none-listed, handed-listed, refused-listed}
+use Rattle.listed.proofs.Listed.{lists, only-listed, numbered-listed, refused-listed, may_be, there-listed, handed-listed}
 use Rattle.listed.proofs.Numbers.{Bare, opening-bare, look-bare, commit-bare, convert-bare, begin-bare, none-bare, front-within, opening-within, item-within, frame-within, repair-within, look-within, commit-within, convert-within, begin-within, add-within, close-within, list-within, system-within, piece-within, frame-call-within}
 
 -- ── Opening and reading ──
 
-pub front-listed : (f : List ℕ) (r : Refusal) → front_of f ≡ Err r → is_listed r ≡ true
+-- what is refused by opening's lines, those behind them among them
+opened-listed : {A : Type 0} (f : List ℕ) (n : ℕ) → n ≤ 17 → (x : A) → OnlyListed (unless n (opening_place n f) x)
+opened-listed f n h x = refused-listed (λ m. opening_place m f) (opening-bare f) n h x
+
+pub front-listed : (f : List ℕ) → OnlyListed (front_of f)
 unfolding front_of
-front-listed f r e = refused-listed (λ n. opening_place n f) (opening-bare f) (first_of (front_lines f)) (front-within f) (front_held f) r e
+front-listed f = opened-listed f (first_of (front_lines f)) (front-within f) (front_held f)
 
 pub front-refusal-listed : (a : Result FrontHeld Refusal) → OnlyListed a → (r : Refusal) → front_refusal a ≡ Some r → is_listed r ≡ true
-front-refusal-listed (Ok h) l r e = none-listed r e
-front-refusal-listed (Err q) l r e = handed-listed q r e (l q refl)
+front-refusal-listed = handed-listed front_refusal (λ h. refl) (λ q. refl)
 
-pub open-listed : (f : List ℕ) (r : Refusal) → open_of f ≡ Err r → is_listed r ≡ true
+pub open-listed : (f : List ℕ) → OnlyListed (open_of f)
 unfolding open_of
-open-listed f r e = refused-listed (λ n. opening_place n f) (opening-bare f) (refusal f) (opening-within f) (held_of f) r e
+open-listed f = opened-listed f (refusal f) (opening-within f) (held_of f)
 
 pub open-refusal-listed : (a : Result Held Refusal) → OnlyListed a → (r : Refusal) → open_refusal a ≡ Some r → is_listed r ≡ true
-open-refusal-listed (Ok h) l r e = none-listed r e
-open-refusal-listed (Err q) l r e = handed-listed q r e (l q refl)
+open-refusal-listed = handed-listed open_refusal (λ h. refl) (λ q. refl)
 
-pub part-listed : (f : List ℕ) (it : Item) (r : Refusal) → find_of f it ≡ Err r → is_listed r ≡ true
+pub part-listed : (f : List ℕ) (it : Item) → OnlyListed (find_of f it)
 unfolding find_of
-part-listed f it r e =
-    refused-listed (λ n. opening_place n f) (opening-bare f) (item_refusal f (item_of it)) (item-within f it) (found_as (item_part f (item_of it))) r e
+part-listed f it = opened-listed f (item_refusal f (item_of it)) (item-within f it) (found_as (item_part f (item_of it)))
 
 pub refusal-listed : (f : List ℕ) (it : Item) (r : Refusal) → refusal_in f (item_of it) ≡ Some r → is_listed r ≡ true
 unfolding refused
-refusal-listed f it r = go (item_refusal f (item_of it)) (item-within f it)
-  where
-    go : (n : ℕ) → n ≤ 17 → refused n (opening_place n f) ≡ Some r → is_listed r ≡ true
-    go zero h e = none-listed r e
-    go (suc k) h e = handed-listed _ r e (placed-listed (λ n. opening_place n f) (opening-bare f) (suc k) (omega arith) h)
+refusal-listed f it =
+    there-listed (refusal_in f (item_of it))
+    (numbered-listed (λ m. opening_place m f) (opening-bare f) (λ m. may_be (refused m (opening_place m f))) refl (λ k. refl) (item_refusal f (item_of it))
+    (item-within f it))
 
-pub frame-listed : (f : List ℕ) (i : ℕ) (r : Refusal) → frame_read_of f i ≡ Err r → is_listed r ≡ true
+pub frame-listed : (f : List ℕ) (i : ℕ) → OnlyListed (frame_read_of f i)
 unfolding frame_read_of
-frame-listed f i r e = refused-listed (λ n. opening_place n f) (opening-bare f) (frame_refusal f i) (frame-within f i) (read_as (frame_shown f i)) r e
+frame-listed f i = opened-listed f (frame_refusal f i) (frame-within f i) (read_as (frame_shown f i))
 
 -- over an opening that went ahead, which a caller may have made up
-no-such-listed : {A : Type 0} (found : Option A) (r : Refusal) → or_no_such found ≡ Err r → is_listed r ≡ true
-no-such-listed None r e = same-listed _ r e refl
-no-such-listed (Some x) r e = given-listed x r e
+no-such-listed : {A : Type 0} (found : Option A) → OnlyListed (or_no_such found)
+no-such-listed None = only-listed _ refl
+no-such-listed (Some x) = only-listed _ refl
 
-pub held-part-listed : (f : List ℕ) (h : Held) (it : Item) (r : Refusal) → held_found f h it ≡ Err r → is_listed r ≡ true
+pub held-part-listed : (f : List ℕ) (h : Held) (it : Item) → OnlyListed (held_found f h it)
 unfolding held_found
-held-part-listed f h it r e = no-such-listed (held_item f h it) r e
+held-part-listed f h it = no-such-listed (held_item f h it)
 
-pub held-frame-listed : (f : List ℕ) (h : Held) (i : ℕ) (r : Refusal) → held_frame f h i ≡ Err r → is_listed r ≡ true
+pub held-frame-listed : (f : List ℕ) (h : Held) (i : ℕ) → OnlyListed (held_frame f h i)
 unfolding held_frame
-held-frame-listed f h i r e = no-such-listed _ r e
+held-frame-listed f h i = no-such-listed _
 
 -- ── Recording ──
 
-pub list-listed : (setup : List ℕ) (r : Refusal) → list_refused setup ≡ Err r → is_listed r ≡ true
+pub list-listed : (setup : List ℕ) → OnlyListed (list_refused setup)
 unfolding list_refused
-list-listed setup r e = refused-listed (λ n. begin_place n setup []) (begin-bare setup []) (list_refusal setup) (list-within setup) tt r e
+list-listed setup = refused-listed (λ n. begin_place n setup []) (begin-bare setup []) (list_refusal setup) (list-within setup) tt
 
-pub system-listed : (system : List ℕ) (r : Refusal) → system_refused system ≡ Err r → is_listed r ≡ true
+pub system-listed : (system : List ℕ) → OnlyListed (system_refused system)
 unfolding system_refused
-system-listed system r e = refused-listed (λ n. begin_place n [] system) (begin-bare [] system) (system_refusal system) (system-within system) tt r e
+system-listed system = refused-listed (λ n. begin_place n [] system) (begin-bare [] system) (system_refusal system) (system-within system) tt
 
-pub piece-listed : (setup system : List ℕ) (notes : ℕ) (out : List ℕ) (r : Refusal) → (first_piece_of setup system notes out).answer ≡ Err r → is_listed r ≡ true
+pub piece-listed : (setup system : List ℕ) (notes : ℕ) (out : List ℕ) → OnlyListed (first_piece_of setup system notes out).answer
 unfolding first_piece_of piece_by
-piece-listed setup system notes out r = go (piece_refusal setup system notes (length out)) (piece-within setup system notes (length out))
-  where
-    go : (n : ℕ) → n ≤ 17 → (piece_by n setup system out).answer ≡ Err r → is_listed r ≡ true
-    go zero h e = given-listed _ r e
-    go (suc k) h e = same-listed _ r e (placed-listed (λ n. begin_place n setup system) (begin-bare setup system) (suc k) (omega arith) h)
+piece-listed setup system notes out =
+    numbered-listed (λ n. begin_place n setup system) (begin-bare setup system) (λ n. (piece_by n setup system out).answer) refl (λ k. refl)
+    (piece_refusal setup system notes (length out)) (piece-within setup system notes (length out))
 
 pub piece-refusal-listed : (a : Result FirstPiece Refusal) → OnlyListed a → (r : Refusal) → refusal_of a ≡ Some r → is_listed r ≡ true
 unfolding refusal_of
-piece-refusal-listed (Ok p) l r e = none-listed r e
-piece-refusal-listed (Err q) l r e = handed-listed q r e (l q refl)
+piece-refusal-listed = handed-listed refusal_of (λ p. refl) (λ q. refl)
 
-pub add-refusal-listed : (n : Numbers) (time : ℕ) (sections : List ℕ) (notes room : ℕ) (r : Refusal)
-    → ◌≡◌ {A = Result ⊤ Refusal} (unless (add_refusal (state_in n) time sections notes room) 0 tt) (Err r) → is_listed r ≡ true
-add-refusal-listed n time sections notes room r e =
-    refused-listed (λ n. 0) none-bare (add_refusal (state_in n) time sections notes room) (frame-call-within (state_in n) time sections notes room) tt r e
+pub add-refusal-listed : (n : Numbers) (time : ℕ) (sections : List ℕ) (notes room : ℕ)
+    → OnlyListed {A = ⊤} (unless (add_refusal (state_in n) time sections notes room) 0 tt)
+add-refusal-listed n time sections notes room =
+    refused-listed (λ m. 0) none-bare (add_refusal (state_in n) time sections notes room) (frame-call-within (state_in n) time sections notes room) tt
 
-pub close-refusal-listed : (n : Numbers) (notes : List ℕ) (room : ℕ) (r : Refusal)
-    → ◌≡◌ {A = Result ⊤ Refusal} (unless (first_of (close_lines (state_in n) notes room)) 0 tt) (Err r) → is_listed r ≡ true
-close-refusal-listed n notes room r e =
-    refused-listed (λ n. 0) none-bare (first_of (close_lines (state_in n) notes room)) (close-within (state_in n) notes room) tt r e
+pub close-refusal-listed : (n : Numbers) (notes : List ℕ) (room : ℕ) → OnlyListed {A = ⊤} (unless (first_of (close_lines (state_in n) notes room)) 0 tt)
+close-refusal-listed n notes room =
+    refused-listed (λ m. 0) none-bare (first_of (close_lines (state_in n) notes room)) (close-within (state_in n) notes room) tt
 
 -- a step of the recorder's, whose own number is 0
 pub step-refused : (n : ℕ) (st : State) (notes : List ℕ) (step : Step) → step.refused ≡ 0 → (answer n st notes step).refused ≡ n
@@ -140,41 +136,32 @@ unfolding answer
 step-refused zero st notes step e = e
 step-refused (suc k) st notes step e = refl
 
-answered-listed : (p : ℕ → ℕ) → Bare p → (n : ℕ) → n ≤ 17 → (self : Recorder) (step : Step) (r : Refusal)
-    → (answered n (p n) self step).piece ≡ Err r → is_listed r ≡ true
+answered-listed : (p : ℕ → ℕ) → Bare p → (n : ℕ) → n ≤ 17 → (self : Recorder) (step : Step) → OnlyListed (answered n (p n) self step).piece
 unfolding answered
-answered-listed p b zero h self step r e = given-listed _ r e
-answered-listed p b (suc k) h self step r e = same-listed _ r e (placed-listed p b (suc k) (omega arith) h)
+answered-listed p b n h self step = numbered-listed p b (λ m. (answered m (p m) self step).piece) refl (λ k. refl) n h
 
-pub begin-listed : (self : Recorder) (setup system notes out : List ℕ) (r : Refusal)
-    → (begin_of self setup system notes out).taken.piece ≡ Err r → is_listed r ≡ true
-unfolding begin_of made_begun made_of taken_of begin
-begin-listed self setup system notes out r =
-    go (first_of (begin_lines (state_of self) setup system notes (length out))) (begin-within (state_of self) setup system notes (length out)) _ refl
-  where
-    go : (n : ℕ) → n ≤ 17 → (step : Step) → step.refused ≡ 0
-        → (taken_of (begin_place (answer n (state_of self) notes step).refused setup system) self (answer n (state_of self) notes step)).piece ≡ Err r
-        → is_listed r ≡ true
-    go n h step e = rw (step-refused n (state_of self) notes step e)
-        (answered-listed (λ n. begin_place n setup system) (begin-bare setup system) n h self _ r)
-
-step-listed : (self : Recorder) (notes : List ℕ) (n : ℕ) → n ≤ 17 → (step : Step) → step.refused ≡ 0 → (r : Refusal)
-    → (taken_of 0 self (answer n (state_of self) notes step)).piece ≡ Err r → is_listed r ≡ true
+step-listed : (p : ℕ → ℕ) → Bare p → (self : Recorder) (notes : List ℕ) (n : ℕ) → n ≤ 17 → (step : Step) → step.refused ≡ 0
+    → OnlyListed (taken_of (p (answer n (state_of self) notes step).refused) self (answer n (state_of self) notes step)).piece
 unfolding taken_of
-step-listed self notes n h step e r =
-    rw (step-refused n (state_of self) notes step e) (answered-listed (λ n. 0) none-bare n h self _ r)
+step-listed p b self notes n h step e = rw (step-refused n (state_of self) notes step e) (answered-listed p b n h self _)
 
-pub add-listed : (self : Recorder) (time : ℤ) (exposure : ℕ) (sections notes out : List ℕ) (r : Refusal)
-    → (add_of self time exposure sections notes out).taken.piece ≡ Err r → is_listed r ≡ true
+pub begin-listed : (self : Recorder) (setup system notes out : List ℕ) → OnlyListed (begin_of self setup system notes out).taken.piece
+unfolding begin_of made_begun made_of begin
+begin-listed self setup system notes out =
+    step-listed (λ n. begin_place n setup system) (begin-bare setup system) self notes
+    (first_of (begin_lines (state_of self) setup system notes (length out))) (begin-within (state_of self) setup system notes (length out)) _ refl
+
+pub add-listed : (self : Recorder) (time : ℤ) (exposure : ℕ) (sections notes out : List ℕ)
+    → OnlyListed (add_of self time exposure sections notes out).taken.piece
 unfolding add_of made_of add
 add-listed self time exposure sections notes out =
-    step-listed self notes (first_of (add_lines (state_of self) (of_z w64 time) exposure sections notes (length out)))
+    step-listed (λ n. 0) none-bare self notes (first_of (add_lines (state_of self) (of_z w64 time) exposure sections notes (length out)))
     (add-within (state_of self) (of_z w64 time) exposure sections notes (length out)) _ refl
 
-pub close-listed : (self : Recorder) (notes out : List ℕ) (r : Refusal) → (close_of self notes out).taken.piece ≡ Err r → is_listed r ≡ true
+pub close-listed : (self : Recorder) (notes out : List ℕ) → OnlyListed (close_of self notes out).taken.piece
 unfolding close_of made_of close
 close-listed self notes out =
-    step-listed self notes (first_of (close_lines (state_of self) notes (length out))) (close-within (state_of self) notes (length out)) _ refl
+    step-listed (λ n. 0) none-bare self notes (first_of (close_lines (state_of self) notes (length out))) (close-within (state_of self) notes (length out)) _ refl
 
 -- ── Repair ──
 
@@ -183,115 +170,101 @@ unfolding repair_answer
 repair-refused zero r e = e
 repair-refused (suc k) r e = refl
 
-pub repair-listed : (f out : List ℕ) (r : Refusal) → (repair_of f out).answer ≡ Err r → is_listed r ≡ true
+pub repair-listed : (f out : List ℕ) → OnlyListed (repair_of f out).answer
 unfolding repair_of repairing.made_of answer_of repair
-repair-listed f out r = go (repair_refusal f (length out)) (repair-within f (length out)) _ refl
+repair-listed f out = go (repair_refusal f (length out)) (repair-within f (length out)) _ refl
   where
-    go : (n : ℕ) → n ≤ 17 → (q : Repair) → q.refused ≡ 0 → answer_of (repair_answer n q).refused (opening_place n f) (repair_answer n q) ≡ Err r → is_listed r ≡ true
-    go n h q e = rw (repair-refused n q e) (refused-listed (λ n. opening_place n f) (opening-bare f) n h _ r)
+    go : (n : ℕ) → n ≤ 17 → (q : Repair) → q.refused ≡ 0 → OnlyListed (answer_of (repair_answer n q).refused (opening_place n f) (repair_answer n q))
+    go n h q e = rw (repair-refused n q e) (opened-listed f n h _)
 
 -- ── Tags ──
 
-pub asked-listed : (most : ℕ) (f sheet : List ℕ) (r : Refusal) → asked_of most f sheet ≡ Err r → is_listed r ≡ true
+pub asked-listed : (most : ℕ) (f sheet : List ℕ) → OnlyListed (asked_of most f sheet)
 unfolding asked_of asked_by
-asked-listed most f sheet r = go (refusal f) (opening-within f) _
+asked-listed most f sheet = go (sheet_of (exactly (sheet_up_to most) sheet))
   where
-    go : (n : ℕ) → n ≤ 17 → (s : Result ℕ Fault) → asked_by n f s ≡ Err r → is_listed r ≡ true
-    go zero h (Ok k) e = given-listed _ r e
-    go zero h (Err p) e = same-listed _ r e refl
-    go (suc k) h s e = same-listed _ r e (placed-listed (λ n. opening_place n f) (opening-bare f) (suc k) (omega arith) h)
+    opens : (s : Result ℕ Fault) → lists (asked_by 0 f s) ≡ true
+    opens (Ok k) = refl
+    opens (Err p) = refl
 
-pub look-listed : (f s : List ℕ) (r : Refusal) → look_of f s ≡ Err r → is_listed r ≡ true
-unfolding look_of look look_answer look_place opening_place
-look-listed f s r = go (look_refusal f s) (look-within f s) _
-  where
-    go : (n : ℕ) → n ≤ 17 → (bs : List Bool)
-        → unless (look_answer n (look_place n f s) bs).refused (look_answer n (look_place n f s) bs).place (looked (look_answer n (look_place n f s) bs)) ≡ Err r
-        → is_listed r ≡ true
-    go zero h bs e = refused-listed (λ n. look_place n f s) (look-bare f s) zero h (looked (look_answer zero (look_place zero f s) bs)) r e
-    go (suc k) h bs e = refused-listed (λ n. look_place n f s) (look-bare f s) (suc k) h (looked (look_answer (suc k) (look_place (suc k) f s) bs)) r e
+    go : (s : Result ℕ Fault) → OnlyListed (asked_by (refusal f) f s)
+    go s = numbered-listed (λ n. opening_place n f) (opening-bare f) (λ n. asked_by n f s) (opens s) (λ k. refl) (refusal f) (opening-within f)
 
-pub applied-listed : (ts : List Tag) (out : List ℕ) (r : Refusal) → (applied_to ts out).answer ≡ Err r → is_listed r ≡ true
+pub look-listed : (f s : List ℕ) → OnlyListed (look_of f s)
+unfolding look_of look look_answer unless
+look-listed f s =
+    numbered-listed (λ n. look_place n f s) (look-bare f s)
+    (λ n. let a = look_answer n (look_place n f s) (map (conflicts (user_tags f)) (changes_of s)) in unless a.refused a.place (looked a)) refl (λ k. refl) (look_refusal f s) (look-within f s)
+
+pub applied-listed : (ts : List Tag) (out : List ℕ) → OnlyListed (applied_to ts out).answer
 unfolding applied_to
-applied-listed ts out r = go (ltb most_tags (length ts)) (no_room (length out) (length (table_bytes ts))) _ _
+applied-listed ts out = go (ltb most_tags (length ts)) (no_room (length out) (length (table_bytes ts))) _ _
   where
     go : (full short : Bool) (n : ℕ) (after : List ℕ)
-        → (cond full (applying (Err TableFull) out) (cond short (applying (Err NoRoom) out) (applying (Ok n) after))).answer ≡ Err r → is_listed r ≡ true
-    go true short n after e = same-listed _ r e refl
-    go false true n after e = same-listed _ r e refl
-    go false false n after e = given-listed _ r e
+        → OnlyListed (cond full (applying (Err TableFull) out) (cond short (applying (Err NoRoom) out) (applying (Ok n) after))).answer
+    go true short n after = only-listed _ refl
+    go false true n after = only-listed _ refl
+    go false false n after = only-listed _ refl
 
-pub commit-listed : (f s out : List ℕ) (r : Refusal) → (commit_of f s out).answer ≡ Err r → is_listed r ≡ true
-unfolding commit_of committed_as commit commit_answer commit_place look_place opening_place
-commit-listed f s out r = go (commit_refusal f s (length out)) (commit-within f s (length out)) (new_table f s)
-  where
-    go : (n : ℕ) → n ≤ 17 → (ts : List Tag)
-        → unless (commit_answer n (commit_place n f s) ts).refused (commit_answer n (commit_place n f s) ts).place (length (commit_answer n (commit_place n f s) ts).table) ≡ Err r
-        → is_listed r ≡ true
-    go zero h ts e = refused-listed (λ n. commit_place n f s) (commit-bare f s) zero h (length (commit_answer zero (commit_place zero f s) ts).table) r e
-    go (suc k) h ts e = refused-listed (λ n. commit_place n f s) (commit-bare f s) (suc k) h (length (commit_answer (suc k) (commit_place (suc k) f s) ts).table) r e
+pub commit-listed : (f s out : List ℕ) → OnlyListed (commit_of f s out).answer
+unfolding commit_of committed_as commit commit_answer unless
+commit-listed f s out =
+    numbered-listed (λ n. commit_place n f s) (commit-bare f s)
+    (λ n. let a = commit_answer n (commit_place n f s) (new_table f s) in unless a.refused a.place (length a.table)) refl (λ k. refl)
+    (commit_refusal f s (length out)) (commit-within f s (length out))
 
-pub convert-listed : (f s out : List ℕ) (r : Refusal) → (convert_of f s out).answer ≡ Err r → is_listed r ≡ true
-unfolding convert_of converted_as convert convert_answer old_sheet_place opening_place
-convert-listed f s out r = go (convert_refusal f s (length out)) (convert-within f s (length out)) (converted f s)
-  where
-    go : (n : ℕ) → n ≤ 17 → (bytes : List ℕ)
-        → unless (convert_answer n (old_sheet_place n f s) bytes).refused (convert_answer n (old_sheet_place n f s) bytes).place (length (convert_answer n (old_sheet_place n f s) bytes).sheet) ≡ Err r
-        → is_listed r ≡ true
-    go zero h bytes e = refused-listed (λ n. old_sheet_place n f s) (convert-bare f s) zero h (length (convert_answer zero (old_sheet_place zero f s) bytes).sheet) r e
-    go (suc k) h bytes e = refused-listed (λ n. old_sheet_place n f s) (convert-bare f s) (suc k) h (length (convert_answer (suc k) (old_sheet_place (suc k) f s) bytes).sheet) r e
+pub convert-listed : (f s out : List ℕ) → OnlyListed (convert_of f s out).answer
+unfolding convert_of converted_as convert convert_answer unless
+convert-listed f s out =
+    numbered-listed (λ n. old_sheet_place n f s) (convert-bare f s)
+    (λ n. let a = convert_answer n (old_sheet_place n f s) (converted f s) in unless a.refused a.place (length a.sheet)) refl (λ k. refl)
+    (convert_refusal f s (length out)) (convert-within f s (length out))
 
-pub browsed-listed : (bytes : List ℕ) (next : ℕ) (r : Refusal) → browsed_as (browse bytes next) ≡ Err r → is_listed r ≡ true
-unfolding browsed_as browse tag_at
-browsed-listed bytes next r = go (exactly table bytes)
+-- the tag with a number, or the end; or 7
+tag-listed : (bytes : List ℕ) (number : List Tag → ℕ)
+    → OnlyListed (browsed_as (elim (exactly table bytes) [ bad m ↦ browsed.refused 7 m | good ts n ↦ cond (ltb (number ts) (length ts)) (tag_at ts (number ts)) browsed.end ]))
+unfolding browsed_as tag_at
+tag-listed bytes number = go (exactly table bytes)
   where
-    there : (b : Bool) (ts : List Tag) → browsed_as (cond b (tag_at ts next) browsed.end) ≡ Err r → is_listed r ≡ true
-    there true ts e = given-listed _ r e
-    there false ts e = given-listed _ r e
+    there : (b : Bool) (ts : List Tag) → OnlyListed (browsed_as (cond b (tag_at ts (number ts)) browsed.end))
+    there true ts = only-listed _ refl
+    there false ts = only-listed _ refl
 
     go : (p : Parsed (List Tag))
-        → browsed_as (elim p [ bad m ↦ browsed.refused 7 m | good ts n ↦ cond (ltb next (length ts)) (tag_at ts next) browsed.end ]) ≡ Err r → is_listed r ≡ true
-    go (bad m) e = same-listed _ r e refl
-    go (good ts n) e = there (ltb next (length ts)) ts e
+        → OnlyListed (browsed_as (elim p [ bad m ↦ browsed.refused 7 m | good ts n ↦ cond (ltb (number ts) (length ts)) (tag_at ts (number ts)) browsed.end ]))
+    go (bad m) = only-listed _ refl
+    go (good ts n) = there (ltb (number ts) (length ts)) ts
 
-pub named-listed : (bytes name : List ℕ) (r : Refusal) → browsed_as (tag_named bytes name) ≡ Err r → is_listed r ≡ true
-unfolding browsed_as tag_named tag_at
-named-listed bytes name r = go (exactly table bytes)
-  where
-    there : (b : Bool) (ts : List Tag) → browsed_as (cond b (tag_at ts (number_of_tag name ts)) browsed.end) ≡ Err r → is_listed r ≡ true
-    there true ts e = given-listed _ r e
-    there false ts e = given-listed _ r e
+pub browsed-listed : (bytes : List ℕ) (next : ℕ) → OnlyListed (browsed_as (browse bytes next))
+unfolding browse
+browsed-listed bytes next = tag-listed bytes (λ ts. next)
 
-    go : (p : Parsed (List Tag))
-        → browsed_as (elim p [ bad m ↦ browsed.refused 7 m | good ts n ↦ cond (ltb (number_of_tag name ts) (length ts)) (tag_at ts (number_of_tag name ts)) browsed.end ]) ≡ Err r
-        → is_listed r ≡ true
-    go (bad m) e = same-listed _ r e refl
-    go (good ts n) e = there (ltb (number_of_tag name ts) (length ts)) ts e
+pub named-listed : (bytes name : List ℕ) → OnlyListed (browsed_as (tag_named bytes name))
+unfolding tag_named
+named-listed bytes name = tag-listed bytes (number_of_tag name)
 
 -- a cursor that stands somewhere is not refused
-stands-listed : (bytes : List ℕ) (place count : ℕ) (r : Refusal) → cursor_as (stands_at bytes place count) ≡ Err r → is_listed r ≡ true
+stands-listed : (bytes : List ℕ) (place count : ℕ) → OnlyListed (cursor_as (stands_at bytes place count))
 unfolding cursor_as stands_at
-stands-listed bytes place zero r = given-listed _ r
-stands-listed bytes place (suc left) r = go (tag (drop place bytes))
+stands-listed bytes place zero = only-listed _ refl
+stands-listed bytes place (suc left) = go (tag (drop place bytes))
   where
     go : (p : Parsed Tag)
-        → cursor_as (elim p [ bad m ↦ at_tag.end | good t n ↦ at_tag.at (record { start = place + 1; len = length t.name }) (record { start = place + 1 + length t.name + 1; len = length t.value }) left ]) ≡ Err r
-        → is_listed r ≡ true
-    go (bad m) e = given-listed _ r e
-    go (good t n) e = given-listed _ r e
+        → OnlyListed (cursor_as (elim p [ bad m ↦ at_tag.end | good t n ↦ at_tag.at (record { start = place + 1; len = length t.name }) (record { start = place + 1 + length t.name + 1; len = length t.value }) left ]))
+    go (bad m) = only-listed _ refl
+    go (good t n) = only-listed _ refl
 
-pub first-tag-listed : (bytes : List ℕ) (r : Refusal) → cursor_as (first_tag bytes) ≡ Err r → is_listed r ≡ true
+pub first-tag-listed : (bytes : List ℕ) → OnlyListed (cursor_as (first_tag bytes))
 unfolding first_tag cursor_as
-first-tag-listed bytes r = go (exactly table bytes)
+first-tag-listed bytes = go (exactly table bytes)
   where
-    go : (p : Parsed (List Tag)) → cursor_as (elim p [ bad m ↦ at_tag.refused 7 m | good ts n ↦ stands_at bytes 4 (length ts) ]) ≡ Err r → is_listed r ≡ true
-    go (bad m) e = same-listed _ r e refl
-    go (good ts n) e = stands-listed bytes 4 (length ts) r e
+    go : (p : Parsed (List Tag)) → OnlyListed (cursor_as (elim p [ bad m ↦ at_tag.refused 7 m | good ts n ↦ stands_at bytes 4 (length ts) ]))
+    go (bad m) = only-listed _ refl
+    go (good ts n) = stands-listed bytes 4 (length ts)
 
--- a cursor that is refused is handed on: with one of document 01's, it is with that one
-pub next-tag-listed : (bytes : List ℕ) (cursor : Result (Option Cursor) Refusal) → OnlyListed cursor
-    → (r : Refusal) → next_as bytes cursor ≡ Err r → is_listed r ≡ true
+-- a cursor that is refused is handed on
+pub next-tag-listed : (bytes : List ℕ) (cursor : Result (Option Cursor) Refusal) → OnlyListed cursor → OnlyListed (next_as bytes cursor)
 unfolding next_as next_tag
-next-tag-listed bytes (Ok (Some c)) h r e = stands-listed bytes (c.tag.value + c.tag.value_length) c.left r e
-next-tag-listed bytes (Ok None) h r e = given-listed _ r e
-next-tag-listed bytes (Err q) h r e = h r e
+next-tag-listed bytes (Ok (Some c)) l = stands-listed bytes (c.tag.value + c.tag.value_length) c.left
+next-tag-listed bytes (Ok None) l = only-listed _ refl
+next-tag-listed bytes (Err q) l = l

@@ -105,15 +105,9 @@ pub trait Program {
     fn answer(rt: &impl Print, vector: &[u8]) -> io::Result<()>;
 }
 
-// The same, by a program.
+// The same, by a program, which a caller need show nothing of.
 pub fn each_by<P: Program, R: Env + Files + Print>(rt: &R) -> io::Result<()> {
-    for argument in 1..arguments(rt) {
-        let mut space = lend::lent(0);
-        let n = read(rt, argument, &mut space)?;
-        P::answer(rt, &space[..n])?;
-        say(rt, b"\n")?;
-    }
-    Ok(())
+    each(rt, |vector| P::answer(rt, vector))
 }
 
 #[cfg(test)]

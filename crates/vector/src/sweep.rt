@@ -133,14 +133,9 @@ pub trait Step {
     fn tried(&self, bytes: &[u8], before: Tally) -> Tally;
 }
 
-// The same, by a step that asks nothing of its caller.
+// The same, by a step, which a caller need show nothing of.
 pub fn sweep_by(rt: &impl Print, base: &[u8], values: &[u8], step: &impl Step) -> io::Result<()> {
-    let mut tally = Tally::NONE;
-    for turn in 0..turns(base.len()) {
-        let bytes = turn_bytes(base, values, turn);
-        tally = step.tried(&bytes[..turn_length(base.len(), turn)], tally);
-    }
-    line(rt, tally)
+    sweep(rt, base, values, |bytes, before| step.tried(bytes, before))
 }
 
 #[cfg(test)]
